@@ -4,18 +4,18 @@
 //! carried. So the transcript is the same whichever allocation fails, with one exception: if an end that is fed runs
 //! out of memory, the end is over, and so is the script.
 
-use crate::asked::{asks, ends_asked, event_in, unreadable};
+use crate::asked::{asks, ends_asked, event_in};
 use crate::calls;
-use crate::octets::{push, push_behind, push_made, push_name, push_number, push_phase, push_where};
+use crate::octets::{push_phase, push_where};
+use crate::output::Output;
 use osi_carrier::{EndReason, Ref};
-use osi_class::Local;
 use osi_pair::{Entry, Event, Pair, PairError};
-use osi_script::{Line, Side, push_indication};
+use osi_script::{Line, Side};
 use osi_session::{CallError, Phase};
 use osi_stack::{ConnectError, Stack};
 use osi_transcript::asking::named;
-use std::alloc::{AllocError, Global};
-use std::io;
+use std::alloc::Global;
+use std::io::ErrorKind;
 
 /// One more than the largest reference that is looked at.
 const ALL: u16 = 65;
@@ -24,7 +24,7 @@ const ALL: u16 = 65;
 #[derive(Drop)]
 pub(crate) struct Replay {
     /// Its transcript.
-    pub(crate) lines: Vec<u8>,
+    pub(crate) lines: Output,
     /// How many events ran out of memory.
     pub(crate) refused: u32,
     /// How many carries stopped early.
@@ -36,251 +36,194 @@ pub(crate) struct Replay {
 }
 
 /// Runs a script, all lines of which can be read and fit.
-pub(crate) fn replayed(alloc: Global, script: &str) -> io::Result<Replay> {
-    let (left, right) = ends_asked(alloc, script)?;
-    replay_between(alloc, left, right, script)
-}
-
-fn replay_between(alloc: Global, left: Local, right: Local, script: &str) -> io::Result<Replay> {
-    replay_over(alloc, &mut calls::two_ends(alloc, left, right), script)
-}
-
-fn replay_over(alloc: Global, pair: &mut Pair, script: &str) -> io::Result<Replay> {
+pub(crate) fn replayed(alloc: Global, script: &str) -> Replay {
     let mut replay = Replay {
-        lines: Vec::new(alloc),
+        lines: Output::new(alloc),
         refused: 0,
         stopped: 0,
         is_over: false,
         is_good: true,
     };
-    play_all(alloc, &mut replay, pair, script)?;
-    Ok(replay)
+    play_script(&mut replay, script);
+    replay
 }
 
-fn play_all(alloc: Global, replay: &mut Replay, pair: &mut Pair, script: &str) -> io::Result<()> {
-    play_each(alloc, replay, pair, script)?;
-    push_all_standings(alloc, &mut replay.lines, pair)?;
-    Ok(())
+fn play_script(replay: &mut Replay, script: &str) {
+    if let Some((left, right)) = ends_asked(&mut replay.lines, script) {
+        let alloc = replay.lines.alloc();
+        play_all(replay, &mut calls::two_ends(alloc, left, right), script);
+    }
 }
 
-fn play_each(alloc: Global, replay: &mut Replay, pair: &mut Pair, script: &str) -> io::Result<()> {
+fn play_all(replay: &mut Replay, pair: &mut Pair, script: &str) {
+    play_each(replay, pair, script);
+    push_standings(&mut replay.lines, pair, osi_pair::Side::Left);
+    push_standings(&mut replay.lines, pair, osi_pair::Side::Right);
+}
+
+fn play_each(replay: &mut Replay, pair: &mut Pair, script: &str) {
     for line in script.lines() {
         if asks(line) && !replay.is_over {
-            play(alloc, replay, pair, line)?;
+            play(replay, pair, line);
         }
     }
-    Ok(())
 }
 
-fn play(alloc: Global, replay: &mut Replay, pair: &mut Pair, asked: &str) -> io::Result<()> {
-    let line = Line::read(alloc, asked.as_bytes())?;
-    play_line(alloc, replay, pair, asked, &line)
-}
-
-fn play_line<'a>(
-    alloc: Global,
-    replay: &mut Replay,
-    pair: &mut Pair,
-    asked: &str,
-    line: &'a Line<'a>,
-) -> io::Result<()> {
-    match event_in(line) {
-        Some(event) => play_event(alloc, replay, pair, asked, &event),
-        None => Err(unreadable()),
+fn play(replay: &mut Replay, pair: &mut Pair, asked: &str) {
+    match Line::read(replay.lines.alloc(), asked.as_bytes()) {
+        Ok(line) => play_line(replay, pair, asked, event_in(&line)),
+        Err(_) => replay.lines.fail(ErrorKind::OutOfMemory),
     }
 }
 
-fn play_event(
-    alloc: Global,
-    replay: &mut Replay,
-    pair: &mut Pair,
-    asked: &str,
-    event: &Event,
-) -> io::Result<()> {
+fn play_line(replay: &mut Replay, pair: &mut Pair, asked: &str, event: Option<Event>) {
+    match event {
+        Some(event) => play_event(replay, pair, asked, &event),
+        None => replay.lines.fail(ErrorKind::InvalidData),
+    }
+}
+
+fn play_event(replay: &mut Replay, pair: &mut Pair, asked: &str, event: &Event) {
     let before = calls::journal(pair).len();
-    let carried = apply_whole(alloc, replay, pair, event)?;
-    push_said(alloc, &mut replay.lines, event, carried)?;
-    push_since(alloc, &mut replay.lines, asked, pair, before)?;
-    note_end(replay, calls::stack_of(pair, osi_pair::Side::Left));
-    note_end(replay, calls::stack_of(pair, osi_pair::Side::Right));
-    Ok(())
+    let carried = apply_whole(replay, pair, event);
+    push_said(&mut replay.lines, event, carried);
+    push_since(&mut replay.lines, asked, pair, before);
+    note_end(replay, pair, osi_pair::Side::Left);
+    note_end(replay, pair, osi_pair::Side::Right);
 }
 
 /// Adds the lines of the new entries of a journal, each with the verb of the line that asked for it.
-fn push_since(
-    alloc: Global,
-    out: &mut Vec<u8>,
-    asked: &str,
-    pair: &Pair,
-    first: usize,
-) -> Result<(), AllocError> {
+fn push_since(out: &mut Output, asked: &str, pair: &Pair, first: usize) {
     let added = calls::journal(pair).get(first..).unwrap_or_default();
-    push_entries(alloc, out, asked, added)
+    push_entries(out, asked, added);
 }
 
 /// Adds the lines of entries, each with the verb of the line that asked for it.
-pub(crate) fn push_entries(
-    alloc: Global,
-    out: &mut Vec<u8>,
-    asked: &str,
-    entries: &[Entry],
-) -> Result<(), AllocError> {
+pub(crate) fn push_entries(out: &mut Output, asked: &str, entries: &[Entry]) {
     for entry in entries {
-        push_entry(alloc, out, asked, entry)?;
+        push_entry(out, asked, entry);
     }
-    Ok(())
 }
 
 /// Applies an event, and carries the rest if a carry stopped early.
-fn apply_whole(
-    alloc: Global,
-    replay: &mut Replay,
-    pair: &mut Pair,
-    event: &Event,
-) -> io::Result<usize> {
-    let carried = apply(alloc, replay, pair, event)?;
-    let Event::Carry(side, most) = *event else {
-        return Ok(carried);
-    };
-    let rest = Event::Carry(side, most.saturating_sub(carried));
-    let more = apply(alloc, replay, pair, &rest)?;
+fn apply_whole(replay: &mut Replay, pair: &mut Pair, event: &Event) -> usize {
+    let carried = apply(replay, pair, event);
+    match *event {
+        Event::Carry(side, most) => {
+            let rest = Event::Carry(side, most.saturating_sub(carried));
+            carried.saturating_add(carry_rest(replay, pair, &rest))
+        }
+        _ => carried,
+    }
+}
+
+/// Carries what a carry has left, and returns how many octets that were.
+fn carry_rest(replay: &mut Replay, pair: &mut Pair, rest: &Event) -> usize {
+    let more = apply(replay, pair, rest);
     if more > 0 {
         replay.stopped = replay.stopped.wrapping_add(1);
     }
-    Ok(carried.saturating_add(more))
+    more
 }
 
 /// Applies an event, and applies it again if it runs out of memory.
-fn apply(alloc: Global, replay: &mut Replay, pair: &mut Pair, event: &Event) -> io::Result<usize> {
-    let before = state_of(alloc, pair)?;
-    apply_from(alloc, replay, pair, event, before.as_slice())
+fn apply(replay: &mut Replay, pair: &mut Pair, event: &Event) -> usize {
+    let before = state_of(&mut replay.lines, pair);
+    apply_from(replay, pair, event, before.octets())
 }
 
 /// Applies an event to two ends in this state.
-fn apply_from(
-    alloc: Global,
-    replay: &mut Replay,
-    pair: &mut Pair,
-    event: &Event,
-    before: &[u8],
-) -> io::Result<usize> {
+fn apply_from(replay: &mut Replay, pair: &mut Pair, event: &Event, before: &[u8]) -> usize {
     match calls::apply(pair, event) {
-        Ok(carried) => Ok(carried),
-        Err(PairError::OutOfMemory) => apply_again(alloc, replay, pair, event, before),
-        Err(_) => Err(unreadable()),
+        Ok(carried) => carried,
+        Err(PairError::OutOfMemory) => apply_again(replay, pair, event, before),
+        Err(_) => not_applied(replay),
     }
 }
 
 /// Applies an event again that ran out of memory, after testing that nothing has changed.
-fn apply_again(
-    alloc: Global,
-    replay: &mut Replay,
-    pair: &mut Pair,
-    event: &Event,
-    before: &[u8],
-) -> io::Result<usize> {
+fn apply_again(replay: &mut Replay, pair: &mut Pair, event: &Event, before: &[u8]) -> usize {
     replay.refused = replay.refused.wrapping_add(1);
-    if !is_in(alloc, pair, before)? {
-        replay.is_good = false;
-    }
+    replay.is_good &= is_in(&mut replay.lines, pair, before);
     match calls::apply(pair, event) {
-        Ok(carried) => Ok(carried),
-        Err(_) => Err(unreadable()),
+        Ok(carried) => carried,
+        Err(_) => not_applied(replay),
     }
 }
 
-/// Whether two ends are in this state.
-fn is_in(alloc: Global, pair: &Pair, state: &[u8]) -> Result<bool, AllocError> {
-    let now = state_of(alloc, pair)?;
-    Ok(now.as_slice() == state)
+/// The script fails: an event does not fit, or ran out of memory twice. Nothing is carried.
+fn not_applied(replay: &mut Replay) -> usize {
+    replay.lines.fail(ErrorKind::InvalidData);
+    0
 }
 
-/// The state of two ends as octets: everything that can be asked of them, and of the journal its length and its last
-/// entry.
-pub(crate) fn state_of(alloc: Global, pair: &Pair) -> Result<Vec<u8>, AllocError> {
-    let mut out = Vec::with_capacity(alloc, 10_000)?;
-    push_state(alloc, &mut out, pair)?;
-    Ok(out)
+/// Whether two ends are in this state. If memory does not suffice to say so, what is written fails.
+fn is_in(out: &mut Output, pair: &Pair, state: &[u8]) -> bool {
+    let now = state_of(out, pair);
+    now.octets() == state
 }
 
-fn push_state(alloc: Global, out: &mut Vec<u8>, pair: &Pair) -> Result<(), AllocError> {
-    let left = calls::stack_of(pair, osi_pair::Side::Left);
-    let right = calls::stack_of(pair, osi_pair::Side::Right);
-    push_side(alloc, out, Side::Left, left)?;
-    push_side(alloc, out, Side::Right, right)?;
-    push_journal(alloc, out, calls::journal(pair))
+/// The state of two ends as octets. If memory does not suffice for it, what is written fails.
+fn state_of(out: &mut Output, pair: &Pair) -> Output {
+    let mut state = Output::new(out.alloc());
+    state.reserve(10_000);
+    push_state(&mut state, pair);
+    out.fail_as(&state);
+    state
 }
 
-fn push_side(
-    alloc: Global,
-    out: &mut Vec<u8>,
-    side: Side,
-    stack: &Stack,
-) -> Result<(), AllocError> {
-    push_where(alloc, out, side, stack, ALL)?;
-    out.extend_from_slice(stack.outgoing())
+/// Adds everything that can be asked of two ends, and of the journal its length and its last entry.
+pub(crate) fn push_state(out: &mut Output, pair: &Pair) {
+    push_side(out, pair, osi_pair::Side::Left);
+    push_side(out, pair, osi_pair::Side::Right);
+    push_journal(out, calls::journal(pair));
+}
+
+fn push_side(out: &mut Output, pair: &Pair, side: osi_pair::Side) {
+    let stack = calls::stack_of(pair, side);
+    push_where(out, named(side), stack, ALL);
+    out.add(stack.outgoing());
 }
 
 /// Adds the number of entries and the last one.
-fn push_journal(alloc: Global, out: &mut Vec<u8>, journal: &[Entry]) -> Result<(), AllocError> {
-    push_number(alloc, out, "entries", journal.len())?;
-    push_last(alloc, out, journal)
-}
-
-fn push_last(alloc: Global, out: &mut Vec<u8>, journal: &[Entry]) -> Result<(), AllocError> {
-    match journal.last() {
-        Some(entry) => push_entry(alloc, out, "", entry),
-        None => Ok(()),
+fn push_journal(out: &mut Output, journal: &[Entry]) {
+    out.push_number("entries", journal.len());
+    if let Some(entry) = journal.last() {
+        push_entry(out, "", entry);
     }
 }
 
 /// Adds the answer to an event, if the journal does not have it.
-fn push_said(
-    alloc: Global,
-    out: &mut Vec<u8>,
-    event: &Event,
-    carried: usize,
-) -> Result<(), AllocError> {
+fn push_said(out: &mut Output, event: &Event, carried: usize) {
     match *event {
-        Event::Connect(_) | Event::Call(_, _, _) => Ok(()),
-        Event::Carry(osi_pair::Side::Left, _) => push_number(alloc, out, "left carried", carried),
-        Event::Carry(osi_pair::Side::Right, _) => push_number(alloc, out, "right carried", carried),
-        Event::Break(_, _) => push(out, "broken"),
-        Event::Told(osi_pair::Side::Left) => push(out, "left told"),
-        Event::Told(osi_pair::Side::Right) => push(out, "right told"),
+        Event::Connect(_) | Event::Call(_, _, _) => {}
+        Event::Carry(side, _) => push_carried(out, named(side), carried),
+        Event::Break(_, _) => out.push("broken"),
+        Event::Told(side) => out.push_behind(named(side).name(), "told"),
     }
 }
 
+fn push_carried(out: &mut Output, side: Side, carried: usize) {
+    out.say(side.name());
+    out.push_number(" carried", carried);
+}
+
 /// Adds the line of an entry, with the verb of the line that asked for it.
-fn push_entry(
-    alloc: Global,
-    out: &mut Vec<u8>,
-    asked: &str,
-    entry: &Entry,
-) -> Result<(), AllocError> {
+fn push_entry(out: &mut Output, asked: &str, entry: &Entry) {
     match entry {
-        Entry::Connect { answer, .. } => push_connect(alloc, out, *answer),
+        Entry::Connect { answer, .. } => push_connect(out, *answer),
         Entry::Call {
             side,
             reference,
             answer,
             ..
-        } => {
-            push_call(
-                alloc,
-                out,
-                named(*side),
-                *reference,
-                verb_of(asked),
-                *answer,
-            )
-        }
+        } => push_call(out, named(*side), *reference, verb_of(asked), *answer),
         Entry::Indication {
             side,
             reference,
             indication,
-        } => push_indication(alloc, out, named(*side), reference.0, indication),
-        Entry::End { .. } => Ok(()),
+        } => out.push_indication(named(*side), reference.0, indication),
+        Entry::End { .. } => {}
     }
 }
 
@@ -289,68 +232,50 @@ fn verb_of(asked: &str) -> &str {
     asked.split(' ').nth(2).unwrap_or("")
 }
 
+/// Adds a request and its answer.
 fn push_call(
-    alloc: Global,
-    out: &mut Vec<u8>,
+    out: &mut Output,
     side: Side,
     reference: Ref,
     verb: &str,
     answer: Result<(), CallError>,
-) -> Result<(), AllocError> {
-    let (name, reference) = (side.name(), reference.0);
-    let asked = format!(in alloc; "{name} {reference} {verb}")?;
-    push_answer(alloc, out, asked.as_str(), answer)
+) {
+    out.say(side.name());
+    out.say(" ");
+    out.show(&reference.0);
+    out.say(" ");
+    out.say(verb);
+    push_answer(out, answer);
 }
 
-/// Adds a request and its answer.
-fn push_answer(
-    alloc: Global,
-    out: &mut Vec<u8>,
-    asked: &str,
-    answer: Result<(), CallError>,
-) -> Result<(), AllocError> {
+fn push_answer(out: &mut Output, answer: Result<(), CallError>) {
     match answer {
-        Ok(()) => push_behind(out, asked, "ok"),
-        Err(error) => push_made(out, format!(in alloc; "{asked} refused {error:?}")?),
+        Ok(()) => out.push(" ok"),
+        Err(error) => out.push_name(" refused", &error),
     }
 }
 
-fn push_connect(
-    alloc: Global,
-    out: &mut Vec<u8>,
-    answer: Result<Ref, ConnectError>,
-) -> Result<(), AllocError> {
+fn push_connect(out: &mut Output, answer: Result<Ref, ConnectError>) {
     match answer {
-        Ok(Ref(reference)) => push_number(alloc, out, "left connect ok", usize::from(reference)),
-        Err(ConnectError::Open(error)) => push_name(alloc, out, "left connect refused", &error),
-        Err(error) => push_name(alloc, out, "left connect refused", &error),
+        Ok(Ref(reference)) => out.push_number("left connect ok", usize::from(reference)),
+        Err(ConnectError::Open(error)) => out.push_name("left connect refused", &error),
+        Err(error) => out.push_name("left connect refused", &error),
     }
 }
 
-/// Adds the state of each connection of both sides that has not ended.
-fn push_all_standings(alloc: Global, out: &mut Vec<u8>, pair: &Pair) -> Result<(), AllocError> {
-    let left = calls::stack_of(pair, osi_pair::Side::Left);
-    let right = calls::stack_of(pair, osi_pair::Side::Right);
-    push_standings(alloc, out, Side::Left, left)?;
-    push_standings(alloc, out, Side::Right, right)
-}
-
-fn push_standings(
-    alloc: Global,
-    out: &mut Vec<u8>,
-    side: Side,
-    stack: &Stack,
-) -> Result<(), AllocError> {
+/// Adds the state of each connection of a side that has not ended.
+fn push_standings(out: &mut Output, pair: &Pair, side: osi_pair::Side) {
+    let stack = calls::stack_of(pair, side);
     for reference in 1..ALL {
         if !matches!(stack.phase(Ref(reference)), Some(Phase::Ended)) {
-            push_phase(alloc, out, side, stack, Ref(reference))?;
+            push_phase(out, named(side), stack, Ref(reference));
         }
     }
-    Ok(())
 }
 
 /// Notes whether an end is over because memory ran out. Such an end holds no token.
-fn note_end(replay: &mut Replay, stack: &Stack) {
+fn note_end(replay: &mut Replay, pair: &Pair, side: osi_pair::Side) {
+    let stack = calls::stack_of(pair, side);
     if matches!(stack.ended(), Some(EndReason::NoMemory)) {
         replay.is_over = true;
         replay.is_good &= holds_nothing(stack);

@@ -6,16 +6,17 @@
 //! with the packets that come before.
 
 use crate::calls;
+use crate::output::Output;
 use bitflags::Flags;
 use osi_carrier::{EndReason, Ref};
 use osi_class::Local;
-use osi_listing::list;
 use osi_session::Phase;
 use osi_spdu::{Requirements, Serial, TokenSetting, TsduSizes, Wish};
 use osi_stack::{Connect, Stack};
 use osi_tpdu::{SizeCode, Window};
-use std::alloc::{AllocError, Global};
-use std::io;
+use osi_tpkt::Fed;
+use std::alloc::Global;
+use std::io::ErrorKind;
 
 /// The most octets that an end keeps of an unfinished packet.
 const OF_A_PACKET: usize = 65_535;
@@ -46,11 +47,12 @@ const PASTS: [Past; 4] = [
 /// The classes of an end: whether it has class 0, and class 2.
 const CLASSES: [(bool, bool); 3] = [(true, false), (false, true), (true, true)];
 
-/// How many runs there were, and how many behaved as they should.
-#[derive(Clone, Copy)]
+/// How many runs there were, how many behaved as they should, and the listing of the current damaged packet.
+#[derive(Drop)]
 struct Tally {
     runs: u64,
     good: u64,
+    listing: Output,
 }
 
 impl Tally {
@@ -59,6 +61,19 @@ impl Tally {
         if is_good {
             self.good = self.good.wrapping_add(1);
         }
+    }
+
+    /// Lists a damaged packet.
+    fn list(&mut self, octets: &[u8]) {
+        self.listing.clear();
+        self.listing.list(octets);
+        let is_good = (self.listing.status == 1) == self.lists("fault ");
+        self.add(is_good);
+    }
+
+    /// Whether the listing has this word.
+    fn lists(&self, word: &str) -> bool {
+        self.listing.text().contains(word)
     }
 }
 
@@ -71,27 +86,45 @@ struct Case<'a> {
 }
 
 /// Damages each packet of a capture, and reports how many runs there were.
-pub(crate) fn runs_of(alloc: Global, capture: &[u8]) -> io::Result<String> {
-    let mut tally = Tally { runs: 0, good: 0 };
-    let mut at = 0;
-    for _ in 0..capture.len() {
-        let Some(packet) = packet_at(capture, at) else {
-            break;
-        };
-        let before = capture.get(..at).unwrap_or_default();
-        cut(alloc, &mut tally, before, packet)?;
-        set(alloc, &mut tally, before, packet)?;
-        at = at.saturating_add(packet.len());
+pub(crate) fn judge_damage(report: &mut Output, capture: &[u8]) {
+    let mut tally = Tally {
+        runs: 0,
+        good: 0,
+        listing: Output::new(report.alloc()),
+    };
+    if damage_each(&mut tally, capture) != capture.len() {
+        report.fail(ErrorKind::InvalidData);
     }
-    if at != capture.len() {
-        return Err(io::Error::from(io::ErrorKind::InvalidData));
-    }
-    said_of(alloc, tally)
+    report.fail_as(&tally.listing);
+    say_tally(report, tally.runs, tally.good);
 }
 
-fn said_of(alloc: Global, tally: Tally) -> io::Result<String> {
-    let Tally { runs, good } = tally;
-    Ok(format!(in alloc; "{runs} runs, {good} as they should be")?)
+fn say_tally(report: &mut Output, runs: u64, good: u64) {
+    let said = format!(in report.alloc(); "{runs} runs, {good} as they should be");
+    report.say_made(said);
+}
+
+/// Damages each packet of a capture, and returns where the last one ends.
+fn damage_each(tally: &mut Tally, capture: &[u8]) -> usize {
+    let mut at: usize = 0;
+    for _ in 0..capture.len() {
+        at = at.saturating_add(damage_at(tally, capture, at));
+    }
+    at
+}
+
+/// Damages the packet that begins at this octet, and returns its length; 0 if there is none.
+fn damage_at(tally: &mut Tally, capture: &[u8], at: usize) -> usize {
+    match packet_at(capture, at) {
+        Some(packet) => damage(tally, capture.get(..at).unwrap_or_default(), packet),
+        None => 0,
+    }
+}
+
+fn damage(tally: &mut Tally, before: &[u8], packet: &[u8]) -> usize {
+    cut(tally, before, packet);
+    set(tally, before, packet);
+    packet.len()
 }
 
 /// The packet that begins at this octet, if there is one.
@@ -112,82 +145,62 @@ fn length_of(packet: &[u8]) -> Option<usize> {
 }
 
 /// Cuts a packet to each length; the last run has the whole packet.
-fn cut(alloc: Global, tally: &mut Tally, before: &[u8], packet: &[u8]) -> Result<(), AllocError> {
+fn cut(tally: &mut Tally, before: &[u8], packet: &[u8]) {
     for length in 0..packet.len() {
-        run(alloc, tally, before, &packet[..length])?;
+        run(tally, before, &packet[..length]);
     }
-    run(alloc, tally, before, packet)
+    run(tally, before, packet);
 }
 
 /// Sets each octet of a packet, one after the other.
-fn set(alloc: Global, tally: &mut Tally, before: &[u8], packet: &[u8]) -> Result<(), AllocError> {
+fn set(tally: &mut Tally, before: &[u8], packet: &[u8]) {
     for at in 0..packet.len() {
-        set_at(alloc, tally, before, packet, at)?;
+        set_at(tally, before, packet, at);
     }
-    Ok(())
 }
 
 /// Sets an octet of a packet to each value.
-fn set_at(
-    alloc: Global,
-    tally: &mut Tally,
-    before: &[u8],
-    packet: &[u8],
-    at: usize,
-) -> Result<(), AllocError> {
-    let mut octets = Vec::from_slice(alloc, packet)?;
-    set_each(alloc, tally, before, octets.as_mut_slice(), at)
+fn set_at(tally: &mut Tally, before: &[u8], packet: &[u8], at: usize) {
+    match Vec::from_slice(tally.listing.alloc(), packet) {
+        Ok(mut octets) => set_each(tally, before, octets.as_mut_slice(), at),
+        Err(_) => tally.listing.fail(ErrorKind::OutOfMemory),
+    }
 }
 
-fn set_each(
-    alloc: Global,
-    tally: &mut Tally,
-    before: &[u8],
-    packet: &mut [u8],
-    at: usize,
-) -> Result<(), AllocError> {
+fn set_each(tally: &mut Tally, before: &[u8], packet: &mut [u8], at: usize) {
     for value in 0..=u8::MAX {
         if let Some(octet) = packet.get_mut(at) {
             *octet = value;
         }
-        run(alloc, tally, before, packet)?;
+        run(tally, before, packet);
     }
-    Ok(())
 }
 
 /// Lists a damaged packet, and feeds it to ends with each past.
-fn run(alloc: Global, tally: &mut Tally, before: &[u8], octets: &[u8]) -> Result<(), AllocError> {
-    let mut lines = Vec::new(alloc);
-    let status = list(alloc, &mut lines, octets)?;
-    let has_fault = has(lines.as_slice(), "fault ");
-    tally.add((status == 1) == has_fault);
-    let case = Case {
-        before,
-        octets,
-        is_no_packet: !has(lines.as_slice(), "rest "),
-    };
-    run_case(alloc, tally, case);
-    Ok(())
+fn run<'a>(tally: &mut Tally, before: &'a [u8], octets: &'a [u8]) {
+    tally.list(octets);
+    let is_no_packet = !tally.lists("rest ");
+    run_case(
+        tally,
+        Case {
+            before,
+            octets,
+            is_no_packet,
+        },
+    );
 }
 
-fn run_case(alloc: Global, tally: &mut Tally, case: Case) {
+fn run_case(tally: &mut Tally, case: Case) {
     for past in PASTS {
-        run_with(alloc, tally, case, past);
+        run_with(tally, case, past);
     }
 }
 
 /// Feeds it to ends with each class.
-fn run_with(alloc: Global, tally: &mut Tally, case: Case, past: Past) {
+fn run_with(tally: &mut Tally, case: Case, past: Past) {
     for classes in CLASSES {
-        tally.add(ends_of_classes_behave(alloc, case, past, classes));
-    }
-}
-
-/// Whether a listing has this word.
-fn has(lines: &[u8], word: &str) -> bool {
-    match str::from_utf8(lines) {
-        Ok(lines) => lines.contains(word),
-        Err(_) => false,
+        let is_good = ends_of_classes_behave(tally.listing.alloc(), case, past, classes);
+        tally.add(is_good);
     }
 }
 
@@ -235,9 +248,11 @@ fn is_as_far(one: &Stack, other: &Stack) -> bool {
 
 /// Feeds an end with this past, in pieces of at most this many octets; false if it does not behave as it should.
 fn behaves(stack: &mut Stack, case: Case, past: Past, piece: usize) -> bool {
-    if !begins(stack, case, past) || feed(stack, case.octets, piece).is_none() {
-        return false;
-    }
+    begins(stack, case, past) && feed(stack, case.octets, piece) && ends_well(stack, case)
+}
+
+/// Whether an end that was fed a damaged packet is over if it should be, and behaves as such an end.
+fn ends_well(stack: &mut Stack, case: Case) -> bool {
     match stack.ended() {
         Some(_) => is_still(stack, case.octets),
         None => !case.is_no_packet,
@@ -248,8 +263,8 @@ fn behaves(stack: &mut Stack, case: Case, past: Past, piece: usize) -> bool {
 fn begins(stack: &mut Stack, case: Case, past: Past) -> bool {
     match past {
         Past::OfCaller | Past::OfCalled => true,
-        Past::OfAsking => asks(stack) && feed(stack, case.before, usize::MAX).is_some(),
-        Past::OfAnswering => feed(stack, case.before, usize::MAX).is_some(),
+        Past::OfAsking => asks(stack) && feed(stack, case.before, usize::MAX),
+        Past::OfAnswering => feed(stack, case.before, usize::MAX),
     }
 }
 
@@ -306,35 +321,52 @@ fn connect_from(serial: Serial) -> Connect<'static> {
     }
 }
 
-/// Feeds octets, and fetches the indications; none if something is not as it should be.
-fn feed(stack: &mut Stack, octets: &[u8], piece: usize) -> Option<()> {
+/// Feeds octets, and fetches the indications; false if something is not as it should be.
+fn feed(stack: &mut Stack, octets: &[u8], piece: usize) -> bool {
     let mut rest = octets;
     for _ in 0..octets.len() {
-        if rest.is_empty() {
+        let used = feed_piece(stack, rest.get(..piece).unwrap_or(rest));
+        if used == 0 {
             break;
         }
-        let used = feed_piece(stack, rest.get(..piece).unwrap_or(rest))?;
-        rest = rest.get(used..)?;
+        rest = rest.get(used..).unwrap_or_default();
     }
-    if rest.is_empty() { Some(()) } else { None }
+    rest.is_empty()
 }
 
-/// Feeds a piece that is not empty. Some of it has to be used, and all of it unless an indication is pending; an end
-/// that is over, or that ends by a fault, uses all.
-fn feed_piece(stack: &mut Stack, piece: &[u8]) -> Option<usize> {
-    let is_over = stack.ended().is_some();
+/// Feeds a piece, and returns how many octets were used; 0 if it is empty or something is not as it should be.
+fn feed_piece(stack: &mut Stack, piece: &[u8]) -> usize {
+    if piece.is_empty() {
+        0
+    } else {
+        feed_octets(stack, piece)
+    }
+}
+
+fn feed_octets(stack: &mut Stack, piece: &[u8]) -> usize {
+    let was_over = stack.ended().is_some();
     let fed = calls::feed(stack, piece);
+    if uses_enough(stack, was_over, fed, piece.len()) && is_in_order(stack, fed.whole) {
+        fed.used
+    } else {
+        0
+    }
+}
+
+/// Some of a piece has to be used, and all of it unless an indication is pending; an end that is over, or that ends by a
+/// fault, uses all.
+fn uses_enough(stack: &Stack, was_over: bool, fed: Fed, length: usize) -> bool {
     let is_spoilt = matches!(stack.ended(), Some(EndReason::Fault(_)));
-    if fed.used == 0 || fed.used > piece.len() {
-        return None;
+    if fed.used < length {
+        fed.used > 0 && fed.whole && !was_over && !is_spoilt
+    } else {
+        fed.used == length
     }
-    if fed.used < piece.len() && (is_over || is_spoilt || !fed.whole) {
-        return None;
-    }
-    if fed.whole != shows(stack) || !fetch(stack) || !is_within_bounds(stack) {
-        return None;
-    }
-    Some(fed.used)
+}
+
+/// Whether an indication is pending just if the end says so, and all is well when all are fetched.
+fn is_in_order(stack: &mut Stack, is_pending: bool) -> bool {
+    is_pending == shows(stack) && fetch(stack) && is_within_bounds(stack)
 }
 
 /// Fetches the next indication; false if none is pending.

@@ -4,73 +4,81 @@
 //! them; after it comes what is printed.
 
 use crate::calls;
-use crate::octets::push;
+use crate::output::Output;
 use osi_listing::CaptureFault;
-use osi_verdict::Judgement;
-use std::alloc::{AllocError, Global};
-use std::io;
+use std::alloc::Global;
+use std::io::ErrorKind;
 
 /// The lines of a file, as they are written again.
 #[derive(Drop)]
 struct Rows {
-    came: Vec<u8>,
+    came: Output,
     /// The lines of the current capture.
-    capture: Vec<u8>,
+    capture: Output,
     /// The capture was judged: the lines that follow are the expected result.
     is_judged: bool,
 }
 
 impl Rows {
-    fn begin(&mut self, name: &str) -> Result<(), AllocError> {
+    fn begin(&mut self, name: &str) {
         self.capture.clear();
         self.is_judged = false;
-        push(&mut self.came, name)
+        self.came.push(name);
     }
 
-    fn keep(&mut self, line: &str) -> Result<(), AllocError> {
-        push(&mut self.capture, line)?;
-        push(&mut self.came, line)
+    fn keep(&mut self, line: &str) {
+        self.capture.push(line);
+        self.came.push(line);
     }
 
-    fn judge(&mut self, alloc: Global) -> io::Result<()> {
+    fn judge(&mut self) {
         self.is_judged = true;
-        match calls::judge(alloc, &self.capture) {
-            Ok(judgement) => Ok(self.tell(alloc, &judgement)?),
-            Err(CaptureFault::BadHex) => Ok(push(&mut self.came, "-- BadHex")?),
-            Err(CaptureFault::OutOfMemory) => Err(io::Error::from(io::ErrorKind::OutOfMemory)),
+        self.came.fail_as(&self.capture);
+        match calls::judge(self.came.alloc(), self.capture.octets()) {
+            Ok(judgement) => tell(&mut self.came, judgement.status, judgement.lines.as_slice()),
+            Err(fault) => tell_fault(&mut self.came, fault),
         }
-    }
-
-    fn tell(&mut self, alloc: Global, judgement: &Judgement) -> Result<(), AllocError> {
-        let status = judgement.status;
-        let line = format!(in alloc; "-- status {status}")?;
-        push(&mut self.came, line.as_str())?;
-        self.came.extend_from_slice(judgement.lines.as_slice())
     }
 }
 
-fn take_line(alloc: Global, rows: &mut Rows, line: &str) -> io::Result<()> {
+fn tell(out: &mut Output, status: u8, lines: &[u8]) {
+    out.push_number("-- status", usize::from(status));
+    out.add(lines);
+}
+
+fn tell_fault(out: &mut Output, fault: CaptureFault) {
+    match fault {
+        CaptureFault::BadHex => out.push("-- BadHex"),
+        CaptureFault::OutOfMemory => out.fail(ErrorKind::OutOfMemory),
+    }
+}
+
+fn take_line(rows: &mut Rows, line: &str) {
     if line.starts_with("== ") {
-        return Ok(rows.begin(line)?);
+        rows.begin(line);
+    } else if !rows.is_judged {
+        take_more(rows, line);
     }
-    if rows.is_judged {
-        return Ok(());
-    }
+}
+
+/// Takes a line of a capture, or the line after its last.
+fn take_more(rows: &mut Rows, line: &str) {
     if line.starts_with("-- ") {
-        return rows.judge(alloc);
+        rows.judge();
+    } else {
+        rows.keep(line);
     }
-    Ok(rows.keep(line)?)
 }
 
 /// The lines of a file, with what is found of each capture.
-pub(crate) fn disputed(alloc: Global, text: &str) -> io::Result<Vec<u8>> {
+pub(crate) fn disputed(alloc: Global, text: &str) -> Output {
     let mut rows = Rows {
-        came: Vec::new(alloc),
-        capture: Vec::new(alloc),
+        came: Output::new(alloc),
+        capture: Output::new(alloc),
         is_judged: false,
     };
     for line in text.lines() {
-        take_line(alloc, &mut rows, line)?;
+        take_line(&mut rows, line);
     }
-    Ok(rows.came)
+    rows.came
 }

@@ -5,9 +5,8 @@
 //! passes before what it sends.
 
 use crate::blame::{Blame, judge, mark};
-use crate::octets::push_behind;
-use std::alloc::{AllocError, Global};
-use std::io;
+use crate::output::Output;
+use std::alloc::Global;
 
 /// How the lines of an end begin.
 #[derive(Clone, Copy)]
@@ -44,55 +43,49 @@ struct Piece<'a> {
 }
 
 /// Judges what passed at the ends of a file of octets, whose lines have their results.
-pub(crate) fn judge_ends(alloc: Global, blame: &mut Blame, text: &str) -> io::Result<()> {
+pub(crate) fn judge_ends(alloc: Global, blame: &mut Blame, text: &str) {
     for end in ENDS {
-        judge_end(alloc, blame, end, text)?;
+        judge_end(alloc, blame, end, text);
     }
-    Ok(())
 }
 
-fn judge_end(alloc: Global, blame: &mut Blame, end: End, text: &str) -> io::Result<()> {
+fn judge_end(alloc: Global, blame: &mut Blame, end: End, text: &str) {
     let mut pieces = Vec::new(alloc);
     for line in text.lines() {
-        if line.starts_with("> ends ") {
-            judge_pieces(alloc, blame, end, pieces.as_slice())?;
-            pieces.clear();
-        }
-        if let Some(piece) = piece_in(end, line) {
-            pieces.push(piece)?;
-        }
+        take_line(blame, end, &mut pieces, line);
     }
-    judge_pieces(alloc, blame, end, pieces.as_slice())
+    judge_pieces(blame, end, pieces.as_slice());
+}
+
+/// Keeps the octets of a line; a line that asks for two ends ends the capture of those before.
+fn take_line<'a>(blame: &mut Blame, end: End, pieces: &mut Vec<Piece<'a>>, line: &'a str) {
+    if line.starts_with("> ends ") {
+        judge_pieces(blame, end, pieces.as_slice());
+        pieces.clear();
+    }
+    if let Some(piece) = piece_in(end, line) {
+        blame.found.note(pieces.push(piece).is_ok());
+    }
 }
 
 fn piece_in<'a>(end: End, line: &'a str) -> Option<Piece<'a>> {
-    if let Some(digits) = line.strip_prefix(end.feed) {
-        return Some(Piece {
+    match line.strip_prefix(end.feed) {
+        Some(digits) => Some(Piece {
             is_fed: true,
             digits,
-        });
+        }),
+        None => Some(Piece {
+            is_fed: false,
+            digits: line.strip_prefix(end.sends)?,
+        }),
     }
-    let digits = line.strip_prefix(end.sends)?;
-    Some(Piece {
-        is_fed: false,
-        digits,
-    })
 }
 
 /// Judges what passed between two ends, if it begins with octets of the calling side.
-fn judge_pieces(
-    alloc: Global,
-    blame: &mut Blame,
-    end: End,
-    pieces: &[Piece<'_>],
-) -> io::Result<()> {
-    if !begins_with_caller(end, pieces) {
-        return Ok(());
+fn judge_pieces(blame: &mut Blame, end: End, pieces: &[Piece<'_>]) {
+    if begins_with_caller(end, pieces) {
+        judge_each_late(blame, end, pieces);
     }
-    for first in 0..pieces.len() {
-        judge_late(alloc, blame, end, pieces, first.saturating_add(1))?;
-    }
-    Ok(())
 }
 
 fn begins_with_caller(end: End, pieces: &[Piece<'_>]) -> bool {
@@ -102,59 +95,36 @@ fn begins_with_caller(end: End, pieces: &[Piece<'_>]) -> bool {
     }
 }
 
-/// Judges it where all that the end is fed after the first pieces passes before what it sends after them.
-fn judge_late(
-    alloc: Global,
-    blame: &mut Blame,
-    end: End,
-    pieces: &[Piece<'_>],
-    first: usize,
-) -> io::Result<()> {
-    let capture = capture_of(alloc, end, pieces, first)?;
-    judge(alloc, blame, capture.as_slice(), end.name)
-}
-
-fn capture_of(
-    alloc: Global,
-    end: End,
-    pieces: &[Piece<'_>],
-    first: usize,
-) -> Result<Vec<u8>, AllocError> {
-    let mut out = Vec::new(alloc);
-    push_first(&mut out, end, pieces, first)?;
-    push_since(&mut out, end, pieces, first, true)?;
-    push_since(&mut out, end, pieces, first, false)?;
-    Ok(out)
-}
-
-fn push_first(
-    out: &mut Vec<u8>,
-    end: End,
-    pieces: &[Piece<'_>],
-    first: usize,
-) -> Result<(), AllocError> {
-    for piece in pieces.iter().take(first) {
-        push_piece(out, end, *piece)?;
+fn judge_each_late(blame: &mut Blame, end: End, pieces: &[Piece<'_>]) {
+    for first in 0..pieces.len() {
+        judge_late(blame, end, pieces, first.saturating_add(1));
     }
-    Ok(())
+}
+
+/// Judges it where all that the end is fed after the first pieces passes before what it sends after them.
+fn judge_late(blame: &mut Blame, end: End, pieces: &[Piece<'_>], first: usize) {
+    let mut capture = Output::new(blame.found.alloc());
+    push_first(&mut capture, end, pieces, first);
+    push_since(&mut capture, end, pieces, first, true);
+    push_since(&mut capture, end, pieces, first, false);
+    judge(blame, &capture, end.name);
+}
+
+fn push_first(out: &mut Output, end: End, pieces: &[Piece<'_>], first: usize) {
+    for piece in pieces.iter().take(first) {
+        push_piece(out, end, *piece);
+    }
 }
 
 /// Adds the later pieces that the end is fed, or those that it sends.
-fn push_since(
-    out: &mut Vec<u8>,
-    end: End,
-    pieces: &[Piece<'_>],
-    first: usize,
-    is_fed: bool,
-) -> Result<(), AllocError> {
+fn push_since(out: &mut Output, end: End, pieces: &[Piece<'_>], first: usize, is_fed: bool) {
     for piece in pieces.iter().skip(first) {
         if piece.is_fed == is_fed {
-            push_piece(out, end, *piece)?;
+            push_piece(out, end, *piece);
         }
     }
-    Ok(())
 }
 
-fn push_piece(out: &mut Vec<u8>, end: End, piece: Piece<'_>) -> Result<(), AllocError> {
-    push_behind(out, mark(piece.is_fed != end.is_called), piece.digits)
+fn push_piece(out: &mut Output, end: End, piece: Piece<'_>) {
+    out.push_behind(mark(piece.is_fed != end.is_called), piece.digits);
 }

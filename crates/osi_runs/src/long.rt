@@ -4,74 +4,81 @@
 //! times A | B` means the lines `A` and `B`, three times. Comments are not expanded. So a small file can ask for the
 //! greatest lengths.
 
-use std::alloc::{AllocError, Global};
+use crate::output::Output;
+use std::alloc::Global;
 
 /// No word or line may be repeated more often than this.
 const MOST: u32 = 2_000_000;
 
 /// A text with its repetitions expanded.
-pub(crate) fn written_out(alloc: Global, text: &str) -> Result<String, AllocError> {
-    let mut out = String::new(alloc);
-    push_all(&mut out, text)?;
-    Ok(out)
+pub(crate) fn written_out(alloc: Global, text: &str) -> Output {
+    let mut out = Output::new(alloc);
+    push_all(&mut out, text);
+    out
 }
 
-fn push_all(out: &mut String, text: &str) -> Result<(), AllocError> {
+fn push_all(out: &mut Output, text: &str) {
     for line in text.lines() {
-        push_line(out, line)?;
+        push_line(out, line);
     }
-    Ok(())
 }
 
-fn push_line(out: &mut String, line: &str) -> Result<(), AllocError> {
+fn push_line(out: &mut Output, line: &str) {
     if line.starts_with('#') {
-        out.push_str(line)?;
-        return out.push('\n');
+        out.push(line);
+    } else {
+        push_times(out, line);
     }
-    let Some((count, lines)) = line.split_once(" times ") else {
-        return push_words(out, line);
-    };
-    for _ in 0..number(count) {
-        push_lines(out, lines)?;
-    }
-    Ok(())
 }
 
-fn push_lines(out: &mut String, lines: &str) -> Result<(), AllocError> {
-    for line in lines.split(" | ") {
-        push_words(out, line)?;
+/// Adds a line that is no comment, or the lines that it means.
+fn push_times(out: &mut Output, line: &str) {
+    match line.split_once(" times ") {
+        Some((count, lines)) => push_repeated(out, lines, number(count)),
+        None => push_words(out, line),
     }
-    Ok(())
+}
+
+fn push_repeated(out: &mut Output, lines: &str, times: u32) {
+    for _ in 0..times {
+        push_lines(out, lines);
+    }
+}
+
+fn push_lines(out: &mut Output, lines: &str) {
+    for line in lines.split(" | ") {
+        push_words(out, line);
+    }
 }
 
 /// Adds the words of a line, and the line's end.
-fn push_words(out: &mut String, line: &str) -> Result<(), AllocError> {
-    let mut is_first = true;
-    for word in line.split(' ') {
-        if !is_first {
-            out.push(' ')?;
+fn push_words(out: &mut Output, line: &str) {
+    for (place, word) in line.split(' ').enumerate() {
+        if place > 0 {
+            out.say(" ");
         }
-        is_first = false;
-        push_word(out, word)?;
+        push_word(out, word);
     }
-    out.push('\n')
+    out.say("\n");
 }
 
-fn push_word(out: &mut String, word: &str) -> Result<(), AllocError> {
+fn push_word(out: &mut Output, word: &str) {
     for part in word.split('+') {
-        push_part(out, part)?;
+        push_part(out, part);
     }
-    Ok(())
 }
 
-fn push_part(out: &mut String, part: &str) -> Result<(), AllocError> {
-    let Some((digits, count)) = part.split_once('*') else {
-        return out.push_str(part);
-    };
-    for _ in 0..number(count) {
-        out.push_str(digits)?;
+fn push_part(out: &mut Output, part: &str) {
+    match part.split_once('*') {
+        Some((digits, count)) => push_digits(out, digits, number(count)),
+        None => out.say(part),
     }
-    Ok(())
+}
+
+fn push_digits(out: &mut Output, digits: &str, times: u32) {
+    for _ in 0..times {
+        out.say(digits);
+    }
 }
 
 /// How often a word or a line is repeated.

@@ -12,17 +12,17 @@ ghost use Rattle.osi_spdu.specs.Writing.{TsduFits};
 use crate::asked::{ends_read, event_in};
 use crate::calls;
 use crate::digits::octets_in;
+use crate::output::{Output, lines_of};
 use bytes::BytesMut;
 use osi_carrier::Ref;
 use osi_class::Local;
 use osi_pair::Event;
-use osi_script::{Line, Side, Standing, push_indication, push_standing};
+use osi_script::{Line, Side, Standing};
 use osi_session::{Indication, Request};
 use osi_spdu::{Group, SpduFault, read_tsdu, write_tsdu};
 use osi_stack::{Connect, Stack};
-use std::alloc::{AllocError, Global};
-use std::fmt::Debug;
-use std::io;
+use std::alloc::Global;
+use std::io::ErrorKind;
 
 /// Two ends with nothing between them.
 #[derive(Drop)]
@@ -42,22 +42,16 @@ impl Ends {
 }
 
 /// The lines of a text, with the result of each line that asks for something.
-pub(crate) fn played(alloc: Global, text: &str) -> io::Result<Vec<u8>> {
-    let mut out = Vec::new(alloc);
-    let lines: Vec<&str> = text.lines().collect(alloc)?;
-    play_lines(alloc, &mut out, lines.as_slice())?;
-    Ok(out)
+pub(crate) fn played(alloc: Global, text: &str) -> Output {
+    let mut out = Output::new(alloc);
+    play_text(&mut out, text);
+    out
 }
 
-fn play_lines(alloc: Global, out: &mut Vec<u8>, lines: &[&str]) -> io::Result<()> {
-    play_first(alloc, out, lines)?;
-    for (at, line) in lines.iter().enumerate() {
-        if begins(*line) {
-            let behind = lines.get(at.saturating_add(1)..).unwrap_or_default();
-            play_script(alloc, out, *line, behind)?;
-        }
-    }
-    Ok(())
+fn play_text(out: &mut Output, text: &str) {
+    let lines = lines_of(out, text);
+    play_first(out, lines.as_slice());
+    play_scripts(out, lines.as_slice());
 }
 
 /// Whether a line asks for two fresh ends.
@@ -66,38 +60,52 @@ fn begins(line: &str) -> bool {
 }
 
 /// The lines before the first two ends: session units that are written again.
-fn play_first(alloc: Global, out: &mut Vec<u8>, lines: &[&str]) -> io::Result<()> {
+fn play_first(out: &mut Output, lines: &[&str]) {
     for line in lines {
         if begins(*line) {
-            return Ok(());
+            break;
         }
-        play_units(alloc, out, *line)?;
+        play_units(out, *line);
     }
-    Ok(())
 }
 
-fn play_units(alloc: Global, out: &mut Vec<u8>, line: &str) -> io::Result<()> {
-    push_kept_line(out, line)?;
+fn play_units(out: &mut Output, line: &str) {
+    push_kept_line(out, line);
     match line.strip_prefix("> tsdu ") {
-        Some(digits) => write_again(alloc, out, digits),
-        None if line.starts_with("> ") => Err(io::Error::from(io::ErrorKind::InvalidInput)),
-        None => Ok(()),
+        Some(digits) => write_again(out, digits),
+        None => no_result(out, line),
+    }
+}
+
+/// A line that asks for anything else fails.
+fn no_result(out: &mut Output, line: &str) {
+    if line.starts_with("> ") {
+        out.fail(ErrorKind::InvalidInput);
     }
 }
 
 /// Adds a line that is no result.
-fn push_kept_line(out: &mut Vec<u8>, line: &str) -> Result<(), AllocError> {
+fn push_kept_line(out: &mut Output, line: &str) {
     if line.is_empty() || line.starts_with('#') || line.starts_with("> ") {
-        push(out, line)?;
+        out.push(line);
     }
-    Ok(())
+}
+
+fn play_scripts(out: &mut Output, lines: &[&str]) {
+    for (at, line) in lines.iter().enumerate() {
+        if begins(*line) {
+            let behind = lines.get(at.saturating_add(1)..).unwrap_or_default();
+            play_script(out, *line, behind);
+        }
+    }
 }
 
 /// The line that asks for two ends, and the lines after it, up to the next such line.
-fn play_script(alloc: Global, out: &mut Vec<u8>, asked: &str, lines: &[&str]) -> io::Result<()> {
-    push(out, asked)?;
-    let (left, right) = ends_read(alloc, asked.strip_prefix("> ").unwrap_or_default())?;
-    play_between(alloc, out, &mut ends_of(alloc, left, right), lines)
+fn play_script(out: &mut Output, asked: &str, lines: &[&str]) {
+    out.push(asked);
+    if let Some((left, right)) = ends_read(out, asked.strip_prefix("> ").unwrap_or_default()) {
+        play_between(out, &mut ends_of(out.alloc(), left, right), lines);
+    }
 }
 
 /// Two fresh ends.
@@ -108,227 +116,137 @@ fn ends_of(alloc: Global, caller: Local, called: Local) -> Ends {
     }
 }
 
-fn play_between(
-    alloc: Global,
-    out: &mut Vec<u8>,
-    ends: &mut Ends,
-    lines: &[&str],
-) -> io::Result<()> {
+fn play_between(out: &mut Output, ends: &mut Ends, lines: &[&str]) {
     for line in lines {
         if begins(*line) {
-            return Ok(());
+            break;
         }
-        play(alloc, out, ends, *line)?;
-    }
-    Ok(())
-}
-
-/// Adds a line.
-pub(crate) fn push(out: &mut Vec<u8>, line: &str) -> Result<(), AllocError> {
-    out.extend_from_slice(line.as_bytes())?;
-    out.push(b'\n')?;
-    Ok(())
-}
-
-/// Adds a line with a label and a number.
-pub(crate) fn push_number(
-    alloc: Global,
-    out: &mut Vec<u8>,
-    said: &str,
-    number: usize,
-) -> Result<(), AllocError> {
-    push_made(out, format!(in alloc; "{said} {number}")?)
-}
-
-/// Adds a line with a label and a name.
-pub(crate) fn push_name<T: Debug>(
-    alloc: Global,
-    out: &mut Vec<u8>,
-    said: &str,
-    name: &T,
-) -> Result<(), AllocError> {
-    push_made(out, format!(in alloc; "{said} {name:?}")?)
-}
-
-/// Adds a line that was made.
-pub(crate) fn push_made(out: &mut Vec<u8>, line: String) -> Result<(), AllocError> {
-    push(out, line.as_str())
-}
-
-fn play(alloc: Global, out: &mut Vec<u8>, ends: &mut Ends, line: &str) -> io::Result<()> {
-    push_kept_line(out, line)?;
-    match line.strip_prefix("> ") {
-        Some(asked) => play_asked(alloc, out, ends, asked),
-        None => Ok(()),
+        play(out, ends, *line);
     }
 }
 
-fn play_asked(alloc: Global, out: &mut Vec<u8>, ends: &mut Ends, asked: &str) -> io::Result<()> {
-    if let Some(digits) = asked.strip_prefix("tsdu ") {
-        return write_again(alloc, out, digits);
+fn play(out: &mut Output, ends: &mut Ends, line: &str) {
+    push_kept_line(out, line);
+    if let Some(asked) = line.strip_prefix("> ") {
+        play_asked(out, ends, asked);
     }
-    let line = Line::read(alloc, asked.as_bytes())?;
-    play_at(alloc, out, ends, asked, event_in(&line))
 }
 
-fn play_at(
-    alloc: Global,
-    out: &mut Vec<u8>,
-    ends: &mut Ends,
-    asked: &str,
-    event: Option<Event>,
-) -> io::Result<()> {
-    act(alloc, out, ends, asked, event)?;
-    push_all_told(alloc, out, ends)?;
-    Ok(())
+fn play_asked(out: &mut Output, ends: &mut Ends, asked: &str) {
+    match asked.strip_prefix("tsdu ") {
+        Some(digits) => write_again(out, digits),
+        None => play_at(out, ends, asked),
+    }
+}
+
+fn play_at(out: &mut Output, ends: &mut Ends, asked: &str) {
+    act(out, ends, asked);
+    push_told(out, Side::Left, &mut ends.left);
+    push_told(out, Side::Right, &mut ends.right);
 }
 
 /// Feeds an end, reports the state of both, or does what a line of a script asks for.
-fn act(
-    alloc: Global,
-    out: &mut Vec<u8>,
-    ends: &mut Ends,
-    asked: &str,
-    event: Option<Event>,
-) -> io::Result<()> {
-    if let Some(digits) = asked.strip_prefix("feed left ") {
-        return feed(alloc, out, &mut ends.left, digits);
+fn act(out: &mut Output, ends: &mut Ends, asked: &str) {
+    match fed_in(asked) {
+        Some((side, digits)) => feed(out, ends.at(side), digits),
+        None => act_unfed(out, ends, asked),
     }
-    if let Some(digits) = asked.strip_prefix("feed right ") {
-        return feed(alloc, out, &mut ends.right, digits);
+}
+
+/// The end that a line feeds, and what it is fed.
+fn fed_in(asked: &str) -> Option<(osi_pair::Side, &str)> {
+    match asked.strip_prefix("feed left ") {
+        Some(digits) => Some((osi_pair::Side::Left, digits)),
+        None => Some((osi_pair::Side::Right, asked.strip_prefix("feed right ")?)),
     }
+}
+
+fn act_unfed(out: &mut Output, ends: &mut Ends, asked: &str) {
     if asked == "where" {
-        push_both_where(alloc, out, ends)?;
+        push_where(out, Side::Left, &ends.left, 4);
+        push_where(out, Side::Right, &ends.right, 4);
     } else {
-        ask(alloc, out, ends, event)?;
+        ask(out, ends, asked);
     }
-    Ok(())
 }
 
-fn ask(
-    alloc: Global,
-    out: &mut Vec<u8>,
-    ends: &mut Ends,
-    event: Option<Event>,
-) -> Result<(), AllocError> {
+fn ask(out: &mut Output, ends: &mut Ends, asked: &str) {
+    match Line::read(out.alloc(), asked.as_bytes()) {
+        Ok(line) => happen(out, ends, event_in(&line)),
+        Err(_) => out.fail(ErrorKind::OutOfMemory),
+    }
+}
+
+fn happen(out: &mut Output, ends: &mut Ends, event: Option<Event>) {
     match event {
-        Some(Event::Connect(connect)) => connect_at(alloc, out, &mut ends.left, &connect),
-        Some(Event::Call(side, reference, request)) => {
-            call_at(alloc, out, ends.at(side), reference, request)
-        }
-        Some(Event::Told(side)) => {
-            calls::tell_of_a_break(ends.at(side));
-            Ok(())
-        }
-        _ => push(out, "asks for nothing"),
+        Some(Event::Connect(connect)) => connect_at(out, &mut ends.left, &connect),
+        Some(Event::Call(side, reference, request)) => call_at(
+            out,
+            ends.at(side),
+            reference,
+            request,
+        ),
+        Some(Event::Told(side)) => calls::tell_of_a_break(ends.at(side)),
+        _ => out.push("asks for nothing"),
     }
 }
 
-fn connect_at(
-    alloc: Global,
-    out: &mut Vec<u8>,
-    stack: &mut Stack,
-    connect: &Connect,
-) -> Result<(), AllocError> {
+fn connect_at(out: &mut Output, stack: &mut Stack, connect: &Connect) {
     match calls::connect(stack, connect) {
-        Ok(Ref(reference)) => push_number(alloc, out, "connection", usize::from(reference)),
-        Err(error) => push_name(alloc, out, "refused", &error),
+        Ok(Ref(reference)) => out.push_number("connection", usize::from(reference)),
+        Err(error) => out.push_name("refused", &error),
     }
 }
 
-fn call_at(
-    alloc: Global,
-    out: &mut Vec<u8>,
-    stack: &mut Stack,
-    reference: Ref,
-    request: Request,
-) -> Result<(), AllocError> {
+fn call_at(out: &mut Output, stack: &mut Stack, reference: Ref, request: Request) {
     match calls::call(stack, reference, request) {
-        Ok(()) => push(out, "ok"),
-        Err(error) => push_name(alloc, out, "refused", &error),
+        Ok(()) => out.push("ok"),
+        Err(error) => out.push_name("refused", &error),
     }
 }
 
 /// Feeds octets, and reports how many were used if some are left.
-fn feed(alloc: Global, out: &mut Vec<u8>, stack: &mut Stack, digits: &str) -> io::Result<()> {
-    let octets = octets_in(alloc, digits)?;
-    feed_octets(alloc, out, stack, octets.as_slice())
+fn feed(out: &mut Output, stack: &mut Stack, digits: &str) {
+    let octets = octets_in(out, digits);
+    feed_octets(out, stack, octets.as_slice());
 }
 
-fn feed_octets(
-    alloc: Global,
-    out: &mut Vec<u8>,
-    stack: &mut Stack,
-    octets: &[u8],
-) -> io::Result<()> {
+fn feed_octets(out: &mut Output, stack: &mut Stack, octets: &[u8]) {
     let used = calls::feed(stack, octets).used;
     if used != octets.len() {
-        push_number(alloc, out, "uses", used)?;
+        out.push_number("uses", used);
     }
-    Ok(())
-}
-
-/// Adds what the users of both ends receive, and what the ends send.
-fn push_all_told(alloc: Global, out: &mut Vec<u8>, ends: &mut Ends) -> Result<(), AllocError> {
-    push_told(alloc, out, Side::Left, &mut ends.left)?;
-    push_told(alloc, out, Side::Right, &mut ends.right)
 }
 
 /// Adds what the users of an end receive, and what the end sends.
-fn push_told(
-    alloc: Global,
-    out: &mut Vec<u8>,
-    side: Side,
-    stack: &mut Stack,
-) -> Result<(), AllocError> {
+fn push_told(out: &mut Output, side: Side, stack: &mut Stack) {
     for _ in 0..100u8 {
-        push_next(alloc, out, side, stack)?;
+        push_next(out, side, stack);
     }
-    push_sent(alloc, out, side, stack)
+    push_sent(out, side, stack);
 }
 
 /// Adds the next pending indication of an end, if there is one.
-fn push_next(
-    alloc: Global,
-    out: &mut Vec<u8>,
-    side: Side,
-    stack: &mut Stack,
-) -> Result<(), AllocError> {
+fn push_next(out: &mut Output, side: Side, stack: &mut Stack) {
     match calls::next(stack) {
-        Some((Ref(reference), indication)) => {
-            push_shown(alloc, out, side, reference, &indication)
-        }
-        None => Ok(()),
+        Some((Ref(reference), indication)) => push_shown(out, side, reference, &indication),
+        None => {}
     }
 }
 
 /// Adds an indication, and the cause of a provider abort.
-fn push_shown(
-    alloc: Global,
-    out: &mut Vec<u8>,
-    side: Side,
-    reference: u16,
-    indication: &Indication,
-) -> Result<(), AllocError> {
-    push_indication(alloc, out, side, reference, indication)?;
-    match indication {
-        Indication::ProviderAbort { cause } => push_name(alloc, out, "by", cause),
-        _ => Ok(()),
+fn push_shown(out: &mut Output, side: Side, reference: u16, indication: &Indication) {
+    out.push_indication(side, reference, indication);
+    if let Indication::ProviderAbort { cause } = indication {
+        out.push_name("by", cause);
     }
 }
 
-fn push_sent(
-    alloc: Global,
-    out: &mut Vec<u8>,
-    side: Side,
-    stack: &mut Stack,
-) -> Result<(), AllocError> {
-    if stack.outgoing().is_empty() {
-        return Ok(());
+fn push_sent(out: &mut Output, side: Side, stack: &mut Stack) {
+    if !stack.outgoing().is_empty() {
+        out.push_digits(sends(side), stack.outgoing());
+        calls::take_all(stack);
     }
-    push_digits(alloc, out, sends(side), stack.outgoing())?;
-    calls::take_all(stack);
-    Ok(())
 }
 
 fn sends(side: Side) -> &'static str {
@@ -338,55 +256,19 @@ fn sends(side: Side) -> &'static str {
     }
 }
 
-/// Adds octets in digits, after a label.
-pub(crate) fn push_digits(
-    alloc: Global,
-    out: &mut Vec<u8>,
-    said: &str,
-    octets: &[u8],
-) -> Result<(), AllocError> {
-    let digits = hex::encode(alloc, octets)?;
-    push_behind(out, said, digits.as_str())
-}
-
-/// Adds a line with a label and a text.
-pub(crate) fn push_behind(out: &mut Vec<u8>, said: &str, rest: &str) -> Result<(), AllocError> {
-    out.extend_from_slice(said.as_bytes())?;
-    out.push(b' ')?;
-    push(out, rest)
-}
-
-/// Adds the state of the first three connections of both ends.
-fn push_both_where(alloc: Global, out: &mut Vec<u8>, ends: &Ends) -> Result<(), AllocError> {
-    push_where(alloc, out, Side::Left, &ends.left, 4)?;
-    push_where(alloc, out, Side::Right, &ends.right, 4)
-}
-
 /// Adds the state of the connections of an end with references below this one, how many octets it keeps, and why it has
 /// ended.
-pub(crate) fn push_where(
-    alloc: Global,
-    out: &mut Vec<u8>,
-    side: Side,
-    stack: &Stack,
-    references: u16,
-) -> Result<(), AllocError> {
+pub(crate) fn push_where(out: &mut Output, side: Side, stack: &Stack, references: u16) {
     for reference in 1..references {
-        push_phase(alloc, out, side, stack, Ref(reference))?;
+        push_phase(out, side, stack, Ref(reference));
     }
-    push_kept(alloc, out, side, stack)?;
-    push_end(alloc, out, side, stack)
+    push_kept(out, side, stack);
+    push_end(out, side, stack);
 }
 
-fn push_kept(
-    alloc: Global,
-    out: &mut Vec<u8>,
-    side: Side,
-    stack: &Stack,
-) -> Result<(), AllocError> {
-    match stack.kept() {
-        0 => Ok(()),
-        kept => push_number(alloc, out, keeps(side), kept),
+fn push_kept(out: &mut Output, side: Side, stack: &Stack) {
+    if stack.kept() > 0 {
+        out.push_number(keeps(side), stack.kept());
     }
 }
 
@@ -397,10 +279,9 @@ fn keeps(side: Side) -> &'static str {
     }
 }
 
-fn push_end(alloc: Global, out: &mut Vec<u8>, side: Side, stack: &Stack) -> Result<(), AllocError> {
-    match stack.ended() {
-        None => Ok(()),
-        Some(reason) => push_name(alloc, out, ended(side), &reason),
+fn push_end(out: &mut Output, side: Side, stack: &Stack) {
+    if let Some(reason) = stack.ended() {
+        out.push_name(ended(side), &reason);
     }
 }
 
@@ -411,16 +292,9 @@ fn ended(side: Side) -> &'static str {
     }
 }
 
-pub(crate) fn push_phase(
-    alloc: Global,
-    out: &mut Vec<u8>,
-    side: Side,
-    stack: &Stack,
-    reference: Ref,
-) -> Result<(), AllocError> {
-    match standing(side, stack, reference) {
-        Some(standing) => push_standing(alloc, out, &standing),
-        None => Ok(()),
+pub(crate) fn push_phase(out: &mut Output, side: Side, stack: &Stack, reference: Ref) {
+    if let Some(standing) = standing(side, stack, reference) {
+        out.push_standing(&standing);
     }
 }
 
@@ -438,37 +312,25 @@ fn standing(side: Side, stack: &Stack, reference: Ref) -> Option<Standing> {
 }
 
 /// Adds the written form of session units, or their fault.
-fn write_again(alloc: Global, out: &mut Vec<u8>, digits: &str) -> io::Result<()> {
-    let tsdu = octets_in(alloc, digits)?;
-    write_octets_again(alloc, out, tsdu.as_slice())
-}
-
-fn write_octets_again(alloc: Global, out: &mut Vec<u8>, tsdu: &[u8]) -> io::Result<()> {
-    push_written(alloc, out, &mut BytesMut::new(alloc), tsdu)?;
-    Ok(())
-}
-
-fn push_written(
-    alloc: Global,
-    out: &mut Vec<u8>,
-    written: &mut BytesMut,
-    tsdu: &[u8],
-) -> Result<(), AllocError> {
-    match fault_of(written, tsdu)? {
-        None => push_digits(alloc, out, "writes", written.as_slice()),
-        Some(fault) => push_made(out, format!(in alloc; "{fault}")?),
-    }
+fn write_again(out: &mut Output, digits: &str) {
+    let tsdu = octets_in(out, digits);
+    push_written(out, &mut BytesMut::new(out.alloc()), tsdu.as_slice());
 }
 
 /// Reads session units and, if they have no fault, writes them.
-fn fault_of(written: &mut BytesMut, tsdu: &[u8]) -> Result<Option<SpduFault>, AllocError> {
+fn push_written(out: &mut Output, written: &mut BytesMut, tsdu: &[u8]) {
     match group_in(tsdu) {
         Ok(group) => {
-            write_tsdu(&group, written)?;
-            Ok(None)
+            out.note(write_tsdu(&group, written).is_ok());
+            out.push_digits("writes", written.as_slice());
         }
-        Err(fault) => Ok(Some(fault)),
+        Err(fault) => push_fault(out, fault),
     }
+}
+
+fn push_fault(out: &mut Output, fault: SpduFault) {
+    out.show(&fault);
+    out.say("\n");
 }
 
 /// The session units of a TSDU.

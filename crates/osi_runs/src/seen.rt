@@ -5,13 +5,13 @@
 use crate::asked::{asks, ends_read, event_in};
 use crate::blame::{Blame, judge, mark};
 use crate::calls;
-use crate::octets::push_digits;
+use crate::output::{Output, lines_of};
 use crate::ways::{WAYS, Way, script_in};
 use osi_class::Local;
 use osi_pair::{Event, Pair, Side};
 use osi_script::Line;
-use std::alloc::{AllocError, Global};
-use std::io;
+use std::alloc::Global;
+use std::io::ErrorKind;
 
 /// When a tap sees octets: as they are sent, or as they arrive.
 #[derive(Clone, Copy)]
@@ -47,68 +47,53 @@ const TAPS: [Tap; 4] = [
     },
 ];
 
-impl Tap {
-    fn sight(self, side: Side) -> Sight {
-        match side {
-            Side::Left => self.left,
-            Side::Right => self.right,
-        }
-    }
-}
-
 /// Two ends, and what has passed at a tap.
 #[derive(Drop)]
 struct Run {
     pair: Pair,
     tap: Tap,
-    capture: Vec<u8>,
+    capture: Output,
+    /// The octets of each side that had not arrived before the current event.
+    left: Output,
+    right: Output,
     /// A line does not fit: the script ends before it.
     is_over: bool,
 }
 
-/// The octets of both sides that have not arrived.
-#[derive(Drop)]
-struct InFlight {
-    left: Vec<u8>,
-    right: Vec<u8>,
-}
-
 /// Judges what passes at each tap, as the scripts are written and in each other way to run them.
-pub(crate) fn judge_each_way(alloc: Global, blame: &mut Blame, text: &str) -> io::Result<()> {
-    judge_runs(alloc, blame, text)?;
+pub(crate) fn judge_each_way(blame: &mut Blame, text: &str) {
+    judge_runs(blame, text);
     for way in WAYS {
-        judge_in(alloc, blame, text, way)?;
+        judge_in(blame, text, way);
     }
-    Ok(())
 }
 
-fn judge_in(alloc: Global, blame: &mut Blame, text: &str, way: Way) -> io::Result<()> {
-    let script = script_in(alloc, text, way)?;
-    judge_runs(alloc, blame, script.as_str())
+fn judge_in(blame: &mut Blame, text: &str, way: Way) {
+    let script = script_in(blame.found.alloc(), text, way);
+    blame.found.fail_as(&script);
+    judge_runs(blame, script.text());
 }
 
 /// Judges what passes at each tap.
-pub(crate) fn judge_runs(alloc: Global, blame: &mut Blame, text: &str) -> io::Result<()> {
-    for tap in TAPS {
-        judge_at(alloc, blame, tap, text)?;
-    }
-    Ok(())
+pub(crate) fn judge_runs(blame: &mut Blame, text: &str) {
+    let lines = lines_of(&mut blame.found, text);
+    judge_at_taps(blame, lines.as_slice());
 }
 
-fn judge_at(alloc: Global, blame: &mut Blame, tap: Tap, text: &str) -> io::Result<()> {
-    let lines: Vec<&str> = text.lines().collect(alloc)?;
-    judge_lines(alloc, blame, tap, lines.as_slice())
+fn judge_at_taps(blame: &mut Blame, lines: &[&str]) {
+    for tap in TAPS {
+        judge_lines(blame, tap, lines);
+    }
 }
 
 /// Judges what passes between the two ends of each script.
-fn judge_lines(alloc: Global, blame: &mut Blame, tap: Tap, lines: &[&str]) -> io::Result<()> {
+fn judge_lines(blame: &mut Blame, tap: Tap, lines: &[&str]) {
     for (at, line) in lines.iter().enumerate() {
         if begins(*line) {
             let behind = lines.get(at.saturating_add(1)..).unwrap_or_default();
-            judge_script(alloc, blame, tap, *line, behind)?;
+            judge_script(blame, tap, *line, behind);
         }
     }
-    Ok(())
 }
 
 /// Whether a line begins two fresh ends.
@@ -116,83 +101,77 @@ fn begins(line: &str) -> bool {
     line.starts_with("ends ")
 }
 
-fn judge_script(
-    alloc: Global,
-    blame: &mut Blame,
-    tap: Tap,
-    ends: &str,
-    lines: &[&str],
-) -> io::Result<()> {
-    let (left, right) = ends_read(alloc, ends)?;
-    judge_run(
-        alloc,
-        blame,
-        &mut run_between(alloc, tap, left, right),
-        lines,
-    )
+fn judge_script(blame: &mut Blame, tap: Tap, ends: &str, lines: &[&str]) {
+    if let Some((left, right)) = ends_read(&mut blame.found, ends) {
+        let alloc = blame.found.alloc();
+        judge_run(blame, &mut run_between(alloc, tap, left, right), lines);
+    }
 }
 
 fn run_between(alloc: Global, tap: Tap, left: Local, right: Local) -> Run {
     Run {
         pair: calls::two_ends(alloc, left, right),
         tap,
-        capture: Vec::new(alloc),
+        capture: Output::new(alloc),
+        left: Output::new(alloc),
+        right: Output::new(alloc),
         is_over: false,
     }
 }
 
-fn judge_run(alloc: Global, blame: &mut Blame, run: &mut Run, lines: &[&str]) -> io::Result<()> {
-    play_all(alloc, run, lines)?;
-    finish_run(alloc, blame, run)
+fn judge_run(blame: &mut Blame, run: &mut Run, lines: &[&str]) {
+    play_all(run, lines);
+    finish_run(blame, run);
 }
 
 /// Plays the lines of a script, up to the next two ends.
-fn play_all(alloc: Global, run: &mut Run, lines: &[&str]) -> io::Result<()> {
+fn play_all(run: &mut Run, lines: &[&str]) {
     for line in lines {
         if begins(*line) {
-            return Ok(());
+            break;
         }
-        play_line(alloc, run, *line)?;
+        play_line(run, *line);
     }
-    Ok(())
 }
 
 /// Judges what passed between two ends.
-fn finish_run(alloc: Global, blame: &mut Blame, run: &Run) -> io::Result<()> {
-    if run.capture.is_empty() {
-        return Ok(());
+fn finish_run(blame: &mut Blame, run: &Run) {
+    blame.found.fail_as(&run.left);
+    blame.found.fail_as(&run.right);
+    blame.found.fail_as(&run.capture);
+    if !run.capture.is_empty() {
+        judge(blame, &run.capture, "");
     }
-    judge(alloc, blame, run.capture.as_slice(), "")
 }
 
-fn play_line(alloc: Global, run: &mut Run, asked: &str) -> io::Result<()> {
-    if run.is_over || !asks(asked) {
-        return Ok(());
+fn play_line(run: &mut Run, asked: &str) {
+    if !run.is_over && asks(asked) {
+        ask(run, asked);
     }
-    let line = Line::read(alloc, asked.as_bytes())?;
-    Ok(play_event(alloc, run, event_in(&line))?)
 }
 
-fn play_event(alloc: Global, run: &mut Run, event: Option<Event>) -> Result<(), AllocError> {
+fn ask(run: &mut Run, asked: &str) {
+    match Line::read(run.capture.alloc(), asked.as_bytes()) {
+        Ok(line) => play_event(run, event_in(&line)),
+        Err(_) => run.capture.fail(ErrorKind::OutOfMemory),
+    }
+}
+
+fn play_event(run: &mut Run, event: Option<Event>) {
     match event {
-        Some(event) => happen(alloc, run, &event),
-        None => {
-            run.is_over = true;
-            Ok(())
-        }
+        Some(event) => happen(run, &event),
+        None => run.is_over = true,
     }
 }
 
 /// An event happens, and the octets pass that it sends or carries: first those that it carries.
-fn happen(alloc: Global, run: &mut Run, event: &Event) -> Result<(), AllocError> {
-    let before = in_flight(alloc, &run.pair)?;
-    if calls::apply(&mut run.pair, event).is_err() {
-        run.is_over = true;
-        return Ok(());
+fn happen(run: &mut Run, event: &Event) {
+    keep(&mut run.left, &run.pair, Side::Left);
+    keep(&mut run.right, &run.pair, Side::Right);
+    match calls::apply(&mut run.pair, event) {
+        Ok(_) => pass_both(run, first_side(event)),
+        Err(_) => run.is_over = true,
     }
-    let first = first_side(event);
-    pass(alloc, run, first, &before)?;
-    pass(alloc, run, first.other(), &before)
 }
 
 /// The side whose octets an event carries; left if it carries none.
@@ -203,29 +182,31 @@ fn first_side(event: &Event) -> Side {
     }
 }
 
-fn in_flight(alloc: Global, pair: &Pair) -> Result<InFlight, AllocError> {
-    let left = in_flight_of(alloc, pair, Side::Left)?;
-    let right = in_flight_of(alloc, pair, Side::Right)?;
-    Ok(InFlight { left, right })
+/// Keeps the octets of a side that have not arrived.
+fn keep(out: &mut Output, pair: &Pair, side: Side) {
+    out.clear();
+    out.add(calls::stack_of(pair, side).outgoing());
 }
 
-fn in_flight_of(alloc: Global, pair: &Pair, side: Side) -> Result<Vec<u8>, AllocError> {
-    Vec::from_slice(alloc, calls::stack_of(pair, side).outgoing())
+fn pass_both(run: &mut Run, first: Side) {
+    pass(run, first);
+    pass(run, first.other());
 }
 
 /// Adds the octets of a side that the tap sees.
-fn pass(alloc: Global, run: &mut Run, side: Side, before: &InFlight) -> Result<(), AllocError> {
-    let now = in_flight_of(alloc, &run.pair, side)?;
-    let before = match side {
-        Side::Left => before.left.as_slice(),
-        Side::Right => before.right.as_slice(),
-    };
-    let octets = seen(run.tap.sight(side), before, now.as_slice());
-    if octets.is_empty() {
-        return Ok(());
+fn pass(run: &mut Run, side: Side) {
+    let now = calls::stack_of(&run.pair, side).outgoing();
+    match side {
+        Side::Left => push_seen(&mut run.capture, run.tap.left, &run.left, now, false),
+        Side::Right => push_seen(&mut run.capture, run.tap.right, &run.right, now, true),
     }
-    let is_called = matches!(side, Side::Right);
-    push_digits(alloc, &mut run.capture, mark(is_called), octets)
+}
+
+fn push_seen(out: &mut Output, sight: Sight, before: &Output, now: &[u8], is_called: bool) {
+    let octets = seen(sight, before.octets(), now);
+    if !octets.is_empty() {
+        out.push_digits(mark(is_called), octets);
+    }
 }
 
 /// The octets that were sent since, or those that have arrived.

@@ -1,5 +1,6 @@
 //! The text of each fault and of each error.
 
+use crate::output::Output;
 use osi_carrier::{CarrierFault, OpenError, SendError};
 use osi_class::LinkFault;
 use osi_pair::{PairError, RunError};
@@ -8,58 +9,49 @@ use osi_spdu::SpduFault;
 use osi_stack::ConnectError;
 use osi_tpdu::TpduFault;
 use osi_tpkt::{TpktFault, WriteError};
-use std::alloc::{AllocError, Global};
+use std::alloc::Global;
 use std::fmt::{Debug, Display};
 
 /// A line for each fault and each error: its name, a colon and its text.
-pub(crate) fn all_texts(alloc: Global) -> Result<String, AllocError> {
-    let mut out = String::new(alloc);
-    push_texts(alloc, &mut out)?;
-    Ok(out)
+pub(crate) fn all_texts(alloc: Global) -> Output {
+    let mut out = Output::new(alloc);
+    push_texts(&mut out);
+    out
 }
 
-fn push_texts(alloc: Global, out: &mut String) -> Result<(), AllocError> {
-    push_packets(alloc, out)?;
-    push_transport_units(alloc, out)?;
-    push_links(alloc, out)?;
-    push_carriers(alloc, out)?;
-    push_session_units(alloc, out)?;
-    push_sessions(alloc, out)?;
-    push_ends(alloc, out)?;
-    push_two_ends(alloc, out)
+fn push_texts(out: &mut Output) {
+    push_packets(out);
+    push_transport_units(out);
+    push_links(out);
+    push_carriers(out);
+    push_session_units(out);
+    push_sessions(out);
+    push_ends(out);
+    push_two_ends(out);
 }
 
-fn push_all<T: Debug + Display>(
-    alloc: Global,
-    out: &mut String,
-    all: &[T],
-) -> Result<(), AllocError> {
+fn push_all<T: Debug + Display>(out: &mut Output, all: &[T]) {
     for one in all {
-        push_one(alloc, out, one)?;
+        push_one(out, one);
     }
-    Ok(())
 }
 
-fn push_one<T: Debug + Display>(
-    alloc: Global,
-    out: &mut String,
-    one: &T,
-) -> Result<(), AllocError> {
-    let line = format!(in alloc; "{one:?}: {one}\n")?;
-    out.push_str(line.as_str())
+fn push_one<T: Debug + Display>(out: &mut Output, one: &T) {
+    let line = format!(in out.alloc(); "{one:?}: {one}\n");
+    out.say_made(line);
 }
 
-fn push_packets(alloc: Global, out: &mut String) -> Result<(), AllocError> {
+fn push_packets(out: &mut Output) {
     let faults = [
         TpktFault::BadVersion(1),
         TpktFault::BadLength(2),
         TpktFault::OutOfMemory,
     ];
-    push_all(alloc, out, &faults)?;
-    push_all(alloc, out, &[WriteError::BadSize, WriteError::OutOfMemory])
+    push_all(out, &faults);
+    push_all(out, &[WriteError::BadSize, WriteError::OutOfMemory]);
 }
 
-fn push_transport_units(alloc: Global, out: &mut String) -> Result<(), AllocError> {
+fn push_transport_units(out: &mut Output) {
     let faults = [
         TpduFault::BadLi(1),
         TpduFault::UnknownCode(2),
@@ -67,10 +59,10 @@ fn push_transport_units(alloc: Global, out: &mut String) -> Result<(), AllocErro
         TpduFault::BadParameterValue(4),
         TpduFault::DuplicateParameter(5),
     ];
-    push_all(alloc, out, &faults)
+    push_all(out, &faults);
 }
 
-fn push_links(alloc: Global, out: &mut String) -> Result<(), AllocError> {
+fn push_links(out: &mut Output) {
     let faults = [
         LinkFault::WrongForm,
         LinkFault::OutOfSequence,
@@ -78,10 +70,10 @@ fn push_links(alloc: Global, out: &mut String) -> Result<(), AllocError> {
         LinkFault::TsduTooLong,
         LinkFault::OutOfMemory,
     ];
-    push_all(alloc, out, &faults)
+    push_all(out, &faults);
 }
 
-fn push_carriers(alloc: Global, out: &mut String) -> Result<(), AllocError> {
+fn push_carriers(out: &mut Output) {
     let faults = [
         CarrierFault::Tpkt(TpktFault::BadLength(1)),
         CarrierFault::Tpdu(TpduFault::UnknownCode(2)),
@@ -104,12 +96,12 @@ fn push_carriers(alloc: Global, out: &mut String) -> Result<(), AllocError> {
         SendError::TooLong,
         SendError::OutOfMemory,
     ];
-    push_all(alloc, out, &faults)?;
-    push_all(alloc, out, &opening)?;
-    push_all(alloc, out, &sending)
+    push_all(out, &faults);
+    push_all(out, &opening);
+    push_all(out, &sending);
 }
 
-fn push_session_units(alloc: Global, out: &mut String) -> Result<(), AllocError> {
+fn push_session_units(out: &mut Output) {
     let faults = [
         SpduFault::UnknownSi(1),
         SpduFault::LengthPastEnd(2),
@@ -119,10 +111,10 @@ fn push_session_units(alloc: Global, out: &mut String) -> Result<(), AllocError>
         SpduFault::BadConcatenation(6),
         SpduFault::TrailingOctets(7),
     ];
-    push_all(alloc, out, &faults)
+    push_all(out, &faults);
 }
 
-fn push_sessions(alloc: Global, out: &mut String) -> Result<(), AllocError> {
+fn push_sessions(out: &mut Output) {
     let errors = [
         CallError::NoSuchConnection,
         CallError::Ended,
@@ -146,20 +138,20 @@ fn push_sessions(alloc: Global, out: &mut String) -> Result<(), AllocError> {
         UnitFault::BadEnclosure(7),
         UnitFault::DataTooLong(8),
     ];
-    push_all(alloc, out, &errors)?;
-    push_all(alloc, out, &faults)
+    push_all(out, &errors);
+    push_all(out, &faults);
 }
 
-fn push_ends(alloc: Global, out: &mut String) -> Result<(), AllocError> {
+fn push_ends(out: &mut Output) {
     let errors = [
         ConnectError::Open(OpenError::TooMany),
         ConnectError::NotSelected,
         ConnectError::TooLong,
     ];
-    push_all(alloc, out, &errors)
+    push_all(out, &errors);
 }
 
-fn push_two_ends(alloc: Global, out: &mut String) -> Result<(), AllocError> {
+fn push_two_ends(out: &mut Output) {
     let errors = [
         PairError::NotBroken,
         PairError::AlreadyBroken,
@@ -169,6 +161,6 @@ fn push_two_ends(alloc: Global, out: &mut String) -> Result<(), AllocError> {
         place: 7,
         error: PairError::NotBroken,
     };
-    push_all(alloc, out, &errors)?;
-    push_all(alloc, out, &[run])
+    push_all(out, &errors);
+    push_all(out, &[run]);
 }

@@ -1,29 +1,20 @@
 //! Scripts of two ends whose events are given in one list.
 
-use crate::again::{push_entries, state_of};
-use crate::asked::{asks, ends_asked, event_in, unreadable};
+use crate::again::{push_entries, push_state};
+use crate::asked::{asks, ends_asked, event_in};
 use crate::calls;
+use crate::output::Output;
 use osi_class::Local;
 use osi_pair::{Event, Pair, RunError};
 use osi_script::Line;
 use osi_stack::Connect;
 use osi_tpdu::Tsap;
-use std::alloc::{AllocError, Global};
-use std::io;
+use std::io::ErrorKind;
 
 /// A transport address and a session address of the greatest length.
 const TSAP: [u8; 32] = [0x54; 32];
 
 const SELECTOR: [u8; 16] = [0x53; 16];
-
-/// The result of a list of events.
-#[derive(Drop)]
-pub(crate) struct Together {
-    /// Whether the two ends, their journal and the error are those of the same events applied one by one.
-    pub(crate) is_same: bool,
-    /// Which event was refused, and why.
-    pub(crate) refused: Option<RunError>,
-}
 
 /// How events are given: in one list, or one by one.
 #[derive(Clone, Copy)]
@@ -36,76 +27,80 @@ enum Given {
 #[derive(Drop)]
 struct Outcome {
     refused: Option<RunError>,
-    said: Vec<u8>,
+    said: Output,
 }
 
-/// Runs the events of a script, all lines of which can be read, together and one by one.
-pub(crate) fn run_together(alloc: Global, script: &str) -> io::Result<Together> {
-    let lines = lines_in(alloc, script)?;
-    run_lines(alloc, script, lines.as_slice())
+/// Runs the events of a script, all lines of which can be read, together and one by one, and reports whether the two
+/// ends, their journal and the error are the same.
+pub(crate) fn judge_together(report: &mut Output, script: &str) {
+    let lines = lines_in(report, script);
+    judge_lines(report, script, lines.as_slice());
 }
 
-fn run_lines<'a>(alloc: Global, script: &str, lines: &'a [Line<'a>]) -> io::Result<Together> {
-    let events = events_in(alloc, lines)?;
-    run_events(alloc, script, events.as_slice())
+fn judge_lines<'a>(report: &mut Output, script: &str, lines: &'a [Line<'a>]) {
+    let events = events_in(report, lines);
+    judge_events(report, script, events.as_slice());
 }
 
-/// Compares both ways.
-fn run_events(alloc: Global, script: &str, events: &[Event]) -> io::Result<Together> {
-    let run = outcome_of(alloc, script, events, Given::InOneList)?;
-    beside_one_by_one(alloc, script, events, &run)
+fn judge_events(report: &mut Output, script: &str, events: &[Event]) {
+    let run = outcome_of(report, script, events, Given::InOneList);
+    judge_beside(report, script, events, &run);
 }
 
-fn beside_one_by_one(
-    alloc: Global,
-    script: &str,
-    events: &[Event],
-    run: &Outcome,
-) -> io::Result<Together> {
-    let applied = outcome_of(alloc, script, events, Given::OneByOne)?;
-    Ok(compared(run, &applied))
+fn judge_beside(report: &mut Output, script: &str, events: &[Event], run: &Outcome) {
+    let applied = outcome_of(report, script, events, Given::OneByOne);
+    compare(report, run, &applied);
 }
 
-fn compared(run: &Outcome, applied: &Outcome) -> Together {
-    Together {
-        is_same: run.refused == applied.refused && run.said.as_slice() == applied.said.as_slice(),
-        refused: run.refused,
+fn compare(report: &mut Output, run: &Outcome, applied: &Outcome) {
+    report.fail_as(&run.said);
+    report.fail_as(&applied.said);
+    if run.refused == applied.refused && run.said.octets() == applied.said.octets() {
+        say_same(report, run.refused);
+    } else {
+        report.say("GIVES SOMETHING ELSE");
+    }
+}
+
+fn say_same(report: &mut Output, refused: Option<RunError>) {
+    match refused {
+        Some(error) => {
+            report.say("as one by one, up to ");
+            report.show(&error);
+        }
+        None => report.say("as one by one"),
     }
 }
 
 /// The outcome of events that are given in this way, on the two ends that a script asks for.
-fn outcome_of(alloc: Global, script: &str, events: &[Event], given: Given) -> io::Result<Outcome> {
-    let (left, right) = ends_asked(alloc, script)?;
-    outcome_between(alloc, left, right, events, given)
+fn outcome_of(report: &mut Output, script: &str, events: &[Event], given: Given) -> Outcome {
+    let mut outcome = Outcome {
+        refused: None,
+        said: Output::new(report.alloc()),
+    };
+    give(&mut outcome, script, events, given);
+    outcome
 }
 
-fn outcome_between(
-    alloc: Global,
-    left: Local,
-    right: Local,
-    events: &[Event],
-    given: Given,
-) -> io::Result<Outcome> {
-    outcome_on(
-        alloc,
-        &mut calls::two_ends(alloc, left, right),
-        events,
-        given,
-    )
+fn give(outcome: &mut Outcome, script: &str, events: &[Event], given: Given) {
+    if let Some((left, right)) = ends_asked(&mut outcome.said, script) {
+        let alloc = outcome.said.alloc();
+        give_to(
+            outcome,
+            &mut calls::two_ends(alloc, left, right),
+            events,
+            given,
+        );
+    }
 }
 
-fn outcome_on(
-    alloc: Global,
-    pair: &mut Pair,
-    events: &[Event],
-    given: Given,
-) -> io::Result<Outcome> {
-    let refused = match given {
+fn give_to(outcome: &mut Outcome, pair: &mut Pair, events: &[Event], given: Given) {
+    outcome.refused = match given {
         Given::InOneList => run_all(pair, events),
         Given::OneByOne => apply_each(pair, events),
     };
-    let said = all_of(alloc, pair)?;
-    Ok(Outcome { refused, said })
+    push_state(&mut outcome.said, pair);
+    push_entries(&mut outcome.said, "", calls::journal(pair));
 }
 
 /// Runs events that are given in one list, up to the first that is refused.
@@ -114,25 +109,40 @@ fn run_all(pair: &mut Pair, events: &[Event]) -> Option<RunError> {
 }
 
 /// The lines that ask for events.
-fn lines_in(alloc: Global, script: &str) -> Result<Vec<Line<'_>>, AllocError> {
-    let mut lines = Vec::new(alloc);
-    for line in script.lines() {
-        if asks(line) {
-            lines.push(Line::read(alloc, line.as_bytes())?)?;
-        }
-    }
-    Ok(lines)
+fn lines_in<'a>(report: &mut Output, script: &'a str) -> Vec<Line<'a>> {
+    let mut lines = Vec::new(report.alloc());
+    keep_lines(report, &mut lines, script);
+    lines
 }
 
-fn events_in<'a>(alloc: Global, lines: &'a [Line<'a>]) -> io::Result<Vec<Event<'a>>> {
-    let mut events = Vec::new(alloc);
-    for line in lines {
-        let Some(event) = event_in(line) else {
-            return Err(unreadable());
-        };
-        events.push(with_addresses(event))?;
+fn keep_lines<'a>(report: &mut Output, lines: &mut Vec<Line<'a>>, script: &'a str) {
+    for line in script.lines() {
+        if asks(line) {
+            keep_line(report, lines, line);
+        }
     }
-    Ok(events)
+}
+
+fn keep_line<'a>(report: &mut Output, lines: &mut Vec<Line<'a>>, asked: &'a str) {
+    match Line::read(report.alloc(), asked.as_bytes()) {
+        Ok(line) => report.note(lines.push(line).is_ok()),
+        Err(_) => report.fail(ErrorKind::OutOfMemory),
+    }
+}
+
+fn events_in<'a>(report: &mut Output, lines: &'a [Line<'a>]) -> Vec<Event<'a>> {
+    let mut events = Vec::new(report.alloc());
+    for line in lines {
+        keep_event(report, &mut events, event_in(line));
+    }
+    events
+}
+
+fn keep_event<'a>(report: &mut Output, events: &mut Vec<Event<'a>>, event: Option<Event<'a>>) {
+    match event {
+        Some(event) => report.note(events.push(with_addresses(event)).is_ok()),
+        None => report.fail(ErrorKind::InvalidData),
+    }
 }
 
 /// The event; a request for a connection gets addresses of the greatest lengths.
@@ -166,11 +176,4 @@ fn apply_each(pair: &mut Pair, events: &[Event]) -> Option<RunError> {
         }
     }
     None
-}
-
-/// The state of two ends as octets, with each entry of their journal.
-fn all_of(alloc: Global, pair: &Pair) -> Result<Vec<u8>, AllocError> {
-    let mut out = state_of(alloc, pair)?;
-    push_entries(alloc, &mut out, "", calls::journal(pair))?;
-    Ok(out)
 }

@@ -1,6 +1,7 @@
 //! The ways in which a script is run.
 
-use std::alloc::{AllocError, Global};
+use crate::output::Output;
+use std::alloc::Global;
 
 /// One class at both ends, and octets carried all at once or one by one.
 #[derive(Clone, Copy)]
@@ -29,54 +30,48 @@ pub(crate) const WAYS: [Way; 4] = [
 ];
 
 /// A script rewritten for another way.
-pub(crate) fn script_in(alloc: Global, script: &str, way: Way) -> Result<String, AllocError> {
-    let mut lines = String::new(alloc);
-    push_all_in(&mut lines, script, way)?;
-    Ok(lines)
+pub(crate) fn script_in(alloc: Global, script: &str, way: Way) -> Output {
+    let mut out = Output::new(alloc);
+    push_all_in(&mut out, script, way);
+    out
 }
 
-fn push_all_in(out: &mut String, script: &str, way: Way) -> Result<(), AllocError> {
+fn push_all_in(out: &mut Output, script: &str, way: Way) {
     for line in script.lines() {
-        push_in(out, line, way)?;
+        push_in(out, line, way);
     }
-    Ok(())
 }
 
-fn push_in(out: &mut String, line: &str, way: Way) -> Result<(), AllocError> {
+fn push_in(out: &mut Output, line: &str, way: Way) {
     if line.starts_with("ends ") {
-        return push(out, way.ends, 1);
-    }
-    if !way.is_slow || !line.starts_with("carry ") {
-        return push(out, line, 1);
-    }
-    if line.starts_with("carry left ") {
-        push(out, "carry left 1", 400)
+        out.push(way.ends);
+    } else if !way.is_slow || !line.starts_with("carry ") {
+        out.push(line);
+    } else if line.starts_with("carry left ") {
+        push_often(out, "carry left 1");
     } else {
-        push(out, "carry right 1", 400)
+        push_often(out, "carry right 1");
     }
 }
 
-/// Adds a line, this many times.
-fn push(out: &mut String, line: &str, times: u16) -> Result<(), AllocError> {
-    for _ in 0..times {
-        out.push_str(line)?;
-        out.push('\n')?;
+/// Adds a line as often as a side may have octets to carry.
+fn push_often(out: &mut Output, line: &str) {
+    for _ in 0..400u16 {
+        out.push(line);
     }
-    Ok(())
 }
 
 /// A transcript without the lines that say how many octets were carried.
-pub(crate) fn counts_left_out(alloc: Global, transcript: &str) -> Result<String, AllocError> {
-    let mut lines = String::new(alloc);
-    push_others(&mut lines, transcript)?;
-    Ok(lines)
+pub(crate) fn counts_left_out(alloc: Global, transcript: &str) -> Output {
+    let mut out = Output::new(alloc);
+    push_others(&mut out, transcript);
+    out
 }
 
-fn push_others(out: &mut String, transcript: &str) -> Result<(), AllocError> {
+fn push_others(out: &mut Output, transcript: &str) {
     for line in transcript.lines() {
         if !line.contains(" carried ") {
-            push(out, line, 1)?;
+            out.push(line);
         }
     }
-    Ok(())
 }

@@ -1,6 +1,8 @@
 //! Captures of one connection of class 0, whose outcome was worked out by hand. Each is fed in the pieces given here,
 //! and octet by octet.
 
+use crate::checks::{Checks, OUT_OF_MEMORY};
+use crate::sessions::cut;
 use osi_judge::{Direction, Finding, Judge, Stop};
 use std::alloc::Global;
 use std::test::Fail;
@@ -74,6 +76,7 @@ struct Capture {
 
 const KEPT: Finding = Finding::Kept;
 
+/// Captures in which the transport is right.
 const CAPTURES: &[Capture] = &[
     // a token that was given
     Capture {
@@ -140,6 +143,10 @@ const CAPTURES: &[Capture] = &[
         first: Some(Right),
         stopped: None,
     },
+];
+
+/// Captures in which the transport is looked at, too.
+const TRANSPORT_CAPTURES: &[Capture] = &[
     // no packet
     Capture {
         pieces: &[
@@ -194,24 +201,28 @@ const CAPTURES: &[Capture] = &[
     },
 ];
 
-fn feed(judge: &mut Judge, direction: Direction, octets: &[u8]) -> Result<(), Fail> {
-    let mut rest = octets;
-    'octets: for _octet in octets {
-        if rest.is_empty() {
-            return Ok(());
+/// How many octets a judge takes, all of them if memory runs out.
+fn taken(checks: &Checks, judge: &mut Judge, direction: Direction, octets: &[u8]) -> usize {
+    match judge.feed(direction, octets) {
+        Ok(used) => used,
+        Err(_) => {
+            checks.fail(OUT_OF_MEMORY);
+            octets.len()
         }
-        let used = judge.feed(direction, rest)?;
-        let (_, behind) = rest.split_at(used);
-        rest = behind;
     }
-    Ok(())
 }
 
-fn feed_each(judge: &mut Judge, direction: Direction, octets: &[u8]) -> Result<(), Fail> {
-    for octet in octets {
-        feed(judge, direction, &[*octet])?;
+/// Feeds octets, at most this many at once.
+fn feed(checks: &Checks, judge: &mut Judge, direction: Direction, octets: &[u8], most: usize) {
+    let mut rest = octets;
+    for _octet in octets {
+        if rest.is_empty() {
+            return;
+        }
+        let (piece, _) = cut(rest, most);
+        let (_, behind) = cut(rest, taken(checks, judge, direction, piece));
+        rest = behind;
     }
-    Ok(())
 }
 
 fn stop_of(judge: &Judge) -> Option<Stop> {
@@ -221,39 +232,39 @@ fn stop_of(judge: &Judge) -> Option<Stop> {
     }
 }
 
-fn is_found(judge: &Judge, capture: &Capture) -> Result<(), Fail> {
-    if judge.finding(Left) != capture.left || judge.finding(Right) != capture.right {
-        return Err(Fail::from("something else is found"));
-    }
-    if judge.first() != capture.first {
-        return Err(Fail::from("another break is the first"));
-    }
-    if stop_of(judge) != capture.stopped {
-        return Err(Fail::from("left's transport stands otherwise"));
-    }
-    Ok(())
+/// Whether this is found of both sides.
+fn are_found(judge: &Judge, left: Finding, right: Finding) -> bool {
+    judge.finding(Left) == left && judge.finding(Right) == right
 }
 
-/// Feeds pieces of both sides, one after the other.
-fn feed_all(judge: &mut Judge, pieces: &[(Direction, &[u8])]) -> Result<(), Fail> {
+fn is_found(checks: &Checks, judge: &Judge, capture: &Capture) {
+    checks.that(
+        are_found(judge, capture.left, capture.right),
+        "something else is found",
+    );
+    checks.that(judge.first() == capture.first, "another break is the first");
+    checks.that(
+        stop_of(judge) == capture.stopped,
+        "left's transport stands otherwise",
+    );
+}
+
+/// Feeds pieces of both sides, one after the other, at most this many octets at once.
+fn feed_all(checks: &Checks, judge: &mut Judge, pieces: &[(Direction, &[u8])], most: usize) {
     for (direction, octets) in pieces {
-        feed(judge, *direction, *octets)?;
+        feed(checks, judge, *direction, *octets, most);
     }
-    Ok(())
 }
 
-/// Fed piece by piece.
-fn is_judged_whole(judge: &mut Judge, capture: &Capture) -> Result<(), Fail> {
-    feed_all(judge, capture.pieces)?;
-    is_found(judge, capture)
+/// A capture is judged if at most this many octets are fed at once.
+fn is_judged_in(checks: &Checks, judge: &mut Judge, capture: &Capture, most: usize) {
+    feed_all(checks, judge, capture.pieces, most);
+    is_found(checks, judge, capture);
 }
 
-/// Fed octet by octet.
-fn is_judged_each(judge: &mut Judge, capture: &Capture) -> Result<(), Fail> {
-    for (direction, octets) in capture.pieces {
-        feed_each(judge, *direction, *octets)?;
-    }
-    is_found(judge, capture)
+/// Left sends all these octets.
+fn feed_left(checks: &Checks, judge: &mut Judge, octets: &[u8]) {
+    feed(checks, judge, Left, octets, usize::MAX);
 }
 
 /// The header of a DT of 65,528 octets that does not end its TSDU.
@@ -263,82 +274,105 @@ const LAST_PART: &[u8] = &[0x03, 0x00, 0x00, 0x87, 0x02, 0xF0, 0x80];
 /// The units before the octets of data in a TSDU.
 const DATA_FRONT: &[u8] = &[0x01, 0x00, 0x01, 0x00];
 
+/// Left sends a packet of a part, with these octets.
+fn feed_part(checks: &Checks, judge: &mut Judge, header: &[u8], front: &[u8], octets: &[u8]) {
+    feed_left(checks, judge, header);
+    feed_left(checks, judge, front);
+    feed_left(checks, judge, octets);
+}
+
 /// Left sends a Data of 1,048,572 octets in 17 packets. The octets are 65,528.
-fn feed_the_longest(judge: &mut Judge, octets: &[u8]) -> Result<(), Fail> {
-    let (front, first) = octets.split_at_checked(4).ok_or("octets")?;
-    let (last, _) = octets.split_at_checked(128).ok_or("octets")?;
-    feed_all(judge, &[(Left, PART), (Left, DATA_FRONT), (Left, first)])?;
+fn feed_the_longest(checks: &Checks, judge: &mut Judge, octets: &[u8]) {
+    let (front, behind) = cut(octets, 4);
+    let (last, _) = cut(octets, 128);
+    feed_part(checks, judge, PART, DATA_FRONT, behind);
     for _ in 0..15u8 {
-        feed_all(judge, &[(Left, PART), (Left, front), (Left, first)])?;
+        feed_part(checks, judge, PART, front, behind);
     }
-    feed_all(judge, &[(Left, LAST_PART), (Left, last)])
+    feed_part(checks, judge, LAST_PART, &[], last);
 }
 
 /// Left sends a thousand Data of four octets.
-fn feed_a_thousand(judge: &mut Judge) -> Result<(), Fail> {
+fn feed_a_thousand(checks: &Checks, judge: &mut Judge) {
     for _ in 0..1000u16 {
-        feed(judge, Left, DT)?;
+        feed_left(checks, judge, DT);
     }
-    Ok(())
 }
 
-/// Both sides kept the protocol, and left said this many TSDUs.
-fn is_kept(judge: &Judge, told: usize) -> Result<(), Fail> {
-    if judge.finding(Left) != KEPT || judge.finding(Right) != KEPT {
-        return Err(Fail::from("something else is found"));
-    }
-    if judge.side(Left).told() != told || judge.side(Right).heard() != told {
-        return Err(Fail::from("another number of TSDUs"));
-    }
-    Ok(())
+/// Whether both sides kept the protocol, and left said this many TSDUs.
+fn is_kept(judge: &Judge, told: usize) -> bool {
+    are_found(judge, KEPT, KEPT)
+        && judge.side(Left).told() == told
+        && judge.side(Right).heard() == told
 }
 
-fn a_long_capture_goes_on(judge: &mut Judge, octets: &[u8]) -> Result<(), Fail> {
-    feed_all(judge, &[(Left, CR), (Right, CC), (Left, CN), (Right, AC)])?;
-    feed_a_thousand(judge)?;
-    feed_the_longest(judge, octets)?;
-    is_kept(judge, 1002)
+/// How a connection begins.
+const OPENING: &[(Direction, &[u8])] = &[(Left, CR), (Right, CC), (Left, CN), (Right, AC)];
+
+fn a_long_capture_goes_on(checks: &Checks, judge: &mut Judge, octets: &[u8]) {
+    feed_all(checks, judge, OPENING, usize::MAX);
+    feed_a_thousand(checks, judge);
+    feed_the_longest(checks, judge, octets);
+    checks.that(
+        is_kept(judge, 1002),
+        "something else or another number of TSDUs is found",
+    );
 }
 
 /// What a judge is fed.
 #[derive(Clone, Copy)]
 enum Fed<'a> {
-    /// A capture, in the pieces given.
-    Whole(&'a Capture),
-    /// A capture, octet by octet.
-    Each(&'a Capture),
+    /// A capture, at most this many octets at once.
+    Capture(&'a Capture, usize),
     /// A long capture; the octets are 65,528.
     Long(&'a [u8]),
 }
 
-fn is_judged(judge: &mut Judge, fed: Fed) -> Result<(), Fail> {
+fn is_judged(checks: &Checks, judge: &mut Judge, fed: Fed) {
     match fed {
-        Fed::Whole(capture) => is_judged_whole(judge, capture),
-        Fed::Each(capture) => is_judged_each(judge, capture),
-        Fed::Long(octets) => a_long_capture_goes_on(judge, octets),
+        Fed::Capture(capture, most) => is_judged_in(checks, judge, capture, most),
+        Fed::Long(octets) => a_long_capture_goes_on(checks, judge, octets),
     }
 }
 
-fn judge(alloc: Global) -> Result<Judge, Fail> {
-    Ok(Judge::new(alloc)?)
+/// What a fresh judge finds. This function owns it.
+fn judged(checks: &Checks, alloc: Global, fed: Fed) {
+    match Judge::new(alloc) {
+        Ok(mut judge) => is_judged(checks, &mut judge, fed),
+        Err(_) => checks.fail(OUT_OF_MEMORY),
+    }
 }
 
-/// What a fresh judge finds. This function owns it.
-fn judged(alloc: Global, fed: Fed) -> Result<(), Fail> {
-    is_judged(&mut judge(alloc)?, fed)
+/// Each is fed in the pieces given, and octet by octet.
+fn captures_are_judged(checks: &Checks, alloc: Global, captures: &[Capture]) {
+    for capture in captures {
+        judged(checks, alloc, Fed::Capture(capture, usize::MAX));
+        judged(checks, alloc, Fed::Capture(capture, 1));
+    }
+}
+
+// One function for each table: what a function costs to prove grows faster than the tables in it.
+
+fn sessions_are_judged(checks: &Checks, alloc: Global) {
+    captures_are_judged(checks, alloc, CAPTURES);
+}
+
+fn transports_are_judged(checks: &Checks, alloc: Global) {
+    captures_are_judged(checks, alloc, TRANSPORT_CAPTURES);
 }
 
 #[test]
 fn a_capture_is_judged_in_any_pieces(rt: HostRuntime) -> Result<(), Fail> {
-    for capture in CAPTURES {
-        judged(rt.alloc(), Fed::Whole(capture))?;
-        judged(rt.alloc(), Fed::Each(capture))?;
-    }
-    Ok(())
+    let checks = Checks::new();
+    sessions_are_judged(&checks, rt.alloc());
+    transports_are_judged(&checks, rt.alloc());
+    checks.result()
 }
 
 #[test]
 fn a_long_capture_is_judged(rt: HostRuntime) -> Result<(), Fail> {
     let octets = vec![in rt.alloc(); 0x5A; 65_528]?;
-    judged(rt.alloc(), Fed::Long(octets.as_slice()))
+    let checks = Checks::new();
+    judged(&checks, rt.alloc(), Fed::Long(octets.as_slice()));
+    checks.result()
 }

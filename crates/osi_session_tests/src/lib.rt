@@ -5,6 +5,7 @@
 //! `osi_runs`. A session, a judge or a side of one has many parts. Each is owned by one function of its module, with one
 //! way out, and all others borrow it: so it is dropped in one place. The modules:
 //!
+//! - `checks`: what a test found;
 //! - `sessions`: plans, the greatest lengths of user data, a first part that is too long;
 //! - `sides`, `captures`: which side first broke the protocol; a long capture;
 //! - `stacks`: a selector that is too long, a called end that asks for a connection, two connections distinguished by
@@ -13,6 +14,8 @@
 
 #[cfg(test)]
 mod captures;
+#[cfg(test)]
+mod checks;
 #[cfg(test)]
 mod sessions;
 #[cfg(test)]

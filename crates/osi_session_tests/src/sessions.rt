@@ -1,8 +1,9 @@
 //! Sessions by themselves: plans, requests that change nothing, the greatest lengths, and that calls succeed if memory
 //! is ample.
 //!
-//! `caller_does` and `called_does` own the session of each test, and `takes` owns what a session returns.
+//! `opens_and_does` and `called_does` own the session of each test; `is_shown` and `is_answered` own what it returns.
 
+use crate::checks::{Checks, OUT_OF_MEMORY};
 use bitflags::Flags;
 use osi_message::{LentTsdus, Sent};
 use osi_session::*;
@@ -10,7 +11,7 @@ use osi_spdu::{
     Group, Requirements, Serial, Side, SpduFault, TokenSet, TokenSetting, TsduSizes, Wish,
     read_tsdu,
 };
-use std::alloc::Global;
+use std::alloc::{AllocError, Global};
 use std::test::Fail;
 
 pub(crate) const ASKER_WISHES: TokenSetting = TokenSetting {
@@ -42,6 +43,24 @@ const ACCEPT: [u8; 20] = [
     0x14, 0x02, 0x00, 0xB9,
 ];
 
+/// What was wrong if a call failed by this.
+pub(crate) fn failure(error: CallError) -> &'static str {
+    match error {
+        CallError::OutOfMemory => OUT_OF_MEMORY,
+        _ => "a call is refused",
+    }
+}
+
+/// A serial number.
+pub(crate) fn serial() -> Serial {
+    Serial::new(1).unwrap()
+}
+
+/// The first `count` octets, and the others.
+pub(crate) fn cut(octets: &[u8], count: usize) -> (&[u8], &[u8]) {
+    octets.split_at(count.min(octets.len()))
+}
+
 /// Whether these octets are sent, in one TSDU.
 fn is_one(sent: &Sent, wanted: &[u8]) -> bool {
     match sent.tsdus() {
@@ -50,10 +69,50 @@ fn is_one(sent: &Sent, wanted: &[u8]) -> bool {
     }
 }
 
-fn is_sent(sent: &Option<Sent>, wanted: &[u8]) -> Result<(), Fail> {
+fn is_sent(sent: &Option<Sent>, wanted: &[u8]) -> bool {
     match sent {
-        Some(sent) if is_one(sent, wanted) => Ok(()),
-        _ => Err(Fail::from("other octets are sent")),
+        Some(sent) => is_one(sent, wanted),
+        None => false,
+    }
+}
+
+fn length_in(sent: &Sent) -> usize {
+    match sent.tsdus() {
+        LentTsdus::One(tsdu) => tsdu.len(),
+        _ => 0,
+    }
+}
+
+/// What answers a call.
+#[derive(Clone, Copy)]
+enum Answer<'a> {
+    /// These octets are sent, in one TSDU.
+    Octets(&'a [u8]),
+    /// One TSDU of this many octets is sent.
+    Length(usize),
+    Refused(CallError),
+}
+
+fn is_right(sent: &Sent, wanted: Answer) -> bool {
+    match wanted {
+        Answer::Octets(octets) => is_one(sent, octets),
+        Answer::Length(length) => length_in(sent) == length,
+        Answer::Refused(_) => false,
+    }
+}
+
+fn is_refusal(error: CallError, wanted: Answer) -> bool {
+    match wanted {
+        Answer::Refused(refusal) => error == refusal,
+        _ => false,
+    }
+}
+
+/// This function owns the answer to a call.
+fn is_answered(checks: &Checks, answer: Result<Sent, CallError>, wanted: Answer) {
+    match &answer {
+        Ok(sent) => checks.that(is_right(sent, wanted), "something else is sent"),
+        Err(error) => checks.that(is_refusal(*error, wanted), failure(*error)),
     }
 }
 
@@ -62,12 +121,9 @@ fn call(session: &mut Session, request: Request) -> Result<Sent, CallError> {
     session.call(request)
 }
 
-/// A call of the user sends these octets.
-fn calls(session: &mut Session, request: Request, wanted: &[u8]) -> Result<(), Fail> {
-    if !is_one(&call(session, request)?, wanted) {
-        return Err(Fail::from("other octets are sent"));
-    }
-    Ok(())
+/// A call of the user is answered by this.
+fn calls(checks: &Checks, session: &mut Session, request: Request, wanted: Answer) {
+    is_answered(checks, call(session, request), wanted);
 }
 
 /// What arrives: the octets of a TSDU, the units of a TSDU, or octets with this fault.
@@ -89,15 +145,19 @@ enum Shown {
     UnknownUnit,
 }
 
-fn take_units(session: &mut Session, tsdu: &[u8]) -> Result<Taken, Fail> {
-    Ok(session.take(&read_tsdu(tsdu)?)?)
+/// Octets that are no units are taken as such.
+fn take_units(session: &mut Session, tsdu: &[u8]) -> Result<Taken, AllocError> {
+    match read_tsdu(tsdu) {
+        Ok(group) => session.take(&group),
+        Err(fault) => session.take_bad(fault),
+    }
 }
 
-fn take(session: &mut Session, arrived: Arrived) -> Result<Taken, Fail> {
+fn take(session: &mut Session, arrived: Arrived) -> Result<Taken, AllocError> {
     match arrived {
-        Arrived::Tsdu(tsdu) => Ok(session.take_tsdu(tsdu)?),
+        Arrived::Tsdu(tsdu) => session.take_tsdu(tsdu),
         Arrived::Units(tsdu) => take_units(session, tsdu),
-        Arrived::Bad(fault) => Ok(session.take_bad(fault)?),
+        Arrived::Bad(fault) => session.take_bad(fault),
     }
 }
 
@@ -116,46 +176,52 @@ fn is_abort(shown: &Option<Indication>, fault: UnitFault) -> bool {
     }
 }
 
-fn is_shown(taken: &Taken, shown: Shown) -> Result<(), Fail> {
+/// Whether this is shown of what arrived.
+fn shows(taken: &Taken, shown: Shown) -> bool {
     match shown {
-        Shown::Any => Ok(()),
-        Shown::TooLong if is_abort(&taken.first, UnitFault::DataTooLong(1)) => Ok(()),
-        Shown::UnknownUnit
-            if is_abort(&taken.first, UnitFault::Spelling(SpduFault::UnknownSi(0))) => is_sent(
-            &taken.reply,
-            &PROTOCOL_ERROR,
-        ),
-        _ => Err(Fail::from("another indication")),
+        Shown::Any => true,
+        Shown::TooLong => is_abort(&taken.first, UnitFault::DataTooLong(1)),
+        Shown::UnknownUnit => {
+            is_abort(&taken.first, UnitFault::Spelling(SpduFault::UnknownSi(0)))
+                && is_sent(&taken.reply, &PROTOCOL_ERROR)
+        }
     }
 }
 
-fn takes(session: &mut Session, arrived: Arrived, shown: Shown) -> Result<(), Fail> {
-    is_shown(&take(session, arrived)?, shown)
+/// This function owns what the session returned.
+fn is_shown(taken: Taken, shown: Shown) -> bool {
+    let is_met = shows(&taken, shown);
+    drop(taken);
+    is_met
+}
+
+fn takes(checks: &Checks, session: &mut Session, arrived: Arrived, shown: Shown) {
+    match take(session, arrived) {
+        Ok(taken) => checks.that(is_shown(taken, shown), "something else is shown or sent"),
+        Err(_) => checks.fail(OUT_OF_MEMORY),
+    }
 }
 
 /// The request for a connection.
-fn opening<'a>() -> Result<Opening<'a>, Fail> {
-    Ok(Opening {
+fn opening<'a>() -> Opening<'a> {
+    Opening {
         requirements: Requirements::from_bits_retain(ALL_UNITS),
-        serial: Serial::new(1).ok_or("a serial number")?,
+        serial: serial(),
         wishes: ASKER_WISHES,
         calling_selector: None,
         called_selector: None,
         sizes: TsduSizes::NONE,
         user_data: &[],
-    })
+    }
 }
 
 /// A session that asks for a connection.
-fn caller(alloc: Global) -> Result<Session, Fail> {
-    Ok(Session::caller(alloc, &opening()?)?)
+fn caller(alloc: Global) -> Result<Session, CallError> {
+    Session::caller(alloc, &opening())
 }
 
-fn holds(session: &Session, tokens: u8) -> Result<(), Fail> {
-    if session.held().bits() != tokens {
-        return Err(Fail::from("other tokens"));
-    }
-    Ok(())
+fn holds(session: &Session, tokens: u8) -> bool {
+    session.held().bits() == tokens
 }
 
 /// A GT that gives the data token.
@@ -168,20 +234,24 @@ fn plans(left: &Session) -> Result<Plan, CallError> {
     })
 }
 
+/// The plan is to send a GT, and no token is given before it is committed.
+fn is_planned(left: &Session, plan: &Plan) -> bool {
+    is_one(plan.sent(), &GIVES) && holds(left, 0x55)
+}
+
 /// Commits the plan, and sends its unit.
-fn commits(left: &mut Session, plan: Plan) -> Result<(), Fail> {
+fn commits(left: &mut Session, plan: Plan) -> bool {
     is_sent(&left.commit(plan), &GIVES)
 }
 
-/// A GT would be sent, and no token is given before the plan is committed.
-fn plan_goes_on(left: &mut Session) -> Result<(), Fail> {
-    let plan = plans(left)?;
-    let is_planned = is_one(plan.sent(), &GIVES) && left.held().bits() == 0x55;
-    commits(left, plan)?;
-    if !is_planned {
-        return Err(Fail::from("a plan changes something"));
+fn plan_goes_on(checks: &Checks, left: &mut Session) {
+    match plans(left) {
+        Ok(plan) => {
+            checks.that(is_planned(left, &plan), "a plan changes something");
+            checks.that(commits(left, plan), "other octets are sent");
+        }
+        Err(error) => checks.fail(failure(error)),
     }
-    Ok(())
 }
 
 /// Data is sent, which changes nothing.
@@ -189,33 +259,28 @@ fn sends_data(left: &Session, user_data: &[u8]) -> Result<Sent, CallError> {
     left.call_data(user_data)
 }
 
-fn data_goes_on(left: &Session) -> Result<(), Fail> {
-    if !is_one(
-        &sends_data(left, b"abc")?,
-        &[0x01, 0x00, 0x01, 0x00, 0x61, 0x62, 0x63],
-    ) {
-        return Err(Fail::from("other octets are sent"));
+/// A DT with three octets.
+const DATA: [u8; 7] = [0x01, 0x00, 0x01, 0x00, 0x61, 0x62, 0x63];
+
+fn data_goes_on(checks: &Checks, left: &Session) {
+    is_answered(checks, sends_data(left, b"abc"), Answer::Octets(&DATA));
+}
+
+fn gives_a_token(checks: &Checks, left: &mut Session) {
+    data_goes_on(checks, left);
+    plan_goes_on(checks, left);
+    checks.that(holds(left, 0x54), "other tokens");
+}
+
+/// The head of whole data.
+const DATA_HEAD: &[u8] = &[0x01, 0x00, 0x01, 0x00];
+
+/// Whether data goes in one TSDU, after the head of whole data.
+fn keeps_data_whole(left: &Session) -> bool {
+    match left.data_parts(b"abc") {
+        Ok(parts) => parts.last == DATA_HEAD,
+        Err(_) => false,
     }
-    Ok(())
-}
-
-fn gives_a_token(left: &mut Session) -> Result<(), Fail> {
-    data_goes_on(left)?;
-    plan_goes_on(left)?;
-    holds(left, 0x54)
-}
-
-/// How data is cut.
-fn cuts_data(left: &Session, user_data: &[u8]) -> Result<DataParts, CallError> {
-    left.data_parts(user_data)
-}
-
-/// Data goes in one TSDU, after the head of whole data.
-fn data_stays_whole(left: &Session) -> Result<(), Fail> {
-    if cuts_data(left, b"abc")?.last != [0x01, 0x00, 0x01, 0x00].as_slice() {
-        return Err(Fail::from("another head"));
-    }
-    Ok(())
 }
 
 /// A minor point is planned.
@@ -231,75 +296,38 @@ fn goes_on(left: &mut Session, point: SentPoint) -> bool {
 /// MIP with number 1, which asks for its confirmation.
 const POINT: [u8; 7] = [0x01, 0x00, 0x31, 0x03, 0x2A, 0x01, 0x31];
 
-/// The planned point is sent in this unit.
-fn sent_point(plan: &PlannedPoint) -> Result<SentPoint, Fail> {
-    if !is_one(&plan.sent, &POINT) {
-        return Err(Fail::from("another point"));
+/// The planned point is sent in this unit, and the session continues after it once; after that the plan is stale.
+fn goes_on_after(left: &mut Session, plan: &PlannedPoint) -> bool {
+    is_one(&plan.sent, &POINT)
+        && goes_on(left, plan.point)
+        && !goes_on(left, plan.point)
+        && left.next_serial() == 2
+}
+
+fn goes_on_once(checks: &Checks, left: &mut Session) {
+    match plans_point(left) {
+        Ok(plan) => checks.that(
+            goes_on_after(left, &plan),
+            "the session does not go on once",
+        ),
+        Err(error) => checks.fail(failure(error)),
     }
-    Ok(plan.point)
-}
-
-fn sends_point(left: &Session) -> Result<SentPoint, Fail> {
-    sent_point(&plans_point(left)?)
-}
-
-/// The point is sent, and the session continues after it once; after that the plan is stale.
-fn goes_on_once(left: &mut Session) -> Result<(), Fail> {
-    let point = sends_point(left)?;
-    if !goes_on(left, point) || goes_on(left, point) || left.next_serial() != 2 {
-        return Err(Fail::from("the session does not go on once"));
-    }
-    Ok(())
-}
-
-fn length_in(sent: &Sent) -> usize {
-    match sent.tsdus() {
-        LentTsdus::One(tsdu) => tsdu.len(),
-        _ => 0,
-    }
-}
-
-/// The length of the TSDU in which a request is sent, if it is one TSDU.
-fn length_of(session: &mut Session, request: Request) -> Result<usize, CallError> {
-    Ok(length_in(&call(session, request)?))
-}
-
-/// A request is sent in one TSDU of this many octets, or refused.
-fn has_length(
-    session: &mut Session,
-    request: Request,
-    wanted: Result<usize, CallError>,
-) -> Result<(), Fail> {
-    match (length_of(session, request), wanted) {
-        (Ok(found), Ok(length)) if found == length => Ok(()),
-        (Err(found), Err(error)) if found == error => Ok(()),
-        (Err(found), Ok(_)) => Err(Fail::from(found)),
-        _ => Err(Fail::from("another answer")),
-    }
-}
-
-/// The first `count` octets, and the others.
-fn cut(octets: &[u8], count: usize) -> Result<(&[u8], &[u8]), Fail> {
-    Ok(octets.split_at_checked(count).ok_or("too few octets")?)
 }
 
 /// The octets are one more than the greatest length of data.
-fn lengths_go_on(left: &mut Session, octets: &[u8]) -> Result<(), Fail> {
-    let (too_long, _) = cut(octets, 10_241)?;
-    let (_, longest) = cut(octets, 1)?;
-    has_length(
+fn lengths_go_on(checks: &Checks, left: &mut Session, octets: &[u8]) {
+    let (user_data, _) = cut(octets, 10_241);
+    let (_, longest) = cut(octets, 1);
+    let abort = Request::Abort { user_data };
+    let too_long = Answer::Refused(CallError::TooLong);
+    calls(checks, left, Request::Data { user_data: octets }, too_long);
+    calls(checks, left, abort, too_long);
+    calls(
+        checks,
         left,
-        Request::Data { user_data: octets },
-        Err(CallError::TooLong),
-    )?;
-    has_length(
-        left,
-        Request::Abort {
-            user_data: too_long,
-        },
-        Err(CallError::TooLong),
-    )?;
-    has_length(left, Request::Data { user_data: longest }, Ok(1_048_576))
+        Request::Data { user_data: longest },
+        Answer::Length(1_048_576),
+    );
 }
 
 /// What a calling session does once it is connected.
@@ -313,30 +341,45 @@ enum Calling<'a> {
     SendLongest(&'a [u8]),
 }
 
-/// The CN is sent, and the AC arrives; all tokens are held.
-fn is_connected(left: &mut Session) -> Result<(), Fail> {
-    is_sent(&left.opened(), &CONNECT)?;
-    takes(left, Arrived::Tsdu(&ACCEPT), Shown::Any)?;
-    holds(left, 0x55)
+fn sends_its_cn(left: &mut Session) -> bool {
+    is_sent(&left.opened(), &CONNECT)
 }
 
-fn connects_and_does(left: &mut Session, what: Calling) -> Result<(), Fail> {
-    is_connected(left)?;
+/// The CN is sent, and the AC arrives; all tokens are held.
+fn is_connected(checks: &Checks, left: &mut Session) {
+    checks.that(sends_its_cn(left), "another CN is sent");
+    takes(checks, left, Arrived::Tsdu(&ACCEPT), Shown::Any);
+    checks.that(holds(left, 0x55), "other tokens");
+}
+
+fn is_aborted(checks: &Checks, left: &mut Session) {
+    let unknown = Arrived::Bad(SpduFault::UnknownSi(0));
+    takes(checks, left, unknown, Shown::UnknownUnit);
+}
+
+fn connects_and_does(checks: &Checks, left: &mut Session, what: Calling) {
+    is_connected(checks, left);
     match what {
-        Calling::GiveAToken => gives_a_token(left),
-        Calling::KeepDataWhole => data_stays_whole(left),
-        Calling::GoOnOnce => goes_on_once(left),
-        Calling::RefuseOctets => takes(
-            left,
-            Arrived::Bad(SpduFault::UnknownSi(0)),
-            Shown::UnknownUnit,
-        ),
-        Calling::SendLongest(octets) => lengths_go_on(left, octets),
+        Calling::GiveAToken => gives_a_token(checks, left),
+        Calling::KeepDataWhole => checks.that(keeps_data_whole(left), "data is cut"),
+        Calling::GoOnOnce => goes_on_once(checks, left),
+        Calling::RefuseOctets => is_aborted(checks, left),
+        Calling::SendLongest(octets) => lengths_go_on(checks, left, octets),
+    }
+}
+
+/// This function owns the session.
+fn opens_and_does(checks: &Checks, alloc: Global, what: Calling) {
+    match caller(alloc) {
+        Ok(mut left) => connects_and_does(checks, &mut left, what),
+        Err(error) => checks.fail(failure(error)),
     }
 }
 
 fn caller_does(alloc: Global, what: Calling) -> Result<(), Fail> {
-    connects_and_does(&mut caller(alloc)?, what)
+    let checks = Checks::new();
+    opens_and_does(&checks, alloc, what);
+    checks.result()
 }
 
 #[test]
@@ -359,41 +402,32 @@ fn octets_that_are_no_units_are_answered_by_an_abort(rt: HostRuntime) -> Result<
     caller_does(rt.alloc(), Calling::RefuseOctets)
 }
 
-/// This many octets.
-fn octets(alloc: Global, count: usize) -> Result<Vec<u8>, Fail> {
-    let octets = vec![in alloc; 0u8; count]?;
-    Ok(octets)
-}
-
 #[test]
 fn data_has_a_greatest_length(rt: HostRuntime) -> Result<(), Fail> {
-    let octets = octets(rt.alloc(), 1_048_573)?;
+    let octets = vec![in rt.alloc(); 0u8; 1_048_573]?;
     caller_does(rt.alloc(), Calling::SendLongest(octets.as_slice()))
 }
 
-fn accepts(right: &mut Session) -> Result<(), Fail> {
+fn accepts(checks: &Checks, right: &mut Session) {
     let accept = Request::Accept {
         requirements: Requirements::from_bits_retain(ALL_UNITS),
-        serial: Serial::new(1).ok_or("a serial number")?,
+        serial: serial(),
         sides: ASKER_SIDES,
         sizes: TsduSizes::NONE,
         user_data: &[],
     };
-    calls(right, accept, &ACCEPT)
+    calls(checks, right, accept, Answer::Octets(&ACCEPT));
 }
 
-fn is_over(right: &Session) -> Result<(), Fail> {
-    if right.joined() != 0 || right.phase() != Phase::Aborting {
-        return Err(Fail::from("another phase"));
-    }
-    Ok(())
+fn is_over(right: &Session) -> bool {
+    right.joined() == 0 && right.phase() == Phase::Aborting
 }
 
 /// The connection is accepted, and then a first part of data arrives that is too long.
-fn begins_too_long(right: &mut Session, part: &[u8]) -> Result<(), Fail> {
-    accepts(right)?;
-    takes(right, Arrived::Tsdu(part), Shown::TooLong)?;
-    is_over(right)
+fn begins_too_long(checks: &Checks, right: &mut Session, part: &[u8]) {
+    accepts(checks, right);
+    takes(checks, right, Arrived::Tsdu(part), Shown::TooLong);
+    checks.that(is_over(right), "the session is not over");
 }
 
 /// What a called session does after the CN arrived.
@@ -405,32 +439,41 @@ enum Called<'a> {
     Refuse(Refusal<'a>, &'a [u8]),
 }
 
-fn is_asked_and_does(right: &mut Session, what: Called) -> Result<(), Fail> {
-    takes(right, Arrived::Units(&CONNECT), Shown::Any)?;
+fn is_asked_and_does(checks: &Checks, right: &mut Session, what: Called) {
+    takes(checks, right, Arrived::Units(&CONNECT), Shown::Any);
     match what {
-        Called::TakeTooLong(part) => begins_too_long(right, part),
-        Called::Refuse(refusal, wanted) => calls(right, Request::Refuse { refusal }, wanted),
+        Called::TakeTooLong(part) => begins_too_long(checks, right, part),
+        Called::Refuse(refusal, wanted) => {
+            calls(
+                checks,
+                right,
+                Request::Refuse { refusal },
+                Answer::Octets(wanted),
+            )
+        }
     }
 }
 
-fn called_does(alloc: Global, what: Called) -> Result<(), Fail> {
-    is_asked_and_does(&mut Session::called(alloc), what)
+fn called_does(checks: &Checks, alloc: Global, what: Called) {
+    is_asked_and_does(checks, &mut Session::called(alloc), what);
 }
 
-/// A first part of data of one octet more than the greatest length.
-fn part(alloc: Global) -> Result<Vec<u8>, Fail> {
-    let mut part = Vec::new(alloc);
-    part.extend_from_slice(&[0x01, 0x00, 0x01, 0x03, 0x19, 0x01, 0x01])?;
-    for _ in 0..1_048_573 {
-        part.push(0x41)?;
+/// The head of a first part of data of one octet more than the greatest length.
+const PART_HEAD: [u8; 7] = [0x01, 0x00, 0x01, 0x03, 0x19, 0x01, 0x01];
+
+fn begin_part(part: &mut [u8]) {
+    if let Some(head) = part.first_chunk_mut() {
+        *head = PART_HEAD;
     }
-    Ok(part)
 }
 
 #[test]
 fn a_part_of_data_may_be_too_long(rt: HostRuntime) -> Result<(), Fail> {
-    let part = part(rt.alloc())?;
-    called_does(rt.alloc(), Called::TakeTooLong(part.as_slice()))
+    let mut part = vec![in rt.alloc(); 0x41u8; 1_048_580]?;
+    begin_part(part.as_mut_slice());
+    let checks = Checks::new();
+    called_does(&checks, rt.alloc(), Called::TakeTooLong(part.as_slice()));
+    checks.result()
 }
 
 /// A refusal, and the RF that it sends.
@@ -453,10 +496,15 @@ const REFUSALS: [(Refusal<'static>, &[u8]); 4] = [
     ),
 ];
 
+fn refusals_are_sent(checks: &Checks, alloc: Global) {
+    for (refusal, wanted) in REFUSALS {
+        called_does(checks, alloc, Called::Refuse(refusal, wanted));
+    }
+}
+
 #[test]
 fn a_refusal_says_why(rt: HostRuntime) -> Result<(), Fail> {
-    for (refusal, wanted) in REFUSALS {
-        called_does(rt.alloc(), Called::Refuse(refusal, wanted))?;
-    }
-    Ok(())
+    let checks = Checks::new();
+    refusals_are_sent(&checks, rt.alloc());
+    checks.result()
 }

@@ -1,7 +1,8 @@
 //! Which side of a connection first broke the protocol: runs whose outcome was worked out by hand. In most of them each
 //! TSDU arrives before the next is sent.
 
-use osi_judge::{Finding, Side};
+use crate::checks::{Checks, OUT_OF_MEMORY};
+use osi_judge::{Finding, Side, TellError};
 use std::alloc::Global;
 use std::test::Fail;
 
@@ -89,7 +90,8 @@ type Run = (&'static [(Who, &'static [u8])], Finding, Finding);
 
 const KEPT: Finding = Finding::Kept;
 
-const RUNS: &[Run] = &[
+/// Tokens that move.
+const TOKEN_RUNS: &[Run] = &[
     // the data token is given, and its new holder sends data
     (
         &[(Left, CN), (Right, AC), (Left, GT), (Right, DT)],
@@ -121,6 +123,10 @@ const RUNS: &[Run] = &[
         Finding::Broke(1),
     ),
     (&[(Left, CN), (Right, OTHER_AC)], KEPT, Finding::Broke(0)),
+];
+
+/// Restarts, and points confirmed again after one.
+const RESTART_RUNS: &[Run] = &[
     // restarts that cross: the lower number wins
     (
         &[
@@ -169,6 +175,10 @@ const RUNS: &[Run] = &[
         Finding::Broke(5),
         KEPT,
     ),
+];
+
+/// Points that are not allowed, and aborts.
+const ABORT_RUNS: &[Run] = &[
     // a point with a wrong number
     (
         &[(Left, CN), (Right, AC), (Left, MIP_2)],
@@ -203,6 +213,10 @@ const RUNS: &[Run] = &[
         KEPT,
         KEPT,
     ),
+];
+
+/// Releases, units in one TSDU, and octets that are no units.
+const OTHER_RUNS: &[Run] = &[
     // data after a release that was asked for
     (
         &[(Left, CN), (Right, AC), (Left, FN), (Left, DT), (Right, NF)],
@@ -240,50 +254,46 @@ const RUNS: &[Run] = &[
 ];
 
 /// A side sends a TSDU, when all but this many of those sent to it had arrived.
-fn says(side: &mut Side, missed: usize, tsdu: &[u8]) -> Result<(), Fail> {
-    let Some(before) = side.heard().checked_sub(missed) else {
-        return Err(Fail::from("a TSDU passes too early"));
-    };
-    side.tell(tsdu, before)?;
-    Ok(())
-}
-
-fn hears(side: &mut Side, tsdu: &[u8]) -> Result<(), Fail> {
-    side.hear(tsdu)?;
-    Ok(())
-}
-
-fn passes(left: &mut Side, right: &mut Side, who: Who, tsdu: &[u8]) -> Result<(), Fail> {
-    match who {
-        Who::Left => {
-            says(left, 0, tsdu)?;
-            hears(right, tsdu)
-        }
-        Who::Right => {
-            says(right, 0, tsdu)?;
-            hears(left, tsdu)
-        }
-        Who::RightEarly => {
-            says(right, 1, tsdu)?;
-            hears(left, tsdu)
-        }
+fn says(checks: &Checks, side: &mut Side, missed: usize, tsdu: &[u8]) {
+    let heard = side.heard();
+    checks.that(missed <= heard, "a TSDU passes too early");
+    match side.tell(tsdu, heard.saturating_sub(missed)) {
+        Ok(()) => {}
+        Err(TellError::OutOfMemory) => checks.fail(OUT_OF_MEMORY),
+        Err(TellError::OutOfOrder) => checks.fail("a TSDU is out of its order"),
     }
 }
 
-fn is_found(side: &Side, wanted: Finding) -> Result<(), Fail> {
-    if side.finding() != wanted {
-        return Err(Fail::from("something else is found"));
-    }
-    Ok(())
+/// Whether a side takes a TSDU that it is sent: memory may run out.
+fn hears(side: &mut Side, tsdu: &[u8]) -> bool {
+    side.hear(tsdu).is_ok()
+}
+
+/// A TSDU passes, when all but this many of those in the other direction had arrived.
+fn passes(checks: &Checks, from: &mut Side, to: &mut Side, missed: usize, tsdu: &[u8]) {
+    says(checks, from, missed, tsdu);
+    checks.that(hears(to, tsdu), OUT_OF_MEMORY);
+}
+
+fn is_found(side: &Side, wanted: Finding) -> bool {
+    side.finding() == wanted
 }
 
 /// What passes between two sides.
-fn passes_all(left: &mut Side, right: &mut Side, run: &Run) -> Result<(), Fail> {
-    for (who, tsdu) in run.0 {
-        passes(left, right, *who, *tsdu)?;
+fn passes_all(checks: &Checks, left: &mut Side, right: &mut Side, tsdus: &[(Who, &[u8])]) {
+    for (who, tsdu) in tsdus {
+        match who {
+            Left => passes(checks, left, right, 0, *tsdu),
+            Right => passes(checks, right, left, 0, *tsdu),
+            RightEarly => passes(checks, right, left, 1, *tsdu),
+        }
     }
-    is_found(left, run.1)?;
-    is_found(right, run.2)
+}
+
+fn is_run(checks: &Checks, left: &mut Side, right: &mut Side, run: &Run) {
+    passes_all(checks, left, right, run.0);
+    checks.that(is_found(left, run.1), "something else is found of left");
+    checks.that(is_found(right, run.2), "something else is found of right");
 }
 
 /// Data with other octets, and with more of them.
@@ -307,14 +317,12 @@ const ROWS: &[(&[&[u8]], usize)] = &[
     (&[GT_AND_DT, GT_AND_DT, GT, DT], 3),
 ];
 
-fn is_kept(side: &mut Side, tsdus: &[&[u8]], wanted: usize) -> Result<(), Fail> {
+fn is_kept(checks: &Checks, side: &mut Side, tsdus: &[&[u8]], wanted: usize) {
     for tsdu in tsdus {
-        hears(side, *tsdu)?;
+        checks.that(hears(side, *tsdu), OUT_OF_MEMORY);
     }
-    if side.kept() != wanted || side.heard() != tsdus.len() {
-        return Err(Fail::from("another number is kept"));
-    }
-    Ok(())
+    checks.that(side.kept() == wanted, "another number is kept");
+    checks.that(side.heard() == tsdus.len(), "another number is heard");
 }
 
 /// What a calling side is judged by: a run, or TSDUs in a row that it is sent, and how many of them are kept.
@@ -324,43 +332,72 @@ enum Case<'a> {
     Row(&'a [&'a [u8]], usize),
 }
 
-fn called(alloc: Global) -> Result<Side, Fail> {
-    Ok(Side::called(alloc)?)
-}
-
 /// This function owns the called side.
-fn run_with(alloc: Global, left: &mut Side, run: &Run) -> Result<(), Fail> {
-    passes_all(left, &mut called(alloc)?, run)
-}
-
-fn is_judged(alloc: Global, left: &mut Side, what: Case) -> Result<(), Fail> {
-    match what {
-        Case::Run(run) => run_with(alloc, left, run),
-        Case::Row(tsdus, wanted) => is_kept(left, tsdus, wanted),
+fn run_with(checks: &Checks, alloc: Global, left: &mut Side, run: &Run) {
+    match Side::called(alloc) {
+        Ok(mut right) => is_run(checks, left, &mut right, run),
+        Err(_) => checks.fail(OUT_OF_MEMORY),
     }
 }
 
-fn caller(alloc: Global) -> Result<Side, Fail> {
-    Ok(Side::caller(alloc)?)
+fn is_judged(checks: &Checks, alloc: Global, left: &mut Side, what: Case) {
+    match what {
+        Case::Run(run) => run_with(checks, alloc, left, run),
+        Case::Row(tsdus, wanted) => is_kept(checks, left, tsdus, wanted),
+    }
 }
 
 /// This function owns the calling side.
-fn judged(alloc: Global, what: Case) -> Result<(), Fail> {
-    is_judged(alloc, &mut caller(alloc)?, what)
+fn judged(checks: &Checks, alloc: Global, what: Case) {
+    match Side::caller(alloc) {
+        Ok(mut left) => is_judged(checks, alloc, &mut left, what),
+        Err(_) => checks.fail(OUT_OF_MEMORY),
+    }
+}
+
+fn runs_are_judged(checks: &Checks, alloc: Global, runs: &[Run]) {
+    for run in runs {
+        judged(checks, alloc, Case::Run(run));
+    }
+}
+
+// One function for each table: what a function costs to prove grows faster than the tables in it.
+
+fn tokens_are_judged(checks: &Checks, alloc: Global) {
+    runs_are_judged(checks, alloc, TOKEN_RUNS);
+}
+
+fn restarts_are_judged(checks: &Checks, alloc: Global) {
+    runs_are_judged(checks, alloc, RESTART_RUNS);
+}
+
+fn aborts_are_judged(checks: &Checks, alloc: Global) {
+    runs_are_judged(checks, alloc, ABORT_RUNS);
+}
+
+fn others_are_judged(checks: &Checks, alloc: Global) {
+    runs_are_judged(checks, alloc, OTHER_RUNS);
 }
 
 #[test]
 fn who_says_what_no_session_could_is_found(rt: HostRuntime) -> Result<(), Fail> {
-    for run in RUNS {
-        judged(rt.alloc(), Case::Run(run))?;
+    let checks = Checks::new();
+    tokens_are_judged(&checks, rt.alloc());
+    restarts_are_judged(&checks, rt.alloc());
+    aborts_are_judged(&checks, rt.alloc());
+    others_are_judged(&checks, rt.alloc());
+    checks.result()
+}
+
+fn rows_are_judged(checks: &Checks, alloc: Global) {
+    for (tsdus, wanted) in ROWS {
+        judged(checks, alloc, Case::Row(*tsdus, *wanted));
     }
-    Ok(())
 }
 
 #[test]
 fn what_differs_in_user_data_alone_is_kept_once(rt: HostRuntime) -> Result<(), Fail> {
-    for (tsdus, wanted) in ROWS {
-        judged(rt.alloc(), Case::Row(*tsdus, *wanted))?;
-    }
-    Ok(())
+    let checks = Checks::new();
+    rows_are_judged(&checks, rt.alloc());
+    checks.result()
 }

@@ -1,10 +1,12 @@
 //! Carriers: cases that no whole end shows (an end of neither class, all references, sending if nothing is open), and
 //! that calls succeed if memory is ample.
 //!
-//! Each test is a list of steps of one carrier, which `end_does` owns.
+//! Each test is a list of steps of one carrier, which `fresh_goes` owns.
 
 ghost use Rattle.std.specs.Prelude.{◌<◌};
 
+use crate::checks::{Checks, OUT_OF_MEMORY};
+use crate::sending::{Sending, is_answered, sends};
 use osi_carrier::*;
 use osi_class::{LinkFault, Local};
 use osi_tpdu::{SizeCode, Window};
@@ -22,27 +24,6 @@ pub(crate) enum Told {
     Faulted,
     /// A TSDU arrived on the first.
     Tsdu(&'static [u8]),
-}
-
-/// TSDUs that are sent on connection 1.
-#[derive(Clone, Copy)]
-pub(crate) enum Sending {
-    /// These octets, or they are refused with this error.
-    One(&'static [u8], Option<SendError>),
-    /// This many octets, or they are refused with this error.
-    Long(usize, Option<SendError>),
-    /// These octets, given away.
-    Owned(&'static [u8]),
-    /// This many octets, given away.
-    OwnedLong(usize),
-    /// Five TSDUs of one octet, in one call.
-    Five,
-    /// This many TSDUs of so many octets in one call, and as many again that are given away.
-    Together(u16, usize),
-    /// An empty list, which may be refused with this error.
-    Nothing(Option<SendError>),
-    /// The pieces of `PIECES`.
-    Pieces,
 }
 
 /// What is asked of a carrier, and what it answers.
@@ -76,144 +57,17 @@ pub(crate) enum Step {
     Close,
 }
 
-/// The answer to a request for a connection.
-fn connect(carrier: &mut Carrier) -> Result<Ref, OpenError> {
-    carrier.connect(None, None)
+/// The answer to a request for a connection is this one.
+fn connects(carrier: &mut Carrier, wanted: Result<Ref, OpenError>, checks: &mut Checks) {
+    let answer = carrier.connect(None, None);
+    checks.that(answer != Err(OpenError::OutOfMemory), OUT_OF_MEMORY);
+    checks.that(answer == wanted, "another answer to connecting");
 }
 
-fn connects(carrier: &mut Carrier, reference: u16) -> Result<(), Fail> {
-    if connect(carrier)? != Ref(reference) {
-        return Err(Fail::from("another reference"));
-    }
-    Ok(())
-}
-
-fn refuses_to_connect(carrier: &mut Carrier, error: OpenError) -> Result<(), Fail> {
-    if carrier.may_connect() != Err(error) {
-        return Err(Fail::from("another answer before connecting"));
-    }
-    match connect(carrier) {
-        Err(found) if found == error => Ok(()),
-        _ => Err(Fail::from("another answer to connecting")),
-    }
-}
-
-/// An answer to sending, which may be this error.
-fn is_answered(answer: Result<(), SendError>, error: Option<SendError>) -> Result<(), Fail> {
-    match (answer, error) {
-        (Ok(()), None) => Ok(()),
-        (Err(found), Some(wanted)) if found == wanted => Ok(()),
-        (Err(found), None) => Err(Fail::from(found)),
-        _ => Err(Fail::from("another answer to sending")),
-    }
-}
-
-/// The answer to sending a TSDU on connection 1.
-fn send(carrier: &mut Carrier, tsdu: &[u8]) -> Result<(), SendError> {
-    carrier.send(Ref(1), tsdu)
-}
-
-/// The answer to sending a TSDU on connection 1 that is given away.
-fn send_owned(carrier: &mut Carrier, tsdu: Vec<u8>) -> Result<(), SendError> {
-    carrier.send_owned(Ref(1), tsdu)
-}
-
-/// The answer to sending several TSDUs on connection 1 in one call.
-fn send_all(carrier: &mut Carrier, tsdus: &[Vec<u8>]) -> Result<(), SendError> {
-    carrier.send_all(Ref(1), tsdus)
-}
-
-/// The same for TSDUs that are given away.
-fn send_all_owned(carrier: &mut Carrier, tsdus: Vec<Vec<u8>>) -> Result<(), SendError> {
-    carrier.send_all_owned(Ref(1), tsdus)
-}
-
-/// Five octets in pieces of two, each after a head.
-const PIECES: Pieces<'static> = Pieces {
-    size: 2,
-    first: &[0x46],
-    middle: &[0x4D],
-    last: &[0x4C],
-    octets: &[0x41, 0x42, 0x43, 0x44, 0x45],
-};
-
-/// The answer to sending them on connection 1 in one call.
-fn send_pieces(carrier: &mut Carrier) -> Result<(), SendError> {
-    carrier.send_all_headed(Ref(1), &PIECES)
-}
-
-/// A TSDU of this many octets.
-fn octets(alloc: Global, count: usize) -> Result<Vec<u8>, Fail> {
-    let tsdu = vec![in alloc; 0x5A; count]?;
-    Ok(tsdu)
-}
-
-/// This many TSDUs of so many octets.
-fn copies(alloc: Global, times: u16, count: usize) -> Result<Vec<Vec<u8>>, Fail> {
-    let mut tsdus = Vec::new(alloc);
-    for _ in 0..times {
-        tsdus.push(octets(alloc, count)?)?;
-    }
-    Ok(tsdus)
-}
-
-/// Five TSDUs of one octet.
-fn five(alloc: Global) -> Result<Vec<Vec<u8>>, Fail> {
-    let mut tsdus = Vec::new(alloc);
-    for octet in *b"ABCDE" {
-        tsdus.push(vec![in alloc; octet; 1]?)?;
-    }
-    Ok(tsdus)
-}
-
-/// Sends TSDUs in one call. If memory runs out, nothing is written, and they are sent again as if for the first time.
-fn sends_all(
-    carrier: &mut Carrier,
-    tsdus: &[Vec<u8>],
-    error: Option<SendError>,
-) -> Result<(), Fail> {
-    match send_all(carrier, tsdus) {
-        Err(SendError::OutOfMemory) => sends_once_more(carrier, tsdus),
-        answer => is_answered(answer, error),
-    }
-}
-
-fn sends_once_more(carrier: &mut Carrier, tsdus: &[Vec<u8>]) -> Result<(), Fail> {
-    if !carrier.outgoing().is_empty() {
-        return Err(Fail::from("want of memory has written octets"));
-    }
-    is_answered(send_all(carrier, tsdus), None)
-}
-
-/// Sends copies of a TSDU in one call, and as many again that are given away.
-fn sends_together(
-    carrier: &mut Carrier,
-    alloc: Global,
-    times: u16,
-    count: usize,
-) -> Result<(), Fail> {
-    send_all(carrier, copies(alloc, times, count)?.as_slice())?;
-    send_all_owned(carrier, copies(alloc, times, count)?)?;
-    Ok(())
-}
-
-fn sends(carrier: &mut Carrier, alloc: Global, sending: Sending) -> Result<(), Fail> {
-    match sending {
-        Sending::One(tsdu, error) => is_answered(send(carrier, tsdu), error),
-        Sending::Long(count, error) => is_answered(
-            send(carrier, octets(alloc, count)?.as_slice()),
-            error,
-        ),
-        Sending::Owned(tsdu) => is_answered(
-            send_owned(carrier, Vec::from_slice(alloc, tsdu)?),
-            None,
-        ),
-        Sending::OwnedLong(count) => is_answered(send_owned(carrier, octets(alloc, count)?), None),
-        Sending::Five => sends_all(carrier, five(alloc)?.as_slice(), None),
-        Sending::Together(times, count) => sends_together(carrier, alloc, times, count),
-        Sending::Nothing(error) => sends_all(carrier, &[], error),
-        Sending::Pieces => is_answered(send_pieces(carrier), None),
-    }
+fn refuses_to_connect(carrier: &mut Carrier, error: OpenError, checks: &mut Checks) {
+    let is_told = carrier.may_connect() == Err(error);
+    checks.that(is_told, "another answer before connecting");
+    connects(carrier, Err(error), checks);
 }
 
 /// Takes the whole backlog.
@@ -221,62 +75,52 @@ fn all_is_taken(carrier: &mut Carrier) {
     carrier.taken(carrier.outgoing().len());
 }
 
-fn writes(carrier: &mut Carrier, octets: &[u8]) -> Result<(), Fail> {
-    if carrier.outgoing() != octets {
-        return Err(Fail::from("other octets are written"));
-    }
+fn writes(carrier: &mut Carrier, octets: &[u8], checks: &mut Checks) {
+    let is_written = carrier.outgoing() == octets;
+    checks.that(is_written, "other octets are written");
     all_is_taken(carrier);
-    Ok(())
 }
 
-fn keeps_to_write(carrier: &Carrier, count: usize, last: &[u8]) -> Result<(), Fail> {
+fn keeps_to_write(carrier: &Carrier, count: usize, last: &[u8], checks: &mut Checks) {
     let octets = carrier.outgoing();
-    if octets.len() < count || !octets.ends_with(last) {
-        return Err(Fail::from("other octets are written"));
-    }
-    Ok(())
+    checks.that(octets.len() >= count, "too few octets are written");
+    checks.that(octets.ends_with(last), "other octets are written last");
 }
 
-/// How many of these octets are used.
-fn uses(carrier: &mut Carrier, octets: &[u8]) -> usize {
-    carrier.feed(octets).used
+/// All octets were used, which are so many.
+fn are_used(carrier: &Carrier, used: usize, count: usize, checks: &mut Checks) {
+    let reason = carrier.ended();
+    checks.that(reason != Some(EndReason::NoMemory), OUT_OF_MEMORY);
+    checks.that(reason.is_none(), "the carrier has ended");
+    checks.that(used == count, "octets are left");
 }
 
-/// All octets are used.
-fn takes(carrier: &mut Carrier, octets: &[u8]) -> Result<(), Fail> {
-    let used = uses(carrier, octets);
-    match carrier.ended() {
-        None if used == octets.len() => Ok(()),
-        Some(EndReason::NoMemory) => Err(Fail::from("out of memory")),
-        _ => Err(Fail::from("octets are left")),
-    }
+fn takes(carrier: &mut Carrier, octets: &[u8], checks: &mut Checks) {
+    let fed = carrier.feed(octets);
+    are_used(carrier, fed.used, octets.len(), checks);
 }
 
 /// All octets are used, and this TSDU is lent, or none.
-fn lends(carrier: &mut Carrier, octets: &[u8], wanted: Option<&[u8]>) -> Result<(), Fail> {
+fn lends(carrier: &mut Carrier, octets: &[u8], wanted: Option<&[u8]>, checks: &mut Checks) {
     let told = carrier.feed_lent(octets);
-    let is_lent = match (told.lent, wanted) {
+    checks.that(is_lent(told.lent, wanted), "another TSDU is lent");
+    are_used(carrier, told.fed.used, octets.len(), checks);
+}
+
+/// Whether this TSDU of connection 1 is lent, or none.
+fn is_lent(lent: Option<Lent<'_>>, wanted: Option<&[u8]>) -> bool {
+    match (lent, wanted) {
         (None, None) => true,
         (Some(lent), Some(tsdu)) => lent.reference == Ref(1) && lent.octets == tsdu,
         _ => false,
-    };
-    if !is_lent || told.fed.used != octets.len() {
-        return Err(Fail::from("another TSDU is lent, or octets are left"));
     }
-    Ok(())
 }
 
-fn takes_acks(carrier: &mut Carrier, acks: u8) -> Result<(), Fail> {
+fn takes_acks(carrier: &mut Carrier, acks: u8, checks: &mut Checks) {
     for turn in 0..acks {
         let number = turn.wrapping_mul(15).wrapping_add(4) % 128;
-        takes(carrier, &[3, 0, 0, 9, 4, 0x6F, 0, 1, number])?;
+        takes(carrier, &[3, 0, 0, 9, 4, 0x6F, 0, 1, number], checks);
     }
-    Ok(())
-}
-
-/// The next event.
-fn next(carrier: &mut Carrier) -> Option<Event> {
-    carrier.next_event()
 }
 
 /// Whether the event is this one.
@@ -290,69 +134,70 @@ fn is_told(event: &Option<Event>, told: Told) -> bool {
     }
 }
 
-fn tells(carrier: &mut Carrier, told: Told) -> Result<(), Fail> {
-    if !is_told(&next(carrier), told) {
-        return Err(Fail::from("another event"));
-    }
-    Ok(())
+/// The next event is this one.
+fn tells(carrier: &mut Carrier, told: Told, checks: &mut Checks) {
+    let event = carrier.next_event();
+    checks.that(is_told(&event, told), "another event");
+    drop(event);
 }
 
 /// A connection is asked for and refused.
-fn is_refused(carrier: &mut Carrier, reference: u16) -> Result<(), Fail> {
+fn is_refused(carrier: &mut Carrier, reference: u16, checks: &mut Checks) {
     let [high, low] = reference.to_be_bytes();
-    connects(carrier, reference)?;
+    connects(carrier, Ok(Ref(reference)), checks);
     all_is_taken(carrier);
-    takes(carrier, &[3, 0, 0, 0x0B, 6, 0x80, high, low, 0, 0, 0x82])?;
-    tells(carrier, Told::Refused(reference))
+    takes(
+        carrier,
+        &[3, 0, 0, 0x0B, 6, 0x80, high, low, 0, 0, 0x82],
+        checks,
+    );
+    tells(carrier, Told::Refused(reference), checks);
 }
 
 /// Each reference is given once.
-fn each_is_refused(carrier: &mut Carrier) -> Result<(), Fail> {
+fn each_is_refused(carrier: &mut Carrier, checks: &mut Checks) {
     for reference in 1..=65_535u16 {
-        is_refused(carrier, reference)?;
+        is_refused(carrier, reference, checks);
     }
-    Ok(())
 }
 
-fn holds_back(carrier: &Carrier, octets: usize, live: usize) -> Result<(), Fail> {
-    if carrier.unsent(Ref(1)) != octets || carrier.unsent(Ref(2)) != 0 {
-        return Err(Fail::from("other octets are unsent"));
-    }
-    if carrier.backlog() != octets || carrier.live() != live {
-        return Err(Fail::from("another backlog, or other connections are live"));
-    }
-    Ok(())
+fn holds_back(carrier: &Carrier, octets: usize, live: usize, checks: &mut Checks) {
+    let counts = [
+        carrier.unsent(Ref(1)),
+        carrier.unsent(Ref(2)),
+        carrier.backlog(),
+    ];
+    checks.that(counts == [octets, 0, octets], "other octets are unsent");
+    checks.that(carrier.live() == live, "other connections are live");
 }
 
-/// The answer to closing connection 1.
-fn close(carrier: &mut Carrier) -> Result<(), SendError> {
-    carrier.close(Ref(1), 128)
+/// Closes connection 1.
+fn closes(carrier: &mut Carrier, checks: &mut Checks) {
+    is_answered(carrier.close(Ref(1), 128), None, checks);
 }
 
-fn does(carrier: &mut Carrier, alloc: Global, step: Step) -> Result<(), Fail> {
+fn does(carrier: &mut Carrier, alloc: Global, step: Step, checks: &mut Checks) {
     match step {
-        Step::Connect(reference) => connects(carrier, reference)?,
-        Step::NoConnect(error) => refuses_to_connect(carrier, error)?,
-        Step::ConnectEach => each_is_refused(carrier)?,
-        Step::Send(sending) => sends(carrier, alloc, sending)?,
-        Step::Take(octets) => takes(carrier, octets)?,
-        Step::Lend(octets, tsdu) => lends(carrier, octets, tsdu)?,
-        Step::TakeAcks(acks) => takes_acks(carrier, acks)?,
-        Step::Write(octets) => writes(carrier, octets)?,
-        Step::KeepToWrite(count, last) => keeps_to_write(carrier, count, last)?,
+        Step::Connect(reference) => connects(carrier, Ok(Ref(reference)), checks),
+        Step::NoConnect(error) => refuses_to_connect(carrier, error, checks),
+        Step::ConnectEach => each_is_refused(carrier, checks),
+        Step::Send(sending) => sends(carrier, alloc, sending, checks),
+        Step::Take(octets) => takes(carrier, octets, checks),
+        Step::Lend(octets, tsdu) => lends(carrier, octets, tsdu, checks),
+        Step::TakeAcks(acks) => takes_acks(carrier, acks, checks),
+        Step::Write(octets) => writes(carrier, octets, checks),
+        Step::KeepToWrite(count, last) => keeps_to_write(carrier, count, last, checks),
         Step::Carry => all_is_taken(carrier),
-        Step::Tell(told) => tells(carrier, told)?,
-        Step::HoldBack(octets, live) => holds_back(carrier, octets, live)?,
-        Step::Close => close(carrier)?,
+        Step::Tell(told) => tells(carrier, told, checks),
+        Step::HoldBack(octets, live) => holds_back(carrier, octets, live, checks),
+        Step::Close => closes(carrier, checks),
     }
-    Ok(())
 }
 
-fn goes(carrier: &mut Carrier, alloc: Global, steps: &[Step]) -> Result<(), Fail> {
+fn goes(carrier: &mut Carrier, alloc: Global, steps: &[Step], checks: &mut Checks) {
     for step in steps {
-        does(carrier, alloc, *step)?;
+        does(carrier, alloc, *step, checks);
     }
-    Ok(())
 }
 
 fn goes_on(
@@ -360,9 +205,10 @@ fn goes_on(
     alloc: Global,
     opening: &[Step],
     steps: &[Step],
-) -> Result<(), Fail> {
-    goes(carrier, alloc, opening)?;
-    goes(carrier, alloc, steps)
+    checks: &mut Checks,
+) {
+    goes(carrier, alloc, opening, checks);
+    goes(carrier, alloc, steps, checks);
 }
 
 /// Which end takes steps: one that asks for connections or one that is asked, with both classes or neither.
@@ -377,24 +223,57 @@ const CALLER: End = End {
     classes: true,
 };
 
-/// A fresh end with size 0A and window 4.
-fn fresh(alloc: Global, end: End) -> Result<Carrier, Fail> {
-    let local = Local {
-        class0: end.classes,
-        class2: end.classes,
-        size: SizeCode::new(10).ok_or("size")?,
-        window: Window::new(4).ok_or("window")?,
-    };
-    if end.is_caller {
-        Ok(Carrier::caller(alloc, local))
-    } else {
-        Ok(Carrier::called(alloc, local))
+/// What an end with size 0A and window 4 has, with both classes or neither; `None` is reported.
+fn local(classes: bool, checks: &mut Checks) -> Option<Local> {
+    match (SizeCode::new(10), Window::new(4)) {
+        (Some(size), Some(window)) => Some(Local {
+            class0: classes,
+            class2: classes,
+            size,
+            window,
+        }),
+        _ => {
+            checks.that(false, "no size, or no window");
+            None
+        }
     }
 }
 
-/// An end takes steps that open a connection, and then others.
+fn fresh(alloc: Global, is_caller: bool, local: Local) -> Carrier {
+    if is_caller {
+        Carrier::caller(alloc, local)
+    } else {
+        Carrier::called(alloc, local)
+    }
+}
+
+/// A fresh end takes steps that open a connection, and then others. It is dropped by a call of its own.
+fn fresh_goes(
+    alloc: Global,
+    is_caller: bool,
+    local: Local,
+    opening: &[Step],
+    steps: &[Step],
+    checks: &mut Checks,
+) {
+    let mut carrier = fresh(alloc, is_caller, local);
+    goes_on(&mut carrier, alloc, opening, steps, checks);
+    drop(carrier);
+}
+
 fn end_does(rt: &HostRuntime, end: End, opening: &[Step], steps: &[Step]) -> Result<(), Fail> {
-    goes_on(&mut fresh(rt.alloc(), end)?, rt.alloc(), opening, steps)
+    let mut checks = Checks::new();
+    if let Some(local) = local(end.classes, &mut checks) {
+        fresh_goes(
+            rt.alloc(),
+            end.is_caller,
+            local,
+            opening,
+            steps,
+            &mut checks,
+        );
+    }
+    checks.end()
 }
 
 /// A caller of both classes takes these steps.
@@ -404,7 +283,7 @@ pub(crate) fn caller_does(rt: &HostRuntime, opening: &[Step], steps: &[Step]) ->
 
 /// The CR of a caller with both classes and window 3, and the DR that refuses connection 1, since no class can be
 /// selected.
-const NO_CLASS: [Step; 2] = [
+static NO_CLASS: [Step; 2] = [
     Step::Take(&[
         0x03, 0x00, 0x00, 0x14, 0x0F, 0xE3, 0x00, 0x00, 0x00, 0x01, 0x20, 0xC0, 0x01, 0x0A, 0xC6,
         0x01, 0x00, 0xC7, 0x01, 0x00,
@@ -424,7 +303,7 @@ fn an_end_of_neither_class_refuses_a_request(rt: HostRuntime) -> Result<(), Fail
 }
 
 /// A CR of class 0 from reference 1.
-const CLASS_0: [Step; 2] = [
+static CLASS_0: [Step; 2] = [
     Step::Connect(1),
     Step::Write(&[
         0x03, 0x00, 0x00, 0x0E, 0x09, 0xE0, 0x00, 0x00, 0x00, 0x01, 0x00, 0xC0, 0x01, 0x0A,
@@ -440,16 +319,18 @@ fn an_end_of_neither_class_proposes_class_0(rt: HostRuntime) -> Result<(), Fail>
     end_does(&rt, end, &[], &CLASS_0)
 }
 
+static NO_CONNECT: [Step; 1] = [Step::NoConnect(OpenError::NotCaller)];
+
 #[test]
 fn a_called_end_asks_for_nothing(rt: HostRuntime) -> Result<(), Fail> {
     let end = End {
         is_caller: false,
         classes: true,
     };
-    end_does(&rt, end, &[], &[Step::NoConnect(OpenError::NotCaller)])
+    end_does(&rt, end, &[], &NO_CONNECT)
 }
 
-const EACH_REFERENCE: [Step; 2] = [
+static EACH_REFERENCE: [Step; 2] = [
     Step::ConnectEach,
     Step::NoConnect(OpenError::ReferencesUsedUp),
 ];
@@ -459,7 +340,7 @@ fn references_1_to_65535_are_given_once(rt: HostRuntime) -> Result<(), Fail> {
     caller_does(&rt, &[], &EACH_REFERENCE)
 }
 
-const NOT_OPEN: [Step; 3] = [
+static NOT_OPEN: [Step; 3] = [
     Step::Send(Sending::One(b"A", Some(SendError::NotOpen))),
     Step::Connect(1),
     Step::Send(Sending::One(b"A", Some(SendError::NotOpen))),
@@ -477,7 +358,7 @@ const CONFIRM: [u8; 17] = [
 ];
 
 /// Connection 1 is opened in class 2.
-pub(crate) const OPEN_IN_CLASS_2: [Step; 4] = [
+pub(crate) static OPEN_IN_CLASS_2: [Step; 4] = [
     Step::Connect(1),
     Step::Carry,
     Step::Take(&CONFIRM),
@@ -485,7 +366,7 @@ pub(crate) const OPEN_IN_CLASS_2: [Step; 4] = [
 ];
 
 /// Connection 1 is opened by a CC of class 0.
-pub(crate) const OPEN_IN_CLASS_0: [Step; 4] = [
+pub(crate) static OPEN_IN_CLASS_0: [Step; 4] = [
     Step::Connect(1),
     Step::Carry,
     Step::Take(&[
@@ -496,7 +377,7 @@ pub(crate) const OPEN_IN_CLASS_0: [Step; 4] = [
 
 /// A TSDU of the greatest length is sent in each way, and one of one octet more is refused. The peer has not given
 /// enough credit for the first, so most of it and all others wait.
-const LENGTHS: [Step; 5] = [
+static LENGTHS: [Step; 5] = [
     Step::Send(Sending::Long(1_048_577, Some(SendError::TooLong))),
     Step::Send(Sending::Long(1_048_576, None)),
     Step::Send(Sending::Long(1_048_576, None)),
@@ -510,7 +391,7 @@ fn a_sent_tsdu_has_at_most_1048576_octets(rt: HostRuntime) -> Result<(), Fail> {
 }
 
 /// A TSDU arrives with number 5, where 0 is expected.
-const FAULT: [Step; 3] = [
+static FAULT: [Step; 3] = [
     Step::Take(&[3, 0, 0, 0x0A, 4, 0xF0, 0, 1, 0x85, 0x5A]),
     Step::Write(&[3, 0, 0, 0x0B, 6, 0x80, 0, 1, 0, 1, 0x85]),
     Step::Tell(Told::Faulted),
@@ -523,7 +404,7 @@ fn a_fault_is_told_of_its_connection(rt: HostRuntime) -> Result<(), Fail> {
 
 /// A TSDU is sent in a DT with number 0. One that was given away is sent in a DT with number 1. One arrives and is
 /// acknowledged. The connection is closed with a DR, and nothing can be sent on it after that.
-const CARRY_AND_CLOSE: [Step; 10] = [
+static CARRY_AND_CLOSE: [Step; 10] = [
     Step::Send(Sending::One(b"A", None)),
     Step::Write(&[3, 0, 0, 0x0A, 4, 0xF0, 0, 1, 0x80, 0x41]),
     Step::Send(Sending::Owned(b"C")),
@@ -542,7 +423,7 @@ fn a_connection_of_class_2_carries_and_is_closed(rt: HostRuntime) -> Result<(), 
 }
 
 /// Five DTs of class 0.
-const FIVE_IN_CLASS_0: [Step; 2] = [
+static FIVE_IN_CLASS_0: [Step; 2] = [
     Step::Send(Sending::Five),
     Step::Write(&[
         3, 0, 0, 8, 2, 0xF0, 0x80, 0x41, 3, 0, 0, 8, 2, 0xF0, 0x80, 0x42, 3, 0, 0, 8, 2, 0xF0,
@@ -556,7 +437,7 @@ fn tsdus_are_sent_together_in_class_0(rt: HostRuntime) -> Result<(), Fail> {
 }
 
 /// Four DTs of class 2, with the numbers 0 to 3, and the last TSDU after an AK with number 4 and credit 4.
-const FIVE_IN_CLASS_2: [Step; 4] = [
+static FIVE_IN_CLASS_2: [Step; 4] = [
     Step::Send(Sending::Five),
     Step::Write(&[
         3, 0, 0, 0x0A, 4, 0xF0, 0, 1, 0x80, 0x41, 3, 0, 0, 0x0A, 4, 0xF0, 0, 1, 0x81, 0x42, 3, 0,
@@ -572,7 +453,7 @@ fn tsdus_are_sent_together_in_class_2(rt: HostRuntime) -> Result<(), Fail> {
 }
 
 /// Three DTs of class 0.
-const PIECES_IN_CLASS_0: [Step; 2] = [
+static PIECES_IN_CLASS_0: [Step; 2] = [
     Step::Send(Sending::Pieces),
     Step::Write(&[
         3, 0, 0, 0x0A, 2, 0xF0, 0x80, 0x46, 0x41, 0x42, 3, 0, 0, 0x0A, 2, 0xF0, 0x80, 0x4D, 0x43,
@@ -587,7 +468,7 @@ fn octets_are_cut_into_tsdus_in_class_0(rt: HostRuntime) -> Result<(), Fail> {
 
 /// Three DTs of class 2, with the numbers 0 to 2. Then there is credit for one more, with number 3. The other two go after
 /// an AK with number 4 and credit 4.
-const PIECES_IN_CLASS_2: [Step; 6] = [
+static PIECES_IN_CLASS_2: [Step; 6] = [
     Step::Send(Sending::Pieces),
     Step::Write(&[
         3, 0, 0, 0x0C, 4, 0xF0, 0, 1, 0x80, 0x46, 0x41, 0x42, 3, 0, 0, 0x0C, 4, 0xF0, 0, 1, 0x81,
@@ -608,7 +489,7 @@ fn octets_are_cut_into_tsdus_in_class_2(rt: HostRuntime) -> Result<(), Fail> {
 }
 
 /// An empty list is refused before connection 1 is opened. After that it changes nothing.
-const REFUSED_AND_OPEN: [Step; 5] = [
+static REFUSED_AND_OPEN: [Step; 5] = [
     Step::Send(Sending::Nothing(Some(SendError::NotOpen))),
     Step::Connect(1),
     Step::Carry,
@@ -616,7 +497,7 @@ const REFUSED_AND_OPEN: [Step; 5] = [
     Step::Tell(Told::Opened),
 ];
 
-const NOTHING: [Step; 2] = [Step::Send(Sending::Nothing(None)), Step::Write(&[])];
+static NOTHING: [Step; 2] = [Step::Send(Sending::Nothing(None)), Step::Write(&[])];
 
 #[test]
 fn an_empty_list_is_sent_on_an_open_connection_alone(rt: HostRuntime) -> Result<(), Fail> {
@@ -625,7 +506,7 @@ fn an_empty_list_is_sent_on_an_open_connection_alone(rt: HostRuntime) -> Result<
 
 /// Sends six TSDUs of two octets with credit for four. An AK of the four gives credit for one more. Then the connection
 /// is closed, which a DC answers.
-const HELD_BACK: [Step; 14] = [
+static HELD_BACK: [Step; 14] = [
     Step::Send(Sending::One(b"AB", None)),
     Step::Send(Sending::One(b"AB", None)),
     Step::Send(Sending::One(b"AB", None)),
@@ -649,7 +530,7 @@ fn what_credit_holds_back_is_unsent(rt: HostRuntime) -> Result<(), Fail> {
 
 /// A thousand TSDUs of one octet are sent in one call, and a thousand that are given away: credit holds all but four
 /// back.
-const THOUSANDS: [Step; 2] = [
+static THOUSANDS: [Step; 2] = [
     Step::Send(Sending::Together(1000, 1)),
     Step::HoldBack(1996, 1),
 ];
@@ -661,7 +542,7 @@ fn a_thousand_tsdus_are_sent_together(rt: HostRuntime) -> Result<(), Fail> {
 
 /// Sends 18 TSDUs of 1,048,576 octets, of which credit lets four units of 1,019 octets out. Before the last one almost 17
 /// MiB wait. After 140 AKs the connection is closed, when nobody has taken more than 2 MiB: the DR is the last of them.
-const EIGHTEEN: [Step; 22] = [
+static EIGHTEEN: [Step; 22] = [
     Step::Send(Sending::Long(1_048_576, None)),
     Step::Send(Sending::Long(1_048_576, None)),
     Step::Send(Sending::Long(1_048_576, None)),

@@ -4,7 +4,7 @@ use crate::carriers::{OPEN_IN_CLASS_0, OPEN_IN_CLASS_2, Step, Told, caller_does}
 use std::test::Fail;
 
 /// A TSDU in one DT is lent. One in two DTs is an event, and so is one whose packet is cut over two pieces.
-const LENT_IN_CLASS_0: [Step; 7] = [
+static LENT_IN_CLASS_0: [Step; 7] = [
     Step::Lend(&[3, 0, 0, 8, 2, 0xF0, 0x80, 0x41], Some(b"A")),
     Step::Lend(&[3, 0, 0, 8, 2, 0xF0, 0x00, 0x42], None),
     Step::Lend(&[3, 0, 0, 8, 2, 0xF0, 0x80, 0x43], None),
@@ -20,7 +20,7 @@ fn a_tsdu_in_one_unit_is_lent_in_class_0(rt: HostRuntime) -> Result<(), Fail> {
 }
 
 /// The same, with an AK for each DT.
-const LENT_IN_CLASS_2: [Step; 9] = [
+static LENT_IN_CLASS_2: [Step; 9] = [
     Step::Lend(&[3, 0, 0, 0x0A, 4, 0xF0, 0, 1, 0x80, 0x41], Some(b"A")),
     Step::Write(&[3, 0, 0, 9, 4, 0x64, 0, 1, 1]),
     Step::Lend(&[3, 0, 0, 0x0A, 4, 0xF0, 0, 1, 0x01, 0x42], None),

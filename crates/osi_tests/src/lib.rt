@@ -4,13 +4,17 @@
 //! Each function here is proved, which takes seconds whatever it does; the files of `osi_runs` cost no proof. So a
 //! dialogue of two ends is a script there; an end's answer to octets, or a session unit that is written again, is a
 //! file of octets; a listing is a capture. A test of a link or a carrier is a list of steps, each with what is asked
-//! and what is expected. A link, a carrier, a lister or a trace has many parts. Each is owned by one function of its
-//! module, with one way out, and all others borrow it: so it is dropped in one place. The modules:
+//! and what is expected. Functions return nothing: they report to a `Checks` what is not as it should be, since each `?`
+//! is a way out, and costs a proof as much as some calls. A link, a carrier, a lister or a trace has many parts: the few
+//! functions that own one hand it to `drop` at their end, and all others borrow it. Long lists are statics, since a
+//! constant is built again in each proof that uses it. The modules:
 //!
+//! - `checks`: what a test finds, and TSDUs for all;
 //! - `packets`: a packet that arrives octet by octet, the generic reader and writer, the bounds of a packet;
 //! - `transport_units`, `session_units`: how units are written, sets, bounds, units that are made;
 //! - `links`: credit, numbers that wrap around, the longest TSDU;
 //! - `carriers`: an end of neither class, all references, sending if nothing is open, long lists and backlogs;
+//! - `sending`: what the tests of carriers send;
 //! - `lending`: TSDUs that a carrier lends, and those that it gives as events;
 //! - `rules`: which units break a rule of transport, row by row;
 //! - `listings`: TSDUs of 1,048,576 octets and more, and traces.
@@ -21,6 +25,8 @@
 #[cfg(test)]
 mod carriers;
 #[cfg(test)]
+mod checks;
+#[cfg(test)]
 mod lending;
 #[cfg(test)]
 mod links;
@@ -30,6 +36,8 @@ mod listings;
 mod packets;
 #[cfg(test)]
 mod rules;
+#[cfg(test)]
+mod sending;
 #[cfg(test)]
 mod session_units;
 #[cfg(test)]

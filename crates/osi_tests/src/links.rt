@@ -1,10 +1,11 @@
 //! Links of both classes, call by call, and the longest TSDUs between two of them.
 //!
-//! Most tests are a list of steps of one link. Links of class 0, of class 2 and of any class are each owned by one function.
+//! Most tests are a list of steps of one link, which `zero_goes`, `two_goes` or `any_goes` owns.
 
 ghost use Rattle.std.specs.Prelude.{◌<◌};
 ghost use Rattle.osi_class.specs.Link.{FitsAUnit};
 
+use crate::checks::{Checks, OUT_OF_MEMORY, add, octets};
 use crate::transport_units::only_unit;
 use osi_class::*;
 use osi_tpdu::{DataAcknowledgement, DataClass0, DataClass2, SizeCode, Tpdu, Window};
@@ -20,13 +21,20 @@ enum Given {
     Ack { number: u8, credit: u8 },
 }
 
+/// What a link hands out with a unit that it takes: nothing; the TSDU that this unit alone is; a TSDU with these octets,
+/// joined from several.
+#[derive(Clone, Copy)]
+enum Received {
+    Nothing,
+    Whole,
+    Joined(&'static [u8]),
+}
+
 /// What is asked of a link, and what it answers.
 #[derive(Clone, Copy)]
 enum Step {
     /// A TSDU is handed in.
     Send(&'static [u8]),
-    /// A TSDU of this many octets is handed in.
-    SendLong(usize),
     /// A TSDU of 126 octets and an empty one are handed in together.
     SendTwo,
     /// This many TSDUs of an octet are handed in, and each goes at once, with the numbers from 0.
@@ -39,9 +47,7 @@ enum Step {
     /// credit for one more.
     TakeEach(u8),
     /// The unit with these octets is taken, and the TSDU that it completes is handed out.
-    Receive(&'static [u8], Option<&'static [u8]>),
-    /// The unit with these octets is taken, and is a whole TSDU.
-    ReceiveWhole(&'static [u8]),
+    Receive(&'static [u8], Received),
     /// The next unit.
     Give(Given),
     /// This many units of 123 octets are given, one after the other, and each is acknowledged.
@@ -52,17 +58,25 @@ enum Step {
     HandOutLongest,
 }
 
-fn sends(link: &mut impl Link, tsdu: &[u8]) -> Result<(), Fail> {
-    link.send_tsdu(tsdu)?;
-    Ok(())
+fn sends(link: &mut impl Link, tsdu: &[u8], checks: &mut Checks) {
+    checks.memory(link.send_tsdu(tsdu));
 }
 
-fn takes(link: &mut impl Link, unit: &Tpdu<'_>, fault: Option<LinkFault>) -> Result<(), Fail> {
-    match (link.take(unit), fault) {
-        (Ok(()), None) => Ok(()),
-        (Err(found), Some(wanted)) if found == wanted => Ok(()),
-        (Err(found), None) => Err(Fail::from(found)),
-        _ => Err(Fail::from("another answer")),
+/// A unit is taken, or refused with this fault.
+fn takes(link: &mut impl Link, unit: &Tpdu<'_>, fault: Option<LinkFault>, checks: &mut Checks) {
+    let found = link.take(unit).err();
+    checks.that(found != Some(LinkFault::OutOfMemory), OUT_OF_MEMORY);
+    checks.that(found == fault, "another answer to a unit");
+}
+
+fn takes_octets(
+    link: &mut impl Link,
+    octets: &[u8],
+    fault: Option<LinkFault>,
+    checks: &mut Checks,
+) {
+    if let Some(unit) = only_unit(octets, checks) {
+        takes(link, &unit, fault, checks);
     }
 }
 
@@ -96,169 +110,192 @@ fn is_given(out: &Option<Out<'_>>, wanted: Given) -> bool {
     }
 }
 
-fn gives(link: &mut impl Link, wanted: Given) -> Result<(), Fail> {
-    if !is_given(&link.next_out(), wanted) {
-        return Err(Fail::from("another unit"));
-    }
-    Ok(())
+fn gives(link: &mut impl Link, wanted: Given, checks: &mut Checks) {
+    checks.that(is_given(&link.next_out(), wanted), "another unit");
 }
 
-/// This TSDU was handed out, or none.
-fn is_handed(handed: &Option<Vec<u8>>, wanted: Option<&[u8]>) -> Result<(), Fail> {
-    let is_wanted = match handed {
+/// Whether this TSDU was handed out, or none.
+fn is_handed(handed: &Option<Vec<u8>>, wanted: Option<&[u8]>) -> bool {
+    match handed {
         None => wanted.is_none(),
         Some(tsdu) => wanted == Some(tsdu.as_slice()),
-    };
-    if !is_wanted {
-        return Err(Fail::from("another TSDU"));
-    }
-    Ok(())
-}
-
-fn hands_out(link: &mut impl Link, wanted: Option<&[u8]>) -> Result<(), Fail> {
-    is_handed(&link.next_tsdu(), wanted)
-}
-
-fn receives(link: &mut impl Link, unit: &[u8], wanted: Option<&[u8]>) -> Result<(), Fail> {
-    let tsdu = match link.receive(&only_unit(unit)?)? {
-        Handed::Nothing => None,
-        Handed::Joined(tsdu) => Some(tsdu),
-        Handed::Whole => return Err(Fail::from("a whole TSDU")),
-    };
-    is_handed(&tsdu, wanted)
-}
-
-fn receives_whole(link: &mut impl Link, unit: &[u8]) -> Result<(), Fail> {
-    match link.receive(&only_unit(unit)?)? {
-        Handed::Whole => Ok(()),
-        Handed::Nothing | Handed::Joined(_) => Err(Fail::from("no whole TSDU")),
     }
 }
 
-/// A TSDU of this many octets.
-fn octets(alloc: Global, count: usize) -> Result<Vec<u8>, Fail> {
-    let tsdu = vec![in alloc; 0x5a; count]?;
-    Ok(tsdu)
+fn hands_out(link: &mut impl Link, wanted: Option<&[u8]>, checks: &mut Checks) {
+    checks.that(is_handed(&link.next_tsdu(), wanted), "another TSDU");
 }
 
-/// A TSDU of 126 octets and an empty one.
-fn two(alloc: Global) -> Result<Vec<Vec<u8>>, Fail> {
+/// The longest TSDU is handed out.
+fn hands_out_longest(link: &mut impl Link, alloc: Global, checks: &mut Checks) {
+    let longest = octets(alloc, LONGEST_TSDU, checks);
+    hands_out(link, Some(longest.as_slice()), checks);
+}
+
+/// The answer to a unit is as wanted.
+fn is_received(answer: &Result<Handed, LinkFault>, wanted: Received, checks: &mut Checks) {
+    let is_wanted = match (answer, wanted) {
+        (Ok(Handed::Nothing), Received::Nothing) | (Ok(Handed::Whole), Received::Whole) => true,
+        (Ok(Handed::Joined(tsdu)), Received::Joined(octets)) => tsdu.as_slice() == octets,
+        (Err(LinkFault::OutOfMemory), _) => return checks.that(false, OUT_OF_MEMORY),
+        _ => false,
+    };
+    checks.that(is_wanted, "another TSDU is received");
+}
+
+fn receives(link: &mut impl Link, octets: &[u8], wanted: Received, checks: &mut Checks) {
+    if let Some(unit) = only_unit(octets, checks) {
+        let answer = link.receive(&unit);
+        is_received(&answer, wanted, checks);
+        drop(answer);
+    }
+}
+
+/// A TSDU of 126 octets and an empty one are handed in together.
+fn sends_two(link: &mut impl Link, alloc: Global, checks: &mut Checks) {
     let mut tsdus = Vec::new(alloc);
-    for count in [126, 0] {
-        tsdus.push(octets(alloc, count)?)?;
-    }
-    Ok(tsdus)
+    add(&mut tsdus, octets(alloc, 126, checks), checks);
+    add(&mut tsdus, Vec::new(alloc), checks);
+    checks.memory(link.send_tsdus(tsdus.as_slice()));
 }
 
-fn sends_two(link: &mut impl Link, alloc: Global) -> Result<(), Fail> {
-    link.send_tsdus(two(alloc)?.as_slice())?;
-    Ok(())
-}
-
-fn sends_each(link: &mut impl Link, count: u8) -> Result<(), Fail> {
+fn sends_each(link: &mut impl Link, count: u8, checks: &mut Checks) {
     for number in 0..count {
-        sends(link, b"A")?;
+        sends(link, b"A", checks);
         let data = Given::Data {
             number,
             end: true,
             count: 1,
         };
-        gives(link, data)?;
+        gives(link, data, checks);
     }
-    Ok(())
 }
 
-/// A DT of class 0 that does not end its TSDU.
-fn data(user: &[u8]) -> Tpdu<'_> {
-    Tpdu::Dt0(DataClass0 { end: false, user })
+/// Takes a DT of class 0 that does not end its TSDU.
+fn takes_part(link: &mut impl Link, user: &[u8], checks: &mut Checks) {
+    takes(
+        link,
+        &Tpdu::Dt0(DataClass0 { end: false, user }),
+        None,
+        checks,
+    );
 }
 
-fn takes_parts(link: &mut impl Link, part: &[u8]) -> Result<(), Fail> {
+/// The octets of one of 16 units.
+static PART: [u8; 65_528] = [0x5a; 65_528];
+
+/// Those of one more, after which the longest TSDU is complete.
+static LAST_PART: [u8; 128] = [0x5a; 128];
+
+fn takes_long(link: &mut impl Link, checks: &mut Checks) {
     for _ in 0..16u8 {
-        takes(link, &data(part), None)?;
+        takes_part(link, &PART, checks);
     }
-    takes(link, &data(&[0x5a; 128]), None)
+    takes_part(link, &LAST_PART, checks);
 }
 
-fn takes_each(link: &mut impl Link, count: u8) -> Result<(), Fail> {
+fn takes_each(link: &mut impl Link, count: u8, checks: &mut Checks) {
     for before in 0..count {
-        takes(
-            link,
-            &only_unit(&[4, 0xF0, 0, 1, 0x80 | before, 0x41])?,
-            None,
-        )?;
+        takes_octets(link, &[4, 0xF0, 0, 1, 0x80 | before, 0x41], None, checks);
         let ack = Given::Ack {
             number: before.wrapping_add(1),
             credit: 1,
         };
-        gives(link, ack)?;
+        gives(link, ack, checks);
     }
-    Ok(())
 }
 
 /// One unit is sent and no other, and it is acknowledged.
-fn a_unit_passes(link: &mut impl Link, number: u8) -> Result<(), Fail> {
+fn a_unit_passes(link: &mut impl Link, number: u8, checks: &mut Checks) {
     let data = Given::Data {
         number,
         end: false,
         count: 123,
     };
-    gives(link, data)?;
-    gives(link, Given::Nothing)?;
-    let ack = [4, 0x61, 0, 1, number.wrapping_add(1) % 128];
-    takes(link, &only_unit(&ack)?, None)
+    gives(link, data, checks);
+    gives(link, Given::Nothing, checks);
+    let next = number.wrapping_add(1) % 128;
+    takes_octets(link, &[4, 0x61, 0, 1, next], None, checks);
 }
 
-fn gives_each(link: &mut impl Link, count: u8) -> Result<(), Fail> {
+fn gives_each(link: &mut impl Link, count: u8, checks: &mut Checks) {
     for unit in 0..count {
-        a_unit_passes(link, unit % 128)?;
+        a_unit_passes(link, unit % 128, checks);
     }
-    Ok(())
 }
 
-fn does(link: &mut impl Link, alloc: Global, step: Step) -> Result<(), Fail> {
+fn does(link: &mut impl Link, alloc: Global, step: Step, checks: &mut Checks) {
     match step {
-        Step::Send(tsdu) => sends(link, tsdu),
-        Step::SendLong(count) => sends(link, octets(alloc, count)?.as_slice()),
-        Step::SendTwo => sends_two(link, alloc),
-        Step::SendEach(count) => sends_each(link, count),
-        Step::Take(octets, fault) => takes(link, &only_unit(octets)?, fault),
-        Step::TakeLong => takes_parts(link, octets(alloc, 65_528)?.as_slice()),
-        Step::TakeEach(count) => takes_each(link, count),
-        Step::Receive(octets, tsdu) => receives(link, octets, tsdu),
-        Step::ReceiveWhole(octets) => receives_whole(link, octets),
-        Step::Give(wanted) => gives(link, wanted),
-        Step::GiveEach(count) => gives_each(link, count),
-        Step::HandOut(wanted) => hands_out(link, wanted),
-        Step::HandOutLongest => hands_out(link, Some(octets(alloc, LONGEST_TSDU)?.as_slice())),
+        Step::Send(tsdu) => sends(link, tsdu, checks),
+        Step::SendTwo => sends_two(link, alloc, checks),
+        Step::SendEach(count) => sends_each(link, count, checks),
+        Step::Take(octets, fault) => takes_octets(link, octets, fault, checks),
+        Step::TakeLong => takes_long(link, checks),
+        Step::TakeEach(count) => takes_each(link, count, checks),
+        Step::Receive(octets, wanted) => receives(link, octets, wanted, checks),
+        Step::Give(wanted) => gives(link, wanted, checks),
+        Step::GiveEach(count) => gives_each(link, count, checks),
+        Step::HandOut(wanted) => hands_out(link, wanted, checks),
+        Step::HandOutLongest => hands_out_longest(link, alloc, checks),
     }
 }
 
-fn goes(link: &mut impl Link, alloc: Global, steps: &[Step]) -> Result<(), Fail> {
+fn goes(link: &mut impl Link, alloc: Global, steps: &[Step], checks: &mut Checks) {
     for step in steps {
-        does(link, alloc, *step)?;
+        does(link, alloc, *step, checks);
     }
-    Ok(())
 }
 
-/// A link of class 2 with this window, whose peer gave this credit.
-fn class_2(alloc: Global, size: Option<SizeCode>, window: u8, credit: u8) -> Result<Class2, Fail> {
-    let window = Window::new(window).ok_or("window")?;
-    let credit = Credit::new(credit).ok_or("credit")?;
-    Ok(Class2::new(alloc, size, window, credit))
+/// The window and the credit of these numbers of units; `None` is reported.
+fn flow(window: u8, credit: u8, checks: &mut Checks) -> Option<(Window, Credit)> {
+    match (Window::new(window), Credit::new(credit)) {
+        (Some(window), Some(credit)) => Some((window, credit)),
+        _ => {
+            checks.that(false, "no window, or no credit");
+            None
+        }
+    }
 }
 
-/// A link of class 0, or of class 2 with a window of 2.
-fn any(alloc: Global, is_class_2: bool) -> Result<AnyLink, Fail> {
-    if is_class_2 {
-        Ok(AnyLink::Two(class_2(alloc, None, 2, 0)?))
-    } else {
-        Ok(AnyLink::Zero(Class0::new(alloc, None)))
+/// A link of class 2 with this window and the credit that its peer gave; or one of class 0.
+fn any(alloc: Global, size: Option<SizeCode>, flow: Option<(Window, Credit)>) -> AnyLink {
+    match flow {
+        Some((window, credit)) => AnyLink::Two(Class2::new(alloc, size, window, credit)),
+        None => AnyLink::Zero(Class0::new(alloc, size)),
     }
+}
+
+/// A link of class 0 takes these steps.
+fn zero_goes(alloc: Global, size: Option<SizeCode>, steps: &[Step], checks: &mut Checks) {
+    let mut link = Class0::new(alloc, size);
+    goes(&mut link, alloc, steps, checks);
+    drop(link);
+}
+
+/// A link of class 2 takes these steps.
+fn two_goes(
+    alloc: Global,
+    size: Option<SizeCode>,
+    flow: (Window, Credit),
+    steps: &[Step],
+    checks: &mut Checks,
+) {
+    let mut link = Class2::new(alloc, size, flow.0, flow.1);
+    goes(&mut link, alloc, steps, checks);
+    drop(link);
+}
+
+/// A link of any class takes these steps.
+fn any_goes(alloc: Global, flow: Option<(Window, Credit)>, steps: &[Step], checks: &mut Checks) {
+    let mut link = any(alloc, None, flow);
+    goes(&mut link, alloc, steps, checks);
+    drop(link);
 }
 
 fn class_0_does(rt: &HostRuntime, size: Option<SizeCode>, steps: &[Step]) -> Result<(), Fail> {
-    goes(&mut Class0::new(rt.alloc(), size), rt.alloc(), steps)
+    let mut checks = Checks::new();
+    zero_goes(rt.alloc(), size, steps, &mut checks);
+    checks.end()
 }
 
 fn class_2_does(
@@ -268,18 +305,26 @@ fn class_2_does(
     credit: u8,
     steps: &[Step],
 ) -> Result<(), Fail> {
-    goes(
-        &mut class_2(rt.alloc(), size, window, credit)?,
-        rt.alloc(),
-        steps,
-    )
+    let mut checks = Checks::new();
+    if let Some(flow) = flow(window, credit, &mut checks) {
+        two_goes(rt.alloc(), size, flow, steps, &mut checks);
+    }
+    checks.end()
 }
 
+/// A link of class 0, or of class 2 with a window of 2, takes these steps.
 fn any_does(rt: &HostRuntime, is_class_2: bool, steps: &[Step]) -> Result<(), Fail> {
-    goes(&mut any(rt.alloc(), is_class_2)?, rt.alloc(), steps)
+    let mut checks = Checks::new();
+    let flow = if is_class_2 {
+        flow(2, 0, &mut checks)
+    } else {
+        None
+    };
+    any_goes(rt.alloc(), flow, steps, &mut checks);
+    checks.end()
 }
 
-const NO_ACK: [Step; 6] = [
+static NO_ACK: [Step; 6] = [
     Step::Take(&[2, 0xF0, 0, 0x41], None),
     Step::Take(&[4, 0x63, 0, 1, 0], Some(LinkFault::WrongForm)),
     Step::Take(&[2, 0xF0, 0x80, 0x42], None),
@@ -294,10 +339,10 @@ fn class_0_takes_no_ack(rt: HostRuntime) -> Result<(), Fail> {
 }
 
 /// A TSDU in two parts, and one in a single unit.
-const RECEIVED: [Step; 3] = [
-    Step::Receive(&[2, 0xF0, 0, 0x41], None),
-    Step::Receive(&[2, 0xF0, 0x80, 0x42], Some(b"AB")),
-    Step::ReceiveWhole(&[2, 0xF0, 0x80, 0x43]),
+static RECEIVED: [Step; 3] = [
+    Step::Receive(&[2, 0xF0, 0, 0x41], Received::Nothing),
+    Step::Receive(&[2, 0xF0, 0x80, 0x42], Received::Joined(b"AB")),
+    Step::Receive(&[2, 0xF0, 0x80, 0x43], Received::Whole),
 ];
 
 #[test]
@@ -305,7 +350,7 @@ fn a_unit_that_ends_a_tsdu_hands_it_out(rt: HostRuntime) -> Result<(), Fail> {
     class_0_does(&rt, None, &RECEIVED)
 }
 
-const PARTS: [Step; 6] = [
+static PARTS: [Step; 6] = [
     Step::Send(&[0x5a; 126]),
     Step::Send(&[]),
     Step::Give(Given::Part {
@@ -328,7 +373,7 @@ fn a_tsdu_is_cut_at_the_size(rt: HostRuntime) -> Result<(), Fail> {
     class_0_does(&rt, SizeCode::new(7), &PARTS)
 }
 
-const LIST: [Step; 7] = [
+static LIST: [Step; 7] = [
     Step::Send(b"A"),
     Step::SendTwo,
     Step::Give(Given::Part {
@@ -356,7 +401,7 @@ fn tsdus_are_handed_in_together(rt: HostRuntime) -> Result<(), Fail> {
 }
 
 /// Fifteen TSDUs of an octet each are sent at once, and no more.
-const EDGE: [Step; 6] = [
+static EDGE: [Step; 6] = [
     Step::Take(&[4, 0x62, 0, 1, 0], Some(LinkFault::CreditReduced)),
     Step::Take(&[4, 0x63, 0, 1, 1], Some(LinkFault::OutOfSequence)),
     Step::Take(&[4, 0x6F, 0, 1, 0], None),
@@ -372,8 +417,8 @@ fn an_ack_sets_the_upper_edge(rt: HostRuntime) -> Result<(), Fail> {
 }
 
 /// 129 units pass, so that numbers wrap around, and then the last one.
-const NUMBERS: [Step; 5] = [
-    Step::SendLong(15_868),
+static NUMBERS: [Step; 5] = [
+    Step::Send(&[0x5a; 15_868]),
     Step::GiveEach(129),
     Step::Give(Given::Data {
         number: 1,
@@ -389,7 +434,7 @@ fn numbers_go_round(rt: HostRuntime) -> Result<(), Fail> {
     class_2_does(&rt, SizeCode::new(7), 1, 1, &NUMBERS)
 }
 
-const WINDOW: [Step; 9] = [
+static WINDOW: [Step; 9] = [
     Step::Take(&[4, 0xF0, 0, 1, 0x81, 0x41], Some(LinkFault::OutOfSequence)),
     Step::Take(&[4, 0xF0, 0, 1, 0, 0x41], None),
     Step::Take(&[4, 0xF0, 0, 1, 0x81, 0x42], None),
@@ -413,8 +458,8 @@ fn each_unit_taken_gives_one_ack(rt: HostRuntime) -> Result<(), Fail> {
 }
 
 /// A unit completes a TSDU, and is acknowledged.
-const RECEIVED_AND_ANSWERED: [Step; 2] = [
-    Step::ReceiveWhole(&[4, 0xF0, 0, 1, 0x80, 0x41]),
+static RECEIVED_AND_ANSWERED: [Step; 2] = [
+    Step::Receive(&[4, 0xF0, 0, 1, 0x80, 0x41], Received::Whole),
     Step::Give(Given::Ack {
         number: 1,
         credit: 2,
@@ -426,13 +471,15 @@ fn a_unit_of_class_2_hands_out_its_tsdu(rt: HostRuntime) -> Result<(), Fail> {
     any_does(&rt, true, &RECEIVED_AND_ANSWERED)
 }
 
+static FIVE: [Step; 1] = [Step::TakeEach(5)];
+
 #[test]
 fn the_fifth_unit_of_a_window_of_1_is_answered_by_number_5(rt: HostRuntime) -> Result<(), Fail> {
-    class_2_does(&rt, None, 1, 0, &[Step::TakeEach(5)])
+    class_2_does(&rt, None, 1, 0, &FIVE)
 }
 
 /// A link takes no more than the longest TSDU.
-const LONGEST: [Step; 4] = [
+static LONGEST: [Step; 4] = [
     Step::TakeLong,
     Step::Take(&[2, 0xF0, 0x80, 0x41], Some(LinkFault::TsduTooLong)),
     Step::Take(&[2, 0xF0, 0x80], None),
@@ -442,13 +489,6 @@ const LONGEST: [Step; 4] = [
 #[test]
 fn a_tsdu_has_at_most_1048576_octets(rt: HostRuntime) -> Result<(), Fail> {
     any_does(&rt, false, &LONGEST)
-}
-
-/// Two links.
-#[derive(Drop)]
-struct Ends {
-    from: AnyLink,
-    to: AnyLink,
 }
 
 /// The unit that a link gives, for reference 1.
@@ -476,94 +516,87 @@ fn unit_of(out: Out<'_>) -> Tpdu<'_>
 }
 
 /// Hands the next unit of one link to the other, for reference 1; false if there is none.
-fn passes(from: &mut AnyLink, to: &mut AnyLink) -> Result<bool, LinkFault> {
+fn passes(from: &mut AnyLink, to: &mut AnyLink, checks: &mut Checks) -> bool {
     match from.next_out() {
-        None => Ok(false),
+        None => false,
         Some(out) => {
-            to.take(&unit_of(out))?;
-            Ok(true)
+            takes(to, &unit_of(out), None, checks);
+            true
         }
     }
 }
 
 /// Hands each unit that one link gives to the other, until it gives none.
-fn pass_all(from: &mut AnyLink, to: &mut AnyLink) -> Result<(), Fail> {
+fn pass_all(from: &mut AnyLink, to: &mut AnyLink, checks: &mut Checks) {
     for _ in 0..300u16 {
-        if !passes(from, to)? {
-            return Ok(());
+        if !passes(from, to, checks) {
+            return;
         }
     }
-    Ok(())
 }
 
 /// Moves two TSDUs of the greatest length.
-fn two_go_over(ends: &mut Ends, longest: &[u8]) -> Result<(), Fail> {
+fn two_go_over(from: &mut AnyLink, to: &mut AnyLink, longest: &[u8], checks: &mut Checks) {
     for _ in 0..18u8 {
-        pass_all(&mut ends.from, &mut ends.to)?;
-        pass_all(&mut ends.to, &mut ends.from)?;
+        pass_all(from, to, checks);
+        pass_all(to, from, checks);
     }
-    hands_out(&mut ends.to, Some(longest))?;
-    hands_out(&mut ends.to, Some(longest))
+    hands_out(to, Some(longest), checks);
+    hands_out(to, Some(longest), checks);
 }
 
-/// Sends a copy of a TSDU that is given away.
-fn gives_away(link: &mut AnyLink, alloc: Global, tsdu: &[u8]) -> Result<(), Fail> {
-    link.send_owned(Vec::from_slice(alloc, tsdu)?)?;
-    Ok(())
+/// Sends the longest TSDU, which is given away.
+fn gives_away(link: &mut AnyLink, alloc: Global, checks: &mut Checks) {
+    let longest = octets(alloc, LONGEST_TSDU, checks);
+    checks.memory(link.send_owned(longest));
 }
 
 /// Moves the longest TSDU, once borrowed and once given away, in both orders.
-fn all_go_over(ends: &mut Ends, alloc: Global, longest: &[u8]) -> Result<(), Fail> {
-    sends(&mut ends.from, longest)?;
-    gives_away(&mut ends.from, alloc, longest)?;
-    two_go_over(ends, longest)?;
-    gives_away(&mut ends.from, alloc, longest)?;
-    sends(&mut ends.from, longest)?;
-    two_go_over(ends, longest)
+fn all_go_over(from: &mut AnyLink, to: &mut AnyLink, alloc: Global, checks: &mut Checks) {
+    let longest = octets(alloc, LONGEST_TSDU, checks);
+    sends(from, longest.as_slice(), checks);
+    gives_away(from, alloc, checks);
+    two_go_over(from, to, longest.as_slice(), checks);
+    gives_away(from, alloc, checks);
+    sends(from, longest.as_slice(), checks);
+    two_go_over(from, to, longest.as_slice(), checks);
 }
 
-fn class_0_ends(alloc: Global, size: Option<SizeCode>) -> Ends {
-    Ends {
-        from: AnyLink::Zero(Class0::new(alloc, size)),
-        to: AnyLink::Zero(Class0::new(alloc, size)),
-    }
+/// A link with 8,192 octets in a unit.
+fn wide(alloc: Global, flow: Option<(Window, Credit)>) -> AnyLink {
+    any(alloc, SizeCode::new(13), flow)
 }
 
-fn class_2_ends(alloc: Global, size: Option<SizeCode>) -> Result<Ends, Fail> {
-    let window = Window::new(15).ok_or("window")?;
-    let credit = Credit::new(15).ok_or("credit")?;
-    Ok(Ends {
-        from: AnyLink::Two(Class2::new(alloc, size, window, credit)),
-        to: AnyLink::Two(Class2::new(alloc, size, window, credit)),
-    })
+/// All go over from this link to a new one.
+fn all_go_over_from(
+    from: &mut AnyLink,
+    alloc: Global,
+    flow: Option<(Window, Credit)>,
+    checks: &mut Checks,
+) {
+    let mut to = wide(alloc, flow);
+    all_go_over(from, &mut to, alloc, checks);
+    drop(to);
 }
 
-fn two_ends(alloc: Global, is_class_2: bool) -> Result<Ends, Fail> {
-    if is_class_2 {
-        class_2_ends(alloc, SizeCode::new(13))
-    } else {
-        Ok(class_0_ends(alloc, SizeCode::new(13)))
-    }
-}
-
-fn longest_goes_over(alloc: Global, is_class_2: bool, longest: &[u8]) -> Result<(), Fail> {
-    all_go_over(&mut two_ends(alloc, is_class_2)?, alloc, longest)
+/// All go over from one new link to another.
+fn all_go_over_wide(alloc: Global, flow: Option<(Window, Credit)>, checks: &mut Checks) {
+    let mut from = wide(alloc, flow);
+    all_go_over_from(&mut from, alloc, flow, checks);
+    drop(from);
 }
 
 #[test]
 fn the_longest_tsdu_goes_over_class_0(rt: HostRuntime) -> Result<(), Fail> {
-    longest_goes_over(
-        rt.alloc(),
-        false,
-        octets(rt.alloc(), LONGEST_TSDU)?.as_slice(),
-    )
+    let mut checks = Checks::new();
+    all_go_over_wide(rt.alloc(), None, &mut checks);
+    checks.end()
 }
 
 #[test]
 fn the_longest_tsdu_goes_over_class_2(rt: HostRuntime) -> Result<(), Fail> {
-    longest_goes_over(
-        rt.alloc(),
-        true,
-        octets(rt.alloc(), LONGEST_TSDU)?.as_slice(),
-    )
+    let mut checks = Checks::new();
+    let flow = flow(15, 15, &mut checks);
+    all_go_over_wide(rt.alloc(), flow, &mut checks);
+    checks.end()
 }

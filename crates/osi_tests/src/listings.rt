@@ -1,5 +1,6 @@
 //! Listings of TSDUs that are too long for a capture of `osi_runs`, and of octets that arrive one by one.
 
+use crate::checks::{Checks, OUT_OF_MEMORY};
 use osi_listing::{Counts, Lister, Trace, list};
 use std::alloc::{AllocError, Global};
 use std::test::Fail;
@@ -16,14 +17,14 @@ struct Last {
 }
 
 /// A TSDU has at most 1,048,576 octets.
-const LONGEST: Last = Last {
+static LONGEST: Last = Last {
     header: &[3, 0, 0, 135, 2, 0xF0, 0x80],
     octets: &[0; 128],
     behind: &[],
     lines: b"octets 128\n    tsdu 1048576\n    fault 0 UnknownSi\nrest 0\n",
 };
 
-const TOO_LONG: Last = Last {
+static TOO_LONG: Last = Last {
     header: &[3, 0, 0, 136, 2, 0xF0, 0x80],
     octets: &[0; 129],
     behind: &[],
@@ -31,7 +32,7 @@ const TOO_LONG: Last = Last {
 };
 
 /// The rest of a TSDU that is too long is dropped.
-const DROPPED: Last = Last {
+static DROPPED: Last = Last {
     header: &[3, 0, 0, 136, 2, 0xF0, 0],
     octets: &[0; 129],
     behind: &[3, 0, 0, 7, 2, 0xF0, 0x80, 3, 0, 0, 7, 2, 0xF0, 0x80],
@@ -47,20 +48,19 @@ rest 0
 ",
 };
 
-/// Adds 16 data units of 65,528 octets, and then the last packets.
-fn push_packets(out: &mut Vec<u8>, last: &Last) -> Result<(), AllocError> {
+/// Adds 16 data units of 65,528 octets.
+fn push_long(out: &mut Vec<u8>, checks: &mut Checks) {
     for _ in 0..16u8 {
-        out.extend_from_slice(&[3, 0, 255, 255, 2, 0xF0, 0])?;
-        out.extend_from_slice(&[0; 65_528])?;
+        checks.memory(out.extend_from_slice(&[3, 0, 255, 255, 2, 0xF0, 0]));
+        checks.memory(out.extend_from_slice(&[0; 65_528]));
     }
-    out.extend_from_slice(last.header)?;
-    out.extend_from_slice(last.octets)?;
-    out.extend_from_slice(last.behind)
 }
 
-/// The result of `list`.
-fn listed(alloc: Global, text: &mut Vec<u8>, octets: &[u8]) -> Result<u8, AllocError> {
-    list(alloc, text, octets)
+/// Adds the last packets.
+fn push_last(out: &mut Vec<u8>, last: &Last, checks: &mut Checks) {
+    for part in [last.header, last.octets, last.behind] {
+        checks.memory(out.extend_from_slice(part));
+    }
 }
 
 /// The listing ends with these lines.
@@ -69,33 +69,42 @@ fn is_listed(
     octets: &mut Vec<u8>,
     text: &mut Vec<u8>,
     last: &Last,
-) -> Result<(), Fail> {
-    push_packets(octets, last)?;
-    listed(alloc, text, octets.as_slice())?;
-    if !text.as_slice().ends_with(last.lines) {
-        return Err(Fail::from("another listing"));
-    }
-    Ok(())
+    checks: &mut Checks,
+) {
+    push_long(octets, checks);
+    push_last(octets, last, checks);
+    checks.that(list(alloc, text, octets.as_slice()).is_ok(), OUT_OF_MEMORY);
+    checks.that(text.as_slice().ends_with(last.lines), "another listing");
 }
 
 /// The listing of new octets into a new text ends with these lines.
-fn ends_so(alloc: Global, last: &Last) -> Result<(), Fail> {
-    is_listed(alloc, &mut Vec::new(alloc), &mut Vec::new(alloc), last)
+fn ends_so(alloc: Global, last: &Last, checks: &mut Checks) {
+    is_listed(
+        alloc,
+        &mut Vec::new(alloc),
+        &mut Vec::new(alloc),
+        last,
+        checks,
+    );
 }
 
 #[test]
 fn a_tsdu_has_at_most_1_048_576_octets(rt: HostRuntime) -> Result<(), Fail> {
-    ends_so(rt.alloc(), &LONGEST)?;
-    ends_so(rt.alloc(), &TOO_LONG)
+    let mut checks = Checks::new();
+    ends_so(rt.alloc(), &LONGEST, &mut checks);
+    ends_so(rt.alloc(), &TOO_LONG, &mut checks);
+    checks.end()
 }
 
 #[test]
 fn what_is_too_long_is_dropped_up_to_its_end(rt: HostRuntime) -> Result<(), Fail> {
-    ends_so(rt.alloc(), &DROPPED)
+    let mut checks = Checks::new();
+    ends_so(rt.alloc(), &DROPPED, &mut checks);
+    checks.end()
 }
 
 /// A packet of two session units, one with a bad transport unit, and two octets more.
-const MIXED: [u8; 22] = [
+static MIXED: [u8; 22] = [
     3, 0, 0, 13, 2, 0xF0, 0x80, 1, 0, 1, 0, 0x41, 0x42, 3, 0, 0, 7, 2, 0, 0x80, 3, 0,
 ];
 
@@ -105,20 +114,15 @@ fn feed_singly(
     lister: &mut Lister,
     text: &mut Vec<u8>,
     octets: &[u8],
-) -> Result<(), AllocError> {
+    checks: &mut Checks,
+) {
     for octet in octets {
-        lister.feed(alloc, text, [*octet].as_slice())?;
+        checks.memory(lister.feed(alloc, text, &[*octet]));
     }
-    Ok(())
-}
-
-/// The answer of `Lister::finish`.
-fn finished(lister: &Lister, text: &mut Vec<u8>) -> Result<u8, AllocError> {
-    lister.finish(text)
 }
 
 /// What `MIXED` has is counted.
-fn is_counted(lister: &Lister) -> Result<(), Fail> {
+fn is_counted(lister: &Lister, checks: &mut Checks) {
     let counts = Counts {
         packets: 2,
         units: 1,
@@ -126,51 +130,60 @@ fn is_counted(lister: &Lister) -> Result<(), Fail> {
         session_units: 2,
         refused: 1,
     };
-    if lister.counts() != counts {
-        return Err(Fail::from("other counts"));
-    }
-    if lister.octets() != 22 {
-        return Err(Fail::from("another number of octets"));
-    }
-    if lister.is_lost() {
-        return Err(Fail::from("lost"));
-    }
-    Ok(())
+    checks.that(lister.counts() == counts, "other counts");
+    checks.that(lister.octets() == 22, "another number of octets");
+    checks.that(!lister.is_lost(), "lost");
 }
 
-/// The listing of octets that arrive one by one, and its status.
-fn listed_singly(alloc: Global, text: &mut Vec<u8>, octets: &[u8]) -> Result<u8, Fail> {
-    listed_by(alloc, &mut Lister::new(alloc), text, octets)
+/// The status of a listing, if there is memory for it.
+fn status(answer: Result<u8, AllocError>, checks: &mut Checks) -> Option<u8> {
+    let status = answer.ok();
+    checks.that(status.is_some(), OUT_OF_MEMORY);
+    status
 }
 
-fn listed_by(
+/// The status of the listing of `MIXED`, which arrives octet by octet.
+fn listed_singly(
     alloc: Global,
     lister: &mut Lister,
     text: &mut Vec<u8>,
-    octets: &[u8],
-) -> Result<u8, Fail> {
-    feed_singly(alloc, lister, text, octets)?;
-    is_counted(lister)?;
-    Ok(finished(lister, text)?)
+    checks: &mut Checks,
+) -> Option<u8> {
+    feed_singly(alloc, lister, text, &MIXED, checks);
+    is_counted(lister, checks);
+    status(lister.finish(text), checks)
+}
+
+/// The status of the listing of `MIXED` by a new lister.
+fn listed_anew(alloc: Global, text: &mut Vec<u8>, checks: &mut Checks) -> Option<u8> {
+    listed_singly(alloc, &mut Lister::new(alloc), text, checks)
+}
+
+/// `MIXED` is listed octet by octet as all at once.
+fn is_listed_alike(
+    alloc: Global,
+    singly: &mut Vec<u8>,
+    at_once: &mut Vec<u8>,
+    checks: &mut Checks,
+) {
+    let one = listed_anew(alloc, singly, checks);
+    let other = status(list(alloc, at_once, &MIXED), checks);
+    checks.that(one == Some(1), "another status");
+    checks.that(one == other, "two statuses");
+    checks.that(singly.as_slice() == at_once.as_slice(), "two listings");
 }
 
 #[test]
 fn octets_that_come_one_by_one_are_listed_as_all_at_once(rt: HostRuntime) -> Result<(), Fail> {
     let alloc = rt.alloc();
-    let mut singly = Vec::new(alloc);
-    let mut at_once = Vec::new(alloc);
-    let one = listed_singly(alloc, &mut singly, &MIXED)?;
-    let other = listed(alloc, &mut at_once, &MIXED)?;
-    if one != 1 {
-        return Err(Fail::from("another status"));
-    }
-    if one != other {
-        return Err(Fail::from("two statuses"));
-    }
-    if singly.as_slice() != at_once.as_slice() {
-        return Err(Fail::from("two listings"));
-    }
-    Ok(())
+    let mut checks = Checks::new();
+    is_listed_alike(
+        alloc,
+        &mut Vec::new(alloc),
+        &mut Vec::new(alloc),
+        &mut checks,
+    );
+    checks.end()
 }
 
 /// Feeds a trace 10,000 packets, each with an empty TSDU of class 0: more than 900,000 octets of lines.
@@ -188,13 +201,12 @@ fn begin_streams(alloc: Global, trace: &mut Trace) {
 }
 
 /// A trace goes on with all of these.
-fn goes_on(alloc: Global, trace: &mut Trace) -> Result<(), Fail> {
+fn goes_on(alloc: Global, trace: &mut Trace, checks: &mut Checks) {
     feed_packets(alloc, trace);
     begin_streams(alloc, trace);
-    if trace.is_stopped() || trace.octets() != 70_640 || trace.counts().tsdus != 10_000 {
-        return Err(Fail::from("it has stopped"));
-    }
-    Ok(())
+    checks.that(!trace.is_stopped(), "it has stopped");
+    checks.that(trace.octets() == 70_640, "another number of octets");
+    checks.that(trace.counts().tsdus == 10_000, "another number of TSDUs");
 }
 
 /// A fresh trace of lines, or of counters alone.
@@ -206,12 +218,16 @@ fn trace(alloc: Global, has_lines: bool) -> Trace {
     }
 }
 
-fn trace_goes_on(alloc: Global, has_lines: bool) -> Result<(), Fail> {
-    goes_on(alloc, &mut trace(alloc, has_lines))
+fn trace_goes_on(alloc: Global, has_lines: bool, checks: &mut Checks) {
+    let mut trace = trace(alloc, has_lines);
+    goes_on(alloc, &mut trace, checks);
+    drop(trace);
 }
 
 #[test]
 fn a_trace_goes_on_within_its_bounds(rt: HostRuntime) -> Result<(), Fail> {
-    trace_goes_on(rt.alloc(), true)?;
-    trace_goes_on(rt.alloc(), false)
+    let mut checks = Checks::new();
+    trace_goes_on(rt.alloc(), true, &mut checks);
+    trace_goes_on(rt.alloc(), false, &mut checks);
+    checks.end()
 }

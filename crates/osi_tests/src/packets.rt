@@ -1,7 +1,9 @@
 //! Cutting and writing packets.
 
+use crate::checks::{Checks, OUT_OF_MEMORY};
 use bytes::BytesMut;
 use osi_tpkt::*;
+use std::alloc::AllocError;
 use std::test::Fail;
 
 fn feed(cutter: &mut Cutter, piece: &[u8]) -> Result<Fed, TpktFault> {
@@ -9,59 +11,80 @@ fn feed(cutter: &mut Cutter, piece: &[u8]) -> Result<Fed, TpktFault> {
 }
 
 /// The answer to a piece. If memory runs out, this must have changed nothing, and the piece is fed again.
-fn fed(cutter: &mut Cutter, piece: &[u8]) -> Result<Fed, Fail> {
+fn fed(cutter: &mut Cutter, piece: &[u8], checks: &mut Checks) -> Result<Fed, TpktFault> {
     let before = cutter.rest_len();
-    match feed(cutter, piece) {
-        Ok(fed) => Ok(fed),
-        Err(TpktFault::OutOfMemory) if cutter.rest_len() == before => Ok(feed(cutter, piece)?),
-        Err(TpktFault::OutOfMemory) => Err(Fail::from("want of memory has changed the cutter")),
-        Err(fault) => Err(Fail::from(fault)),
+    let answer = feed(cutter, piece);
+    if answer != Err(TpktFault::OutOfMemory) {
+        return answer;
     }
+    checks.that(
+        cutter.rest_len() == before,
+        "want of memory has changed the cutter",
+    );
+    feed(cutter, piece)
 }
 
 /// A cutter uses this many octets of a piece, and then a packet is ready or not.
-fn uses(cutter: &mut Cutter, piece: &[u8], used: usize, whole: bool) -> Result<(), Fail> {
-    let fed = fed(cutter, piece)?;
-    if fed.used != used || fed.whole != whole {
-        return Err(Fail::from("another answer"));
-    }
-    Ok(())
-}
-
-/// This packet is ready, header and transport unit.
-fn has_packet(cutter: &Cutter, packet: &[u8]) -> Result<(), Fail> {
-    let (_, unit) = packet.split_at_checked(4).ok_or("a packet")?;
-    if cutter.rest_len() != packet.len() || cutter.packet() != Some(unit) {
-        return Err(Fail::from("another packet"));
-    }
-    Ok(())
+fn uses(cutter: &mut Cutter, piece: &[u8], wanted: Fed, checks: &mut Checks) {
+    let answer = fed(cutter, piece, checks);
+    checks.that(answer != Err(TpktFault::OutOfMemory), OUT_OF_MEMORY);
+    checks.that(answer == Ok(wanted), "another answer to a piece");
 }
 
 /// A connect request of 22 octets, of which 18 are the transport unit.
-const CONNECT_REQUEST: [u8; 22] = [
+static CONNECT_REQUEST: [u8; 22] = [
     0x03, 0x00, 0x00, 0x16, 0x11, 0xe0, 0x00, 0x00, 0x00, 0x01, 0x00, 0xc0, 0x01, 0x0a, 0xc1, 0x02,
     0x01, 0x00, 0xc2, 0x02, 0x01, 0x02,
 ];
 
-/// A packet arrives octet by octet.
-fn comes_slowly(cutter: &mut Cutter, packet: &[u8]) -> Result<(), Fail> {
-    let (last, first) = packet.split_last().ok_or("a packet")?;
-    for octet in first {
-        uses(cutter, &[*octet], 1, false)?;
-    }
-    uses(cutter, &[*last], 1, true)?;
-    has_packet(cutter, packet)
+/// The packet is ready, header and transport unit.
+fn has_request(cutter: &Cutter, checks: &mut Checks) {
+    checks.that(
+        cutter.rest_len() == CONNECT_REQUEST.len(),
+        "a packet of another length",
+    );
+    checks.that(
+        cutter.packet() == Some(&CONNECT_REQUEST[4..]),
+        "another packet",
+    );
 }
 
-fn two_come_slowly(cutter: &mut Cutter) -> Result<(), Fail> {
-    comes_slowly(cutter, &CONNECT_REQUEST)?;
+/// The packet arrives octet by octet.
+fn comes_slowly(cutter: &mut Cutter, checks: &mut Checks) {
+    for octet in &CONNECT_REQUEST[..21] {
+        uses(
+            cutter,
+            &[*octet],
+            Fed {
+                used: 1,
+                whole: false,
+            },
+            checks,
+        );
+    }
+    uses(
+        cutter,
+        &CONNECT_REQUEST[21..],
+        Fed {
+            used: 1,
+            whole: true,
+        },
+        checks,
+    );
+    has_request(cutter, checks);
+}
+
+fn two_come_slowly(cutter: &mut Cutter, checks: &mut Checks) {
+    comes_slowly(cutter, checks);
     cutter.advance();
-    comes_slowly(cutter, &CONNECT_REQUEST)
+    comes_slowly(cutter, checks);
 }
 
 #[test]
 fn octets_come_one_by_one(rt: HostRuntime) -> Result<(), Fail> {
-    two_come_slowly(&mut Cutter::new(rt.alloc()))
+    let mut checks = Checks::new();
+    two_come_slowly(&mut Cutter::new(rt.alloc()), &mut checks);
+    checks.end()
 }
 
 /// The length of the unit of any grammar at the front, if it is complete.
@@ -72,22 +95,38 @@ fn octets_read<'a, U: Unit<'a>>(octets: &'a [u8]) -> Option<usize> {
     }
 }
 
-/// A unit of any grammar has this written form.
-pub fn is_appended<'a, U: Unit<'a>>(unit: &U, octets: &[u8], out: &mut BytesMut) -> Result<(), Fail>
+/// Whether a unit of any grammar has this written form.
+pub(crate) fn is_appended<'a, U: Unit<'a>>(
+    unit: &U,
+    octets: &[u8],
+    out: &mut BytesMut,
+) -> Result<bool, AllocError>
     requires { U.fits (U.value unit.now) }
 {
     unit.write(out)?;
-    if unit.written_len() != octets.len() || out.as_slice() != octets {
-        return Err(Fail::from("another written form"));
+    Ok(unit.written_len() == octets.len() && out.as_slice() == octets)
+}
+
+/// The connect request is read and written.
+fn is_written_again(out: &mut BytesMut, checks: &mut Checks) {
+    match Packet::read(&CONNECT_REQUEST) {
+        Ok(Some((packet, _))) => checks.made(
+            is_appended(&packet, &CONNECT_REQUEST, out),
+            "another written form",
+        ),
+        Ok(None) | Err(_) => checks.that(false, "no packet"),
     }
-    Ok(())
 }
 
 #[test]
 fn a_packet_is_read_and_written(rt: HostRuntime) -> Result<(), Fail> {
-    assert!(rt; octets_read::<Packet>(&CONNECT_REQUEST) == Some(22));
-    let (packet, _) = Packet::read(&CONNECT_REQUEST)?.ok_or("no packet")?;
-    is_appended(&packet, &CONNECT_REQUEST, &mut BytesMut::new(rt.alloc()))
+    let mut checks = Checks::new();
+    checks.that(
+        octets_read::<Packet>(&CONNECT_REQUEST) == Some(22),
+        "another length",
+    );
+    is_written_again(&mut BytesMut::new(rt.alloc()), &mut checks);
+    checks.end()
 }
 
 /// Octets are a proper prefix of a packet.
@@ -111,31 +150,35 @@ fn a_packet_is_cut_or_has_a_fault(rt: HostRuntime) {
     assert!(rt; has_fault(&[3, 0, 0, 6], TpktFault::BadLength(0)));
 }
 
-fn has_a_bad_size(out: &mut BytesMut, unit: &[u8]) -> Result<(), Fail> {
-    if write_packet(out, unit) != Err(WriteError::BadSize) || !out.is_empty() {
-        return Err(Fail::from("another answer"));
-    }
-    Ok(())
+/// A unit of this size fits no packet, and nothing is written.
+fn has_a_bad_size(out: &mut BytesMut, unit: &[u8], checks: &mut Checks) {
+    checks.that(
+        write_packet(out, unit) == Err(WriteError::BadSize),
+        "the size is not bad",
+    );
+    checks.that(out.is_empty(), "octets are written");
 }
 
-fn is_the_longest_packet(out: &mut BytesMut, unit: &[u8]) -> Result<(), Fail> {
-    write_packet(out, unit)?;
-    if out.len() != 65_535 || !out.as_slice().starts_with(&[3, 0, 0xff, 0xff, 7, 7]) {
-        return Err(Fail::from("another packet"));
-    }
-    Ok(())
+fn is_the_longest_packet(out: &mut BytesMut, unit: &[u8], checks: &mut Checks) {
+    let answer = write_packet(out, unit);
+    checks.that(answer != Err(WriteError::OutOfMemory), OUT_OF_MEMORY);
+    checks.that(answer == Ok(()), "a packet is not written");
+    checks.that(out.len() == 65_535, "a packet of another length");
+    checks.that(
+        out.as_slice().starts_with(&[3, 0, 0xff, 0xff, 7, 7]),
+        "another packet",
+    );
 }
 
-/// The octets are 65,532.
-fn sizes_go_on(out: &mut BytesMut, octets: &[u8]) -> Result<(), Fail> {
-    let (longest, _) = octets.split_at_checked(65531).ok_or("octets")?;
-    has_a_bad_size(out, &[7, 7])?;
-    has_a_bad_size(out, octets)?;
-    is_the_longest_packet(out, longest)
+fn sizes_go_on(out: &mut BytesMut, checks: &mut Checks) {
+    has_a_bad_size(out, &[7; 2], checks);
+    has_a_bad_size(out, &[7; 65_532], checks);
+    is_the_longest_packet(out, &[7; 65_531], checks);
 }
 
 #[test]
 fn a_packet_carries_3_to_65531_octets(rt: HostRuntime) -> Result<(), Fail> {
-    let octets = vec![in rt.alloc(); 7u8; 65532]?;
-    sizes_go_on(&mut BytesMut::new(rt.alloc()), octets.as_slice())
+    let mut checks = Checks::new();
+    sizes_go_on(&mut BytesMut::new(rt.alloc()), &mut checks);
+    checks.end()
 }

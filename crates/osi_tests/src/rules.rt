@@ -1,5 +1,6 @@
 //! The rules of transport on one byte connection: what is found of each unit, row by row.
 
+use crate::checks::{Checks, OUT_OF_MEMORY};
 use crate::transport_units::only_unit;
 use osi_rules::{Direction, Finding, Rule, Traffic};
 use std::alloc::Global;
@@ -34,31 +35,33 @@ fn passes(
     direction: Direction,
     octets: &[u8],
     finding: Finding,
-) -> Result<(), Fail> {
-    let told = traffic.take(direction, &only_unit(octets)?)?;
-    if told.finding != finding {
-        return Err(Fail::from("another finding"));
-    }
-    Ok(())
-}
-
-fn does(traffic: &mut Traffic, step: Step) -> Result<(), Fail> {
-    match step {
-        Step::Begins(direction) => traffic.begin(direction),
-        Step::Passes(direction, octets, finding) => passes(traffic, direction, octets, finding)?,
-        Step::Sends(direction, octets, finding) => {
-            traffic.begin(direction);
-            passes(traffic, direction, octets, finding)?;
+    checks: &mut Checks,
+) {
+    if let Some(unit) = only_unit(octets, checks) {
+        match traffic.take(direction, &unit) {
+            Ok(told) => checks.that(told.finding == finding, "another finding"),
+            Err(_) => checks.that(false, OUT_OF_MEMORY),
         }
     }
-    Ok(())
 }
 
-fn goes(traffic: &mut Traffic, steps: &[Step]) -> Result<(), Fail> {
-    for step in steps {
-        does(traffic, *step)?;
+fn does(traffic: &mut Traffic, step: Step, checks: &mut Checks) {
+    match step {
+        Step::Begins(direction) => traffic.begin(direction),
+        Step::Passes(direction, octets, finding) => {
+            passes(traffic, direction, octets, finding, checks);
+        }
+        Step::Sends(direction, octets, finding) => {
+            traffic.begin(direction);
+            passes(traffic, direction, octets, finding, checks);
+        }
     }
-    Ok(())
+}
+
+fn goes(traffic: &mut Traffic, steps: &[Step], checks: &mut Checks) {
+    for step in steps {
+        does(traffic, *step, checks);
+    }
 }
 
 /// A DT of left with number 0.
@@ -315,14 +318,20 @@ const ROWS: [&[Step]; 21] = [
 ];
 
 /// What passes on a fresh byte connection, which this function owns.
-fn row_goes(alloc: Global, steps: &[Step]) -> Result<(), Fail> {
-    goes(&mut Traffic::new(alloc), steps)
+fn row_goes(alloc: Global, steps: &[Step], checks: &mut Checks) {
+    goes(&mut Traffic::new(alloc), steps, checks);
+}
+
+/// What passes on a fresh byte connection for each row.
+fn rows_go(alloc: Global, checks: &mut Checks) {
+    for steps in ROWS {
+        row_goes(alloc, steps, checks);
+    }
 }
 
 #[test]
 fn units_are_found_right_or_broken(rt: HostRuntime) -> Result<(), Fail> {
-    for steps in ROWS {
-        row_goes(rt.alloc(), steps)?;
-    }
-    Ok(())
+    let mut checks = Checks::new();
+    rows_go(rt.alloc(), &mut checks);
+    checks.end()
 }

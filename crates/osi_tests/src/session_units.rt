@@ -1,5 +1,6 @@
 //! Session units: sets, bounds and constructors. What is read and written is in the files of `osi_runs`.
 
+use crate::checks::Checks;
 use bitflags::Flags;
 use bytes::BytesMut;
 use osi_spdu::*;
@@ -13,80 +14,121 @@ const CONNECT: [u8; 20] = [
 ];
 
 /// The units of a TSDU have this as their written form.
-fn is_written_again(out: &mut BytesMut, tsdu: &[u8]) -> Result<(), Fail> {
-    let group = read_tsdu(tsdu)?;
-    group.write(out)?;
-    if out.as_slice() != tsdu || group.written_len() != tsdu.len() {
-        return Err(Fail::from("another written form"));
-    }
-    Ok(())
+fn is_written_again(out: &mut BytesMut, tsdu: &[u8], checks: &mut Checks) {
+    let Ok(group) = read_tsdu(tsdu) else {
+        return checks.that(false, "the TSDU is not read");
+    };
+    checks.memory(group.write(out));
+    checks.that(group.written_len() == tsdu.len(), "another written length");
+    checks.that(out.as_slice() == tsdu, "another written form");
 }
 
 #[test]
 fn a_connect_is_written_as_it_is_read(rt: HostRuntime) -> Result<(), Fail> {
-    is_written_again(&mut BytesMut::new(rt.alloc()), &CONNECT)
+    let mut checks = Checks::new();
+    is_written_again(&mut BytesMut::new(rt.alloc()), &CONNECT, &mut checks);
+    checks.end()
 }
 
 /// The kind of the second unit of a minor point after a token unit.
 fn kind_behind_a_token_unit(number: Serial) -> Option<Kind> {
     let group = Group::behind_give_tokens(Spdu::minor_point(None, number, &[0x5A]));
-    Some(group.behind().next()?.kind())
+    match group.behind().next() {
+        Some(unit) => Some(unit.kind()),
+        None => None,
+    }
 }
 
-/// A minor point after a token unit is the second unit, and has room for four parameters.
+/// Whether this is a minor point, which has room for four parameters.
+fn is_minor_point(kind: Option<Kind>) -> bool {
+    match kind {
+        Some(kind) => matches!(kind, Kind::MinorSyncPoint) && kind.codes().len() == 4,
+        None => false,
+    }
+}
+
+/// A minor point after a token unit is the second unit.
 #[test]
-fn a_minor_point_stands_behind_a_token_unit(rt: HostRuntime) -> Result<(), Fail> {
-    let number = Serial::new(1).ok_or("1 is a serial number")?;
-    let kind = kind_behind_a_token_unit(number).ok_or("there is a second unit")?;
-    assert!(rt; matches!(kind, Kind::MinorSyncPoint) && kind.codes().len() == 4);
-    Ok(())
+fn a_minor_point_stands_behind_a_token_unit(rt: HostRuntime) {
+    let is_such = match Serial::new(1) {
+        Some(number) => is_minor_point(kind_behind_a_token_unit(number)),
+        None => false,
+    };
+    assert!(rt; is_such);
 }
 
 #[test]
 fn sets_of_tokens(rt: HostRuntime) {
     let tokens = TokenSet::DATA.union(TokenSet::RELEASE);
-    assert!(rt; tokens.bits() == 0x41);
     assert!(rt; tokens.contains(TokenSet::RELEASE) && !tokens.contains(TokenSet::MINOR));
-    assert!(rt; tokens.difference(TokenSet::DATA).bits() == 0x40);
-    assert!(rt; tokens.intersection(TokenSet::DATA).bits() == 0x01);
-    assert!(rt; TokenSet::from_bits_truncate(0xFF).bits() == 0x55);
+    let others = tokens.difference(TokenSet::DATA);
+    let common = tokens.intersection(TokenSet::DATA);
+    let all = TokenSet::from_bits_truncate(0xFF);
+    assert!(rt;
+        [tokens.bits(), others.bits(), common.bits(), all.bits()] == [0x41, 0x40, 0x01, 0x55]
+    );
 }
 
 #[test]
 fn sets_of_units(rt: HostRuntime) {
     let units = Requirements::HALF_DUPLEX.union(Requirements::MAJOR);
+    let all = Requirements::from_bits_retain(0xFFFF);
     assert!(rt; units.intersects(Requirements::MAJOR.union(Requirements::MINOR)));
-    assert!(rt; units.bits() == 0x0011);
-    assert!(rt; Requirements::from_bits_retain(0xFFFF).bits() == 0xFFFF);
+    assert!(rt; [units.bits(), all.bits()] == [0x0011, 0xFFFF]);
 }
 
-/// The bits of the functional units (X.225 section 8, session user requirements).
-const BITS: [(Requirements, u16); 11] = [
-    (Requirements::HALF_DUPLEX, 0x0001),
-    (Requirements::DUPLEX, 0x0002),
-    (Requirements::EXPEDITED, 0x0004),
-    (Requirements::MINOR, 0x0008),
-    (Requirements::MAJOR, 0x0010),
-    (Requirements::RESYNCHRONIZE, 0x0020),
-    (Requirements::ACTIVITY, 0x0040),
-    (Requirements::NEGOTIATED_RELEASE, 0x0080),
-    (Requirements::CAPABILITY, 0x0100),
-    (Requirements::EXCEPTIONS, 0x0200),
-    (Requirements::TYPED_DATA, 0x0400),
+/// The bits of the functional units (X.225 section 8, session user requirements), and what is reported of them.
+static BITS: [(Requirements, u16, &str); 11] = [
+    (Requirements::HALF_DUPLEX, 0x0001, "half-duplex"),
+    (Requirements::DUPLEX, 0x0002, "duplex"),
+    (Requirements::EXPEDITED, 0x0004, "expedited data"),
+    (Requirements::MINOR, 0x0008, "minor points"),
+    (Requirements::MAJOR, 0x0010, "major points"),
+    (Requirements::RESYNCHRONIZE, 0x0020, "resynchronize"),
+    (Requirements::ACTIVITY, 0x0040, "activities"),
+    (
+        Requirements::NEGOTIATED_RELEASE,
+        0x0080,
+        "negotiated release",
+    ),
+    (Requirements::CAPABILITY, 0x0100, "capability data"),
+    (Requirements::EXCEPTIONS, 0x0200, "exceptions"),
+    (Requirements::TYPED_DATA, 0x0400, "typed data"),
 ];
 
 #[test]
-fn each_functional_unit_has_its_bit(rt: HostRuntime) {
-    for (units, bits) in BITS {
-        assert!(rt; units.bits() == bits, "{bits}");
+fn each_functional_unit_has_its_bit() -> Result<(), Fail> {
+    let mut checks = Checks::new();
+    for (units, bits, name) in &BITS {
+        checks.that(units.bits() == *bits, name);
+    }
+    checks.end()
+}
+
+/// Whether these are a serial number and one that is too great.
+fn serials_are_bounded() -> bool {
+    Serial::new(999_999).is_some() && Serial::new(1_000_000).is_none()
+}
+
+fn selectors_are_bounded() -> bool {
+    Selector::new(&[0; 16]).is_some() && Selector::new(&[0; 17]).is_none()
+}
+
+/// Numbers of octets, and whether they are the size of a TSDU.
+static SIZES: [(u16, bool); 4] = [(0, true), (63, false), (64, true), (65_535, true)];
+
+fn sizes_are_bounded(checks: &mut Checks) {
+    for (octets, is_size) in &SIZES {
+        checks.that(TsduSize::new(*octets).is_some() == *is_size, "another size");
     }
 }
 
 #[test]
-fn numbers_selectors_sizes_and_wishes(rt: HostRuntime) {
-    assert!(rt; Serial::new(999_999).is_some() && Serial::new(1_000_000).is_none());
-    assert!(rt; Selector::new(&[0; 16]).is_some() && Selector::new(&[0; 17]).is_none());
-    assert!(rt; TsduSize::new(0).is_some() && TsduSize::new(63).is_none());
-    assert!(rt; TsduSize::new(64).is_some() && TsduSize::new(65_535).is_some());
-    assert!(rt; Wish::from(Side::Answerer) == Wish::Answerer);
+fn numbers_selectors_sizes_and_wishes() -> Result<(), Fail> {
+    let mut checks = Checks::new();
+    checks.that(serials_are_bounded(), "another serial number");
+    checks.that(selectors_are_bounded(), "another selector");
+    sizes_are_bounded(&mut checks);
+    checks.that(Wish::from(Side::Answerer) == Wish::Answerer, "another wish");
+    checks.end()
 }

@@ -1,9 +1,10 @@
 //! Transport units, read and written.
 
-ghost use Rattle.std.specs.Prelude.{IfOk};
+ghost use Rattle.std.specs.Prelude.{IfSome};
 ghost use Rattle.osi_tpdu.specs.View.{value};
 ghost use Rattle.osi_tpdu.specs.Writing.{HasRoom, Fits};
 
+use crate::checks::Checks;
 use crate::packets::is_appended;
 use bytes::BytesMut;
 use osi_tpdu::*;
@@ -12,7 +13,7 @@ use std::alloc::Global;
 use std::test::Fail;
 
 // Transport units in their written form.
-const WRITTEN: [&[u8]; 16] = [
+static WRITTEN: [&[u8]; 16] = [
     &[
         0x11, 0xE0, 0, 0, 0, 1, 0, 0xC0, 1, 0x0A, 0xC1, 2, 1, 0, 0xC2, 2, 1, 2,
     ],
@@ -37,65 +38,80 @@ const WRITTEN: [&[u8]; 16] = [
     &[0x04, 0x61, 0, 1, 5],
 ];
 
-/// The unit of a packet that has no other.
-pub(crate) fn only_unit(packet: &[u8]) -> Result<Tpdu<'_>, Fail>
-    ensures fits { IfOk result (λ unit. Fits (value unit)) }
-    ensures room { IfOk result (λ unit. HasRoom (value unit)) }
+/// The unit of a packet that has no other; `None` is reported.
+pub(crate) fn only_unit<'a>(packet: &'a [u8], checks: &mut Checks) -> Option<Tpdu<'a>>
+    ensures fits { IfSome result (λ unit. Fits (value unit)) }
+    ensures room { IfSome result (λ unit. HasRoom (value unit)) }
 {
-    let mut units = read_units(packet)?;
-    let unit = units.next().ok_or("one unit")?;
-    if units.next().is_some() {
-        return Err(Fail::from("a second unit"));
+    let unit = single(packet);
+    checks.that(unit.is_some(), "other than one transport unit");
+    unit
+}
+
+/// The unit of a packet, if it is read and has no other.
+fn single(packet: &[u8]) -> Option<Tpdu<'_>>
+    ensures fits { IfSome result (λ unit. Fits (value unit)) }
+    ensures room { IfSome result (λ unit. HasRoom (value unit)) }
+{
+    let Ok(mut units) = read_units(packet) else {
+        return None;
+    };
+    let first = units.next();
+    match units.next() {
+        None => first,
+        Some(_) => None,
     }
-    Ok(unit)
 }
 
 /// A unit has this written form.
-fn is_written(out: &mut BytesMut, unit: &Tpdu<'_>, octets: &[u8]) -> Result<(), Fail>
+fn is_written(out: &mut BytesMut, unit: &Tpdu<'_>, octets: &[u8], checks: &mut Checks)
     requires { HasRoom (value unit.now) }
 {
-    write(unit, out)?;
-    if out.as_slice() != octets {
-        return Err(Fail::from("another written form"));
-    }
-    Ok(())
+    checks.memory(write(unit, out));
+    checks.that(out.as_slice() == octets, "another written form");
 }
 
 /// A packet has exactly this unit.
-fn has_unit(packet: &[u8], unit: &Tpdu<'_>) -> Result<(), Fail> {
-    if only_unit(packet)? != *unit {
-        return Err(Fail::from("another unit"));
+fn has_unit(packet: &[u8], unit: &Tpdu<'_>, checks: &mut Checks) {
+    if let Some(found) = only_unit(packet, checks) {
+        checks.that(found == *unit, "another unit");
     }
-    Ok(())
 }
 
 /// Octets are one unit, and its written form.
-fn is_its_own(out: &mut BytesMut, octets: &[u8]) -> Result<(), Fail> {
-    let unit = only_unit(octets)?;
-    if written_len(&unit) != octets.len() {
-        return Err(Fail::from("another written length"));
+fn is_its_own(out: &mut BytesMut, octets: &[u8], checks: &mut Checks) {
+    let Some(unit) = only_unit(octets, checks) else {
+        return;
+    };
+    checks.that(written_len(&unit) == octets.len(), "another written length");
+    is_written(out, &unit, octets, checks);
+    has_unit(out.as_slice(), &unit, checks);
+}
+
+fn comes_back(alloc: Global, octets: &[u8], checks: &mut Checks) {
+    is_its_own(&mut BytesMut::new(alloc), octets, checks);
+}
+
+fn all_come_back(alloc: Global, checks: &mut Checks) {
+    for octets in &WRITTEN {
+        comes_back(alloc, octets, checks);
     }
-    is_written(out, &unit, octets)?;
-    has_unit(out.as_slice(), &unit)
 }
 
-fn comes_back(alloc: Global, octets: &[u8]) -> Result<(), Fail> {
-    is_its_own(&mut BytesMut::new(alloc), octets)
-}
-
-/// A DT of class 0 of the greatest length.
-fn longest(alloc: Global) -> Result<Vec<u8>, Fail> {
-    let mut longest = vec![in alloc; 0x5A; 65_531]?;
-    longest[..3].copy_from_slice(&[0x02, 0xF0, 0x80]);
-    Ok(longest)
+/// A DT of class 0 of the greatest length comes back.
+fn the_longest_comes_back(alloc: Global, checks: &mut Checks) {
+    let mut longest = Vec::new(alloc);
+    checks.memory(longest.extend_from_slice(&[0x02, 0xF0, 0x80]));
+    checks.memory(longest.extend_from_slice(&[0x5A; 65_528]));
+    comes_back(alloc, longest.as_slice(), checks);
 }
 
 #[test]
 fn written_units_come_back(rt: HostRuntime) -> Result<(), Fail> {
-    for octets in WRITTEN {
-        comes_back(rt.alloc(), octets)?;
-    }
-    comes_back(rt.alloc(), longest(rt.alloc())?.as_slice())
+    let mut checks = Checks::new();
+    all_come_back(rt.alloc(), &mut checks);
+    the_longest_comes_back(rt.alloc(), &mut checks);
+    checks.end()
 }
 
 /// DST-REF 1234, then C6, an unknown parameter, C0, C7 and two octets of user data.
@@ -110,14 +126,19 @@ const REQUEST_WRITTEN: [u8; 19] = [
 ];
 
 /// The one unit of a packet has this written form.
-fn is_written_so(alloc: Global, packet: &[u8], octets: &[u8]) -> Result<(), Fail> {
-    let unit = only_unit(packet)?;
-    is_written(&mut BytesMut::new(alloc), &unit, octets)
+fn is_written_so(out: &mut BytesMut, packet: &[u8], octets: &[u8], checks: &mut Checks) {
+    if let Some(unit) = only_unit(packet, checks) {
+        is_written(out, &unit, octets, checks);
+    }
+}
+
+fn has_the_spelling(alloc: Global, packet: &[u8], octets: &[u8], checks: &mut Checks) {
+    is_written_so(&mut BytesMut::new(alloc), packet, octets, checks);
 }
 
 /// Transport units as they are read, and in their written form: a CR; a CC with a selector and user data; a DR with an
 /// unknown parameter; an ER; and a DT of class 0 with ignored bits.
-const SPELLINGS: [(&[u8], &[u8]); 5] = [
+static SPELLINGS: [(&[u8], &[u8]); 5] = [
     (&REQUEST, &REQUEST_WRITTEN),
     (
         &[0x0A, 0xD4, 0, 1, 0, 2, 0x20, 0xC1, 2, 1, 0, 9],
@@ -131,45 +152,71 @@ const SPELLINGS: [(&[u8], &[u8]); 5] = [
     (&[0x02, 0xF0, 0x7F, 5], &[0x02, 0xF0, 0, 5]),
 ];
 
+fn all_have_one_spelling(alloc: Global, checks: &mut Checks) {
+    for (octets, written) in &SPELLINGS {
+        has_the_spelling(alloc, octets, written, checks);
+    }
+}
+
 #[test]
 fn units_are_written_in_one_spelling(rt: HostRuntime) -> Result<(), Fail> {
-    for (octets, written) in SPELLINGS {
-        is_written_so(rt.alloc(), octets, written)?;
-    }
-    Ok(())
+    let mut checks = Checks::new();
+    all_have_one_spelling(rt.alloc(), &mut checks);
+    checks.end()
 }
 
-/// The unit of any grammar at the front, which has this many octets.
-fn front<'a, U: Unit<'a>>(octets: &'a [u8], count: usize) -> Result<U, Fail> {
+/// The unit of any grammar at the front, if it has this many octets.
+fn front<'a, U: Unit<'a>>(octets: &'a [u8], count: usize) -> Option<U> {
     match U::read(octets) {
-        Ok(Some((unit, used))) if used == count => Ok(unit),
-        _ => Err(Fail::from("another answer")),
+        Ok(Some((unit, used))) if used == count => Some(unit),
+        _ => None,
     }
 }
 
-/// Whether a unit of any grammar is at the front, has this many octets, and may be followed by another.
-fn is_at_the_front(octets: &[u8], count: usize, may_be_followed: bool) -> Result<(), Fail> {
-    let unit: Tpdu = front(octets, count)?;
-    if unit.may_be_followed() != may_be_followed {
-        return Err(Fail::from("another unit"));
+/// A transport unit is at the front, has this many octets, and may be followed by another or not.
+fn is_at_the_front(octets: &[u8], count: usize, may_be_followed: bool, checks: &mut Checks) {
+    let unit: Option<Tpdu> = front(octets, count);
+    let is_such = match unit {
+        Some(unit) => unit.may_be_followed() == may_be_followed,
+        None => false,
+    };
+    checks.that(is_such, "another unit at the front");
+}
+
+/// The high bit of the number of an AK is ignored.
+fn is_an_ack(out: &mut BytesMut, checks: &mut Checks) {
+    if let Some(ack) = only_unit(&[0x04, 0x61, 0, 1, 0x85], checks) {
+        checks.made(
+            is_appended(&ack, &[0x04, 0x61, 0, 1, 5], out),
+            "another written form",
+        );
     }
-    Ok(())
 }
 
 #[test]
 fn a_unit_at_the_front(rt: HostRuntime) -> Result<(), Fail> {
-    // Anything may follow an AK, and the high bit of its number is ignored; a DT extends to the end.
-    is_at_the_front(&[0x04, 0x61, 0, 1, 0x85, 0xFF], 5, true)?;
-    is_at_the_front(&[0x02, 0xF0, 0x80, 0xFF], 4, false)?;
-    let ak = only_unit(&[0x04, 0x61, 0, 1, 0x85])?;
-    is_appended(&ak, &[0x04, 0x61, 0, 1, 5], &mut BytesMut::new(rt.alloc()))
+    let mut checks = Checks::new();
+    // Anything may follow an AK; a DT extends to the end.
+    is_at_the_front(&[0x04, 0x61, 0, 1, 0x85, 0xFF], 5, true, &mut checks);
+    is_at_the_front(&[0x02, 0xF0, 0x80, 0xFF], 4, false, &mut checks);
+    is_an_ack(&mut BytesMut::new(rt.alloc()), &mut checks);
+    checks.end()
 }
+
+/// Codes, and how many octets their sizes have.
+static SIZES: [(u8, Option<usize>); 4] = [(6, None), (7, Some(128)), (13, Some(8192)), (14, None)];
 
 /// A code is that of a size of this many octets, or of no size.
 fn is_size(code: u8, octets: Option<usize>) -> bool {
     match SizeCode::new(code) {
         Some(size) => size.code() == code && Some(size.octets()) == octets,
         None => octets.is_none(),
+    }
+}
+
+fn sizes_have_bounds(checks: &mut Checks) {
+    for (code, octets) in &SIZES {
+        checks.that(is_size(*code, *octets), "another size");
     }
 }
 
@@ -181,11 +228,16 @@ fn is_window(units: u8) -> bool {
     }
 }
 
+fn windows_have_bounds() -> bool {
+    is_window(15) && Window::new(0).is_none() && Window::new(16).is_none()
+}
+
 #[test]
-fn sizes_and_windows_have_bounds(rt: HostRuntime) {
-    assert!(rt; is_size(6, None) && is_size(7, Some(128)));
-    assert!(rt; is_size(13, Some(8192)) && is_size(14, None));
-    assert!(rt; is_window(15) && Window::new(0).is_none() && Window::new(16).is_none());
+fn sizes_and_windows_have_bounds() -> Result<(), Fail> {
+    let mut checks = Checks::new();
+    sizes_have_bounds(&mut checks);
+    checks.that(windows_have_bounds(), "another window");
+    checks.end()
 }
 
 /// Octets are too long for a selector.
@@ -201,11 +253,16 @@ fn keeps(octets: &[u8]) -> bool {
     }
 }
 
+/// Whether addresses are equal exactly if their octets are.
+fn octets_tell_addresses_apart() -> bool {
+    let address = Tsap::new(&[1, 2]);
+    address == Tsap::new(&[1, 2]) && address != Tsap::new(&[1, 2, 0])
+}
+
 #[test]
 fn selectors_have_a_bound(rt: HostRuntime) {
     assert!(rt; is_too_long(&[7; 33]) && keeps(&[7; 32]) && keeps(&[]));
-    assert!(rt; Tsap::new(&[1, 2]) == Tsap::new(&[1, 2]));
-    assert!(rt; Tsap::new(&[1, 2]) != Tsap::new(&[1, 2, 0]));
+    assert!(rt; octets_tell_addresses_apart());
 }
 
 #[test]
