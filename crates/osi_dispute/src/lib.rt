@@ -31,8 +31,8 @@
 //!
 //! A verdict is a function of facts of the capture, so a capture has one verdict
 //! (`laws::a_text_has_one_judgement`). A report says what the capture comes to (`specs/Reports`), and its last line names the
-//! earliest break of all. So it is a function of the capture, too. Numbers, offsets and names are those of the listing of that side
-//! (`osi_listing`) and of transcripts (`osi_script`).
+//! earliest break of all. So it is a function of the capture, too. Numbers and offsets are those of the listing of that side
+//! (`osi_listing`), and names those of transcripts (`osi_names`).
 //!
 //! It leaves the judgement to `osi_judge` and `osi_tap`, the text of a verdict to `osi_verdict`, and standard input and
 //! output to the program.

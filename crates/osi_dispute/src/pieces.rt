@@ -5,7 +5,7 @@ ghost use Rattle.osi_listing.specs.Capture.{is_blank};
 ghost use Rattle.osi_dispute.specs.Rows.{is_tabbed, digits_on, digits_left, begun_on, ends_within, left_is_tabbed};
 ghost use Rattle.osi_dispute.specs.Reading.{rows_left};
 
-use osi_script::first_line;
+use osi_names::first_line;
 
 /// A piece: the octets whose first digit is on one line.
 #[derive(Clone, Copy)]

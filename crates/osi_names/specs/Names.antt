@@ -1,22 +1,11 @@
 -- The words for errors, faults and phases: each by its own name.
 use Rattle.std.specs.Prelude.{ℕ, List, codes}
-use Rattle.osi_carrier.specs.declared.faults.OpenError.{OpenError}
-use Rattle.osi_carrier.specs.declared.faults.OpenError.TheVariants as opening
 use Rattle.osi_session.specs.declared.faults.CallError.{CallError}
 use Rattle.osi_session.specs.declared.faults.CallError.TheVariants as call
 use Rattle.osi_session.specs.declared.faults.UnitFault.{UnitFault}
 use Rattle.osi_session.specs.declared.faults.UnitFault.TheVariants as fault
 use Rattle.osi_session.specs.declared.phases.Phase.{Phase}
 use Rattle.osi_session.specs.declared.phases.Phase.TheVariants as phase
-
-abbrev pub open_error_name : OpenError → List ℕ
-open_error_name opening.NotCaller = codes "NotCaller"
-open_error_name opening.Ended = codes "Ended"
-open_error_name opening.Negotiating = codes "Negotiating"
-open_error_name opening.OneConnection = codes "OneConnection"
-open_error_name opening.TooMany = codes "TooMany"
-open_error_name opening.ReferencesUsedUp = codes "ReferencesUsedUp"
-open_error_name opening.OutOfMemory = codes "OutOfMemory"
 
 unfoldable pub call_error_name : CallError → List ℕ
 call_error_name call.NoSuchConnection = codes "NoSuchConnection"

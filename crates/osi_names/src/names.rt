@@ -1,26 +1,9 @@
 //! The names of errors, faults and phases.
 
 ghost use Rattle.std.specs.Prelude.{◌≡◌, ◌≤◌, length};
-ghost use Rattle.osi_names.specs.Names.{open_error_name, call_error_name, unit_fault_name, phase_name};
+ghost use Rattle.osi_names.specs.Names.{call_error_name, unit_fault_name, phase_name};
 
-use osi_carrier::OpenError;
 use osi_session::{CallError, Phase, UnitFault};
-
-/// The name of the reason why no connection was requested.
-pub fn open_error(error: OpenError) -> &'static str
-    ensures value { result.now ≡ open_error_name error }
-    ensures short { length result.now ≤ 16 }
-{
-    match error {
-        OpenError::NotCaller => "NotCaller",
-        OpenError::Ended => "Ended",
-        OpenError::Negotiating => "Negotiating",
-        OpenError::OneConnection => "OneConnection",
-        OpenError::TooMany => "TooMany",
-        OpenError::ReferencesUsedUp => "ReferencesUsedUp",
-        OpenError::OutOfMemory => "OutOfMemory",
-    }
-}
 
 /// The name of the reason why a call was refused.
 #[tactic(auto, unfolding(crate::specs::Names::call_error_name))]

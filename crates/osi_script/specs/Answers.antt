@@ -1,6 +1,8 @@
 -- The line of the answer to an event.
 use Rattle.std.specs.Prelude.{ℕ, List, ◌++◌, codes}
 use Rattle.std.specs.Fmt.{decimal}
+use Rattle.osi_carrier.specs.declared.faults.OpenError.{OpenError}
+use Rattle.osi_carrier.specs.declared.faults.OpenError.TheVariants as opening
 use Rattle.osi_script.specs.declared.sides.Side.{Side}
 use Rattle.osi_script.specs.declared.verbs.Verb.{Verb}
 use Rattle.osi_script.specs.declared.answers.ConnectRefusal.{ConnectRefusal}
@@ -9,8 +11,17 @@ use Rattle.osi_script.specs.declared.answers.LineFault.{LineFault}
 use Rattle.osi_script.specs.declared.answers.LineFault.TheVariants.{NotBroken, AlreadyBroken}
 use Rattle.osi_script.specs.declared.answers.Answer.{Answer}
 use Rattle.osi_script.specs.declared.answers.Answer.TheVariants.{Connecting, ConnectRefused, Called, CallRefused, Carried, Broken, Told, LineRefused, LineFailed}
-use Rattle.osi_names.specs.Names.{open_error_name, call_error_name}
+use Rattle.osi_names.specs.Names.{call_error_name}
 use Rattle.osi_script.specs.Names.{side_name, verb_name}
+
+abbrev pub open_error_name : OpenError → List ℕ
+open_error_name opening.NotCaller = codes "NotCaller"
+open_error_name opening.Ended = codes "Ended"
+open_error_name opening.Negotiating = codes "Negotiating"
+open_error_name opening.OneConnection = codes "OneConnection"
+open_error_name opening.TooMany = codes "TooMany"
+open_error_name opening.ReferencesUsedUp = codes "ReferencesUsedUp"
+open_error_name opening.OutOfMemory = codes "OutOfMemory"
 
 abbrev pub refusal_name : ConnectRefusal → List ℕ
 refusal_name (Open error) = open_error_name error

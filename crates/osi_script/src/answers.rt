@@ -3,13 +3,13 @@
 ghost use Rattle.std.specs.Prelude.{◌≡◌, ◌+◌, ◌≤◌, ◌++◌, codes, length, vec_len, vec_capacity, IsOk, OnOk, OnErr};
 ghost use Rattle.std.specs.Fmt.{decimal};
 ghost use Rattle.osi_script.specs.Names.{verb_name};
-ghost use Rattle.osi_script.specs.Answers.{refusal_name, line_fault_name, call_text, answer_line};
+ghost use Rattle.osi_script.specs.Answers.{open_error_name, refusal_name, line_fault_name, call_text, answer_line};
 
 use crate::sides::Side;
 use crate::texts::{LINE, put, put_decimal, put_side, put_word};
 use crate::verbs::Verb;
 use osi_carrier::OpenError;
-use osi_names::{call_error_name, open_error_name};
+use osi_names::call_error_name;
 use osi_session::CallError;
 use std::alloc::{AllocError, Global};
 use std::mem;
@@ -83,12 +83,28 @@ pub enum Answer {
     },
 }
 
+/// The name of the reason why a carrier requests no connection.
+fn open_error(error: OpenError) -> &'static str
+    ensures value { result.now ≡ open_error_name error }
+    ensures short { length result.now ≤ 16 }
+{
+    match error {
+        OpenError::NotCaller => "NotCaller",
+        OpenError::Ended => "Ended",
+        OpenError::Negotiating => "Negotiating",
+        OpenError::OneConnection => "OneConnection",
+        OpenError::TooMany => "TooMany",
+        OpenError::ReferencesUsedUp => "ReferencesUsedUp",
+        OpenError::OutOfMemory => "OutOfMemory",
+    }
+}
+
 fn refusal(refusal: ConnectRefusal) -> &'static str
     ensures value { result.now ≡ refusal_name refusal }
     ensures short { length result.now ≤ 16 }
 {
     match refusal {
-        ConnectRefusal::Open(error) => open_error_name(error),
+        ConnectRefusal::Open(error) => open_error(error),
         ConnectRefusal::NotSelected => "NotSelected",
         ConnectRefusal::TooLong => "TooLong",
     }

@@ -7,8 +7,8 @@
 //! carry left 999                                 (octets to carry from the left end to the right one)
 //! ```
 //!
-//! [`Line::read`] reads the user data of a line, and [`Line::command`] gives its [`Command`]. [`first_line`] cuts a
-//! text into lines. [`push_answer`], [`push_indication`] and [`push_standing`] append lines of a transcript.
+//! [`Line::read`] reads the user data of a line, and [`Line::command`] gives its [`Command`]. [`push_answer`],
+//! [`push_indication`] and [`push_standing`] append lines of a transcript. `osi_names` cuts a text into lines.
 //!
 //! The laws ([`mod@laws`]) say that a line asks for at most one thing, and that each call is read by its name. Running a
 //! script is left to `osi_transcript`; docs/TOOL.md describes the language.
@@ -35,7 +35,7 @@ pub use answers::{Answer, ConnectRefusal, LineFault, push_answer};
 pub use commands::{Classes, Command};
 pub use fronts::read_carry;
 pub use lines::Line;
-pub use scripts::{first_line, is_skipped};
+pub use scripts::is_skipped;
 pub use shown::push_indication;
 pub use sides::Side;
 pub use standing::{Standing, push_standing};
