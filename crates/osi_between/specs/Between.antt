@@ -162,8 +162,8 @@ pub record Carries (terms : Terms) (end : Bool) (n : ℕ) (old new : Both) (b c 
   pub told : (last_of end c).events ≡ (last_of end b).events ++ flat_map (told_of terms n (place_at n (last_of end b))) arrived
   pub came : AreLike (connection_in (place_at n (last_of end c))) (under_way (not end) n old b) (arrived ++ under_way (not end) n new c)
   -- what was in flight from it, and what now is
-  pub before : AreLike (connection_in (place_at n (last_of (not end) b))) (under_way end n old b) (stays ++ gone)
-  pub after : AreLike (connection_in (place_at n (last_of (not end) b))) (under_way end n new c) (stays ++ put_in old put)
+  pub before : under_way end n old b ≡ stays ++ gone
+  pub after : under_way end n new c ≡ stays ++ put_in old put
   -- what the units that it took mean for the connection
   pub brings : BringsTo (accepts_in terms) (place_at n (last_of end b)) (place_at n (last_of end c)) taken arrived put
   -- all other connections stay as they were

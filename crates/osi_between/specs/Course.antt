@@ -141,8 +141,8 @@ pub record CourseCarries (end : Bool) (n : ℕ) (called : Local) (old new : Cour
   -- what was in flight to it: what arrived, and then what still is in flight
   pub came : AreLike (connection_in (at_end end n new)) (messages_from (not end) n called old) (arrived ++ messages_from (not end) n called new)
   -- what was in flight from it, and what now is
-  pub before : AreLike (connection_in (at_end (not end) n old)) (messages_from end n called old) (stays ++ lost)
-  pub after : AreLike (connection_in (at_end (not end) n old)) (messages_from end n called new) (stays ++ put)
+  pub before : messages_from end n called old ≡ stays ++ lost
+  pub after : messages_from end n called new ≡ stays ++ put
 
 abbrev pub progress_of : Place → Progress
 progress_of never = not_yet

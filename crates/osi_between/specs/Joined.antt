@@ -99,8 +99,8 @@ pub record WrittenFor (n : ℕ) (this other next : State) (going behind : List V
   -- the messages that were in flight: those that stay, and those that are lost
   pub stays : List Message
   pub lost : List Message
-  pub before : AreLike (connection_in (place_at n other)) (under_way_for n this other going) (stays ++ lost)
-  pub after : AreLike (connection_in (place_at n other)) (under_way_for n next other behind) (stays ++ put)
+  pub before : under_way_for n this other going ≡ stays ++ lost
+  pub after : under_way_for n next other behind ≡ stays ++ put
   pub keeps : leaves_use (progress_of (place_at n this)) (progress_of (place_at n next)) ≡ false → lost ≡ []
 
 -- For all other connections, the state and what is in flight, both ways, are the same.

@@ -84,11 +84,17 @@ out n parted = []
 abbrev pub back : ℕ → Meeting → List Value
 back n m = out n (mirror m)
 
--- open links agree, and all units are of class 2
+-- these units are the last of all
+pub record AreLast (units all : List Given) : Type 0 where
+  pub ignored : List Given
+  pub is : all ≡ ignored ++ units
+
+-- Open links agree, and all units are of class 2. Those in flight to a side that has closed are the last of those that
+-- would be, if it had ignored none.
 abbrev pub Stands : Meeting → Type 0
 Stands (talking p) = AreOpen true p
-Stands (left_here p units reason) = AreOpen true p × AreOfClass true units
-Stands (left_there p units reason) = AreOpen true p × AreOfClass true units
+Stands (left_here p units reason) = AreOpen true p × AreOfClass true units × AreLast units p.leftward
+Stands (left_there p units reason) = AreOpen true p × AreOfClass true units × AreLast units p.rightward
 Stands (left_both out reason back other) = AreOfClass true out × AreOfClass true back
 Stands (waiting_here units last) = AreOfClass true units
 Stands (waiting_there units last) = AreOfClass true units
@@ -152,8 +158,8 @@ pub record Carries (n : ℕ) (old new : Meeting) (events : List Happening) (put 
   pub lost : List Message
   pub told : events ≡ flat_map (told_at n (here n old)) arrived
   pub leftward : AreLike (here n new) (messages_back n old) (arrived ++ messages_back n new)
-  pub before : AreLike (there n old) (messages_out n old) (stays ++ lost)
-  pub after : AreLike (there n old) (messages_out n new) (stays ++ put)
+  pub before : messages_out n old ≡ stays ++ lost
+  pub after : messages_out n new ≡ stays ++ put
 
 -- a DR
 abbrev pub is_leaving : Value → Bool

@@ -53,19 +53,25 @@ begun_at (Some (closing peer)) = []
 abbrev pub messages_to : Option Connection → List Value → Option Connection → List Message
 messages_to sender units taker = messages_after (begun_at taker) (units ++ uncut_units (unsent_at sender))
 
--- a message without the octets of its TSDU
-abbrev pub kind_of : Message → Message
-kind_of ask = ask
-kind_of agree = agree
-kind_of (deny reason) = deny reason
-kind_of (message octets) = message []
-kind_of (bye reason) = bye reason
-kind_of over = over
+-- a TSDU with these octets before its own
+abbrev pub led_by : List ℕ → Message → Message
+led_by octets (message rest) = message (octets ++ rest)
+led_by octets m = m
 
--- The same messages. If the receiver is closing, only their kinds agree: it has dropped the beginning of a TSDU, and
--- takes no more of it.
+abbrev pub first_led_by : List ℕ → List Message → List Message
+first_led_by octets [] = []
+first_led_by octets (m ∷ ms) = led_by octets m ∷ ms
+
+-- The same messages, whole and in order, except that the first of `others`, if it is a TSDU, may lack octets at its
+-- beginning.
+pub record MayLackABeginning (some others : List Message) : Type 0 where
+  pub lacking : List ℕ
+  pub is : some ≡ first_led_by lacking others
+
+-- The same messages. A receiver that is closing has dropped what it had of a TSDU, and drops what still arrives of it;
+-- so the first message in flight may be only the rest of a TSDU.
 abbrev pub AreLike : Option Connection → List Message → List Message → Type 0
 AreLike None some others = some ≡ others
 AreLike (Some asked) some others = some ≡ others
 AreLike (Some (linked peer link)) some others = some ≡ others
-AreLike (Some (closing peer)) some others = map kind_of some ≡ map kind_of others
+AreLike (Some (closing peer)) some others = MayLackABeginning some others

@@ -128,10 +128,11 @@ pub fn two_carriers_stay_linked()
 /// after each call, when octets are handed over and events are reported, when an end ends for whatever reason, out of
 /// memory included, and when the byte connection breaks. A packet is one unit, and nothing that the other end wrote
 /// ends this end or is a fault. What was in flight to the acting end has arrived and was reported, or still is in
-/// flight. What is in flight from it stays, and what is put follows it, except for what a close discards. An end and a
-/// break discard the last part of what is in flight, and after a break nothing that is put arrives. A reference is
-/// given for each connection that is requested or accepted, and for no other; a CC, or a CR that is accepted, settles
-/// the class. In class 0 a close ends the carrier.
+/// flight; only an end that is closing drops octets, at the beginning of the first message. What is in flight from it
+/// stays, and what is put follows it, except for what a close discards. An end and a break discard the last part of
+/// what is in flight, and after a break nothing that is put arrives. A reference is given for each connection that is
+/// requested or accepted, and for no other; a CC, or a CR that is accepted, settles the class. In class 0 a close ends
+/// the carrier.
 pub fn whatever_becomes_of_two_carriers()
     ensures begins { (caller called : Local) →
         AreBetween (terms_of caller called) (fresh_both caller called) (fresh_between caller called) }

@@ -141,7 +141,7 @@ pub use Rattle.osi_between.proofs.joined.joined_carriers_stay_joined.{given_live
 pub use Rattle.osi_between.proofs.link.a_request_before_a_class_is_agreed.{source_is}
 pub use Rattle.osi_between.proofs.meeting.a_connection_after_each_unit_and_call.{mirror_twice}
 pub use Rattle.osi_between.proofs.unit.the_units_of_one_connection.{first_of_all, front_none}
-pub use Rattle.osi_between.proofs.unit.units_are_read_as_messages.{messages_front}
+pub use Rattle.osi_between.proofs.unit.units_are_read_as_messages.{led_none, led_twice, messages_front}
 pub use Rattle.osi_between.proofs.zero.a_called_end_that_refuses_all.{none_open}
 pub use Rattle.osi_between.proofs.zero.class_0_provides_what_is_asked.{at_one}
 pub use Rattle.osi_between.proofs.zero.the_one_connection_of_class_0.{one_place}
@@ -152,7 +152,7 @@ pub use Rattle.osi_between.specs.Between.{last_of, lost_from, put_in, side, stil
 pub use Rattle.osi_between.specs.Course.{Course, Holds, IsTsap, accepting, asking, at_end, from_end, met, progress_of, withdrawing}
 pub use Rattle.osi_between.specs.Meeting.{Meeting, addressed, here, leaving, left_there, mirror, out, parted, talking}
 pub use Rattle.osi_between.specs.Meeting.{waiting_there}
-pub use Rattle.osi_between.specs.Messages.{AreLike, begun_at, kind_of, message, messages_after}
+pub use Rattle.osi_between.specs.Messages.{AreLike, MayLackABeginning, begun_at, first_led_by, led_by, message, messages_after}
 pub use Rattle.osi_between.specs.Progress.{Progress, awaiting, behind_arrivals, behind_puts, class_behind_all, gone, in_use, leaves_use}
 pub use Rattle.osi_between.specs.Progress.{may_arrive, not_yet, progress_in, references_for, shutting}
 pub use Rattle.osi_between.specs.Terms.{Terms, accepts_in, by_two, by_zero, class_of, refusing, terms_of}

@@ -12,10 +12,9 @@ use Rattle.osi_carrier.specs.declared.ends.EndReason.TheVariants as why
 use Rattle.osi_carrier.specs.declared.faults.OpenError.TheVariants as opening
 use Rattle.osi_between.specs.Between.{Between, Both, AreBetween, last_of, is_cut, under_way}
 use Rattle.osi_between.specs.Course.{progress_of}
-use Rattle.osi_between.specs.Messages.{kind_of}
+use Rattle.osi_between.specs.Messages.{MayLackABeginning}
 use Rattle.osi_between.specs.Messages as carrier
 use Rattle.osi_between.specs.Progress.{Progress, shutting}
-use Rattle.osi_between.specs.Progress as progress
 use Rattle.osi_between.specs.Terms.{terms_of}
 use Rattle.osi_between.specs.Terms as between
 use Rattle.osi_class.specs.declared.terms.Class.{Class}
@@ -168,10 +167,10 @@ pub record IsSeated (n : ℕ) (h : Holding) (seat : Seat) : Type 0 where
   -- the CN that waits can be written
   pub octets : IfSome seat.session.waiting IsInOctets
 
--- The same messages. If the receiver is closing or has closed, only their kinds agree: it takes no TSDU any more.
+-- The same messages, whole and in order. A receiver that is closing has dropped what it had of a TSDU, and drops what
+-- still arrives of it; so the first message in flight to it may be only the last octets of a TSDU.
 abbrev pub AreAlike : Progress → List carrier.Message → List carrier.Message → Type 0
-AreAlike shutting some others = map kind_of some ≡ map kind_of others
-AreAlike progress.gone some others = map kind_of some ≡ map kind_of others
+AreAlike shutting some others = MayLackABeginning some others
 AreAlike taker some others = some ≡ others
 
 -- What is in flight to a receiver, which may have ended: the messages of the tables, and those between the two

@@ -6,10 +6,9 @@ use Rattle.osi_between.proofs.Vocabulary.{sym, ap, subst, ◌∙◌, append_asso
 use Rattle.osi_between.proofs.Vocabulary.{IsSendable, place_at, connection_in, Connection, State, packets, EndReason, units_of, AreFor}
 use Rattle.osi_between.proofs.Vocabulary.{Both, side, reach_of, arriving, Between, last_of, units_from, lost_from, IsOnTheWay, AreJoinedBy}
 use Rattle.osi_between.proofs.Vocabulary.{AreBetween, to_come, told_of, Acted, becomes, progress_of, BringsTo, under_way_for, Message}
-use Rattle.osi_between.proofs.Vocabulary.{messages_to, messages_after, begun_at, AreLike, references_for, class_behind_all, leaves_use}
+use Rattle.osi_between.proofs.Vocabulary.{messages_to, messages_after, begun_at, references_for, class_behind_all, leaves_use}
 use Rattle.osi_between.proofs.Vocabulary.{Terms, accepts_in, class_of, length-append}
 use Rattle.osi_between.proofs.unit.the_units_of_one_connection.{units_join, units_same, units_other}
-use Rattle.osi_between.proofs.unit.what_a_taken_unit_means.{same_like}
 use Rattle.osi_between.proofs.way.octets_are_written_and_handed_over.{going_then, lost_then, way_out}
 
 -- ---- with all units
@@ -28,8 +27,8 @@ pub record Steps (terms : Terms) (n : ℕ) (this other next : State) (going comi
   pub cut : coming ≡ taken ++ rest
   pub all_for : AreFor n taken
   pub written_for : AreFor n units
-  pub before : AreLike (connection_in (place_at n other)) (under_way_for n this other going) (stays ++ lost)
-  pub after : AreLike (connection_in (place_at n other)) (under_way_for n next other (going ++ units)) (stays ++ put)
+  pub before : under_way_for n this other going ≡ stays ++ lost
+  pub after : under_way_for n next other (going ++ units) ≡ stays ++ put
   pub brings : BringsTo (accepts_in terms) (place_at n this) (place_at n next) taken arrived put
   pub others_stay : (q : ℕ) → q ≢ n → place_at q next ≡ place_at q this
   pub given : next.given ≡ this.given + references_for (accepts_in terms) arrived put
@@ -57,12 +56,12 @@ cut_alive : (broken : Bool) (ended : Option EndReason) → ended ≡ None → (b
 cut_alive broken ended e = grind (arith, is_some)
 
 -- what is in flight from the acting end
-record OutPart (o : Option Connection) (old new lost put : List Message) : Type 0 where
+record OutPart (old new lost put : List Message) : Type 0 where
   stays : List Message
   gone : List Message
   none : lost ≡ [] → gone ≡ []
-  before : AreLike o old (stays ++ gone)
-  after : AreLike o new (stays ++ put)
+  before : old ≡ stays ++ gone
+  after : new ≡ stays ++ put
 
 -- messages of units and of what is still to be sent after them
 abbrev pub sum_of : Option Connection → ℕ → List Value → Bool → Option Connection → List Message
@@ -74,17 +73,16 @@ if_whole (Some r) put = []
 
 out_part : (end : Bool) (reach : Option (ℕ × ℕ)) (o c d : Option Connection) (n : ℕ) (going lost units : List Value)
     (stays gone put : List Message) → (reach ≡ None → lost ≡ []) →
-    AreLike o (messages_to c (units_of n (going ++ lost)) o) (stays ++ gone) →
-    AreLike o (messages_to d (units_of n ((going ++ lost) ++ units)) o) (stays ++ put) →
-    OutPart o (sum_of o n going (is_some reach) c) (sum_of o n (going_then (reach_of end reach) going units) (is_some reach) d) gone
+    messages_to c (units_of n (going ++ lost)) o ≡ stays ++ gone → messages_to d (units_of n ((going ++ lost) ++ units)) o ≡ stays ++ put →
+    OutPart (sum_of o n going (is_some reach) c) (sum_of o n (going_then (reach_of end reach) going units) (is_some reach) d) gone
     (if_whole reach put)
 out_part true None o c d n going lost units stays gone put none before after = grind (arith, append-nil)
 out_part end (Some r) o c d n going lost units stays gone put none before after = record {
   stays = sum_of o n going true c;
   gone = [];
   none = λ h. refl;
-  before = same_like o (sum_of o n going true c) (sum_of o n going true c ++ []) (sym (append-nil (sum_of o n going true c)));
-  after = same_like o (sum_of o n going true d) (sum_of o n going true c ++ []) (sym (append-nil (sum_of o n going true c)));
+  before = sym (append-nil (sum_of o n going true c));
+  after = sym (append-nil (sum_of o n going true c));
 }
 out_part end reach o c d n going lost units stays gone put none before after = grind (arith, append-nil)
 
@@ -156,7 +154,7 @@ acted terms end each n both b next behind left taken put a alive way cut d =
         gone = p.gone;
         told = st.told;
         came = grind (arith, units_join, units_same, append_assoc);
-        before = subst (λ (t : Bool). AreLike o (sum_of o n (units_from end b) t c) (p.stays ++ p.gone)) (sym was) p.before;
+        before = subst (λ (t : Bool). sum_of o n (units_from end b) t c ≡ p.stays ++ p.gone) (sym was) p.before;
         after = grind arith;
         brings = st.brings;
         others = λ q apart. by_end end (λ x. under_way x q both b ≡ under_way x q new now)

@@ -1,18 +1,13 @@
 -- TSDUs that are handed in together, between two carriers.
 -- For the laws.
-use Rattle.osi_between.proofs.Vocabulary.{◌≡◌, refl, sym, ◌∙◌, ap, subst, ℕ, ◌+◌, Bool, not, List, [], ◌∷◌, ◌++◌, map, Option, Some, None}
+use Rattle.osi_between.proofs.Vocabulary.{◌≡◌, refl, sym, ◌∙◌, ap, subst, ℕ, ◌+◌, Bool, not, List, [], ◌∷◌, map, Some, None}
 use Rattle.osi_between.proofs.Vocabulary.{arith, append_assoc, append-nil, map-append, AllByRecursion, IsOctets, IsShortTsdu, Standing}
-use Rattle.osi_between.proofs.Vocabulary.{sent, sent_all, Place, was_given, place_at, connection_in, Connection, linked, State, Both}
-use Rattle.osi_between.proofs.Vocabulary.{Between, AreBetween, Acted, Carries, side, becomes, last_of, put_in, progress_of, Message}
-use Rattle.osi_between.proofs.Vocabulary.{message, AreLike, Progress, in_use, behind_puts, leaves_use, Terms, add-zero, IsOpenAt}
+use Rattle.osi_between.proofs.Vocabulary.{sent, sent_all, Place, was_given, place_at, connection_in, linked, State, Both}
+use Rattle.osi_between.proofs.Vocabulary.{Between, AreBetween, Acted, Carries, side, becomes, last_of, put_in, progress_of}
+use Rattle.osi_between.proofs.Vocabulary.{message, Progress, in_use, behind_puts, leaves_use, Terms, add-zero, IsOpenAt}
 use Rattle.osi_between.specs.Between.{under_way}
 use Rattle.osi_between.proofs.unit.what_a_taken_unit_means.{brings_none, same_like}
 use Rattle.osi_between.proofs.between.every_move_keeps_the_invariant.{sends}
-
--- ---- likeness
-
-like_then : (o : Option Connection) (xs ys zs : List Message) → AreLike o xs ys → AreLike o ys zs → AreLike o xs zs
-like_then o xs ys zs e f = grind arith
 
 -- ---- an open connection
 
@@ -38,14 +33,14 @@ puts_nothing p (t ∷ ts) = ap (λ (q : Progress). behind_puts q (map message ts
 none_carried : (terms : Terms) (end : Bool) (n : ℕ) (both : Both) (b : Between) → Carries terms end n both both b b [] []
 none_carried terms end n both b =
     let place = place_at n (last_of end b) in
-    let there = connection_in (place_at n (last_of (not end) b)) in record {
+    record {
       arrived = [];
       stays = under_way end n both b;
       gone = [];
       told = sym (append-nil (last_of end b).events);
       came = same_like (connection_in place) (under_way (not end) n both b) (under_way (not end) n both b) refl;
-      before = same_like there (under_way end n both b) (under_way end n both b ++ []) (sym (append-nil (under_way end n both b)));
-      after = grind (arith, same_like, append-nil);
+      before = sym (append-nil (under_way end n both b));
+      after = grind (arith, append-nil);
       brings = grind (arith, brings_none);
       others = λ q apart from. refl;
       other_places = λ q apart. refl;
@@ -76,9 +71,7 @@ carries_both terms end n old mid new b c d t ts same open1 x y =
     let open3 = open_behind terms end n mid new c d ts y open2 in
     let l2 = linked_in (place_at n (last_of end c)) open2 in
     let l3 = linked_in (place_at n (last_of end d)) open3 in
-    let o = connection_in (place_at n (last_of (not end) b)) in
-    let o_same : connection_in (place_at n (last_of (not end) c)) ≡ o = ap (λ (s : State). connection_in (place_at n s)) x.there in
-    let before2 : AreLike o (under_way end n mid c) y.stays = grind (arith, append-nil) in
+    let before2 : under_way end n mid c ≡ y.stays = grind (arith, append-nil) in
     record {
       arrived = [];
       stays = x.stays;
@@ -86,9 +79,7 @@ carries_both terms end n old mid new b c d t ts same open1 x y =
       told = grind (arith, append-nil);
       came = grind arith;
       before = x.before;
-      after = like_then o _ _ _
-          (subst (λ (q : Option Connection). AreLike q (under_way end n new d) (y.stays ++ put_in mid (map message ts))) o_same y.after)
-          (grind (arith, map-append, map, append_assoc x.stays (put_in old (message t ∷ [])) (put_in mid (map message ts))));
+      after = grind (arith, map-append, map, append_assoc x.stays (put_in old (message t ∷ [])) (put_in mid (map message ts)));
       brings = grind (arith, map);
       others = λ q apart from. x.others q apart from ∙ y.others q apart from;
       other_places = λ q apart. y.other_places q apart ∙ x.other_places q apart;

@@ -8,15 +8,15 @@ use Rattle.osi_between.proofs.Vocabulary.{State, AreFor, is_last, Meeting, talki
 use Rattle.osi_between.proofs.Vocabulary.{waiting_there, parted, mirror, here, addressed, leaving, farewell, out, back, Stands, answers_of}
 use Rattle.osi_between.proofs.Vocabulary.{Moves, AreOpen, after_take, after_send, Message, message, bye, over, drained_leaves, inl, inr}
 use Rattle.osi_between.proofs.Vocabulary.{Option, Connection, HasGivenInRange, is_of_two, flat_map, told_at, AreLike, messages_back}
-use Rattle.osi_between.proofs.Vocabulary.{messages_out, messages_after, closing, IsAt}
-use Rattle.osi_between.proofs.unit.what_a_taken_unit_means.{brings_given, brings_ignored, brings_none, same_like}
-use Rattle.osi_between.proofs.meeting.what_is_in_flight_for_a_connection.{leaving_takes, kinds_both, open_takes, open_sends, open_closes}
-use Rattle.osi_between.proofs.meeting.what_is_in_flight_for_a_connection.{open_here, closed_here, told_nothing, parting_is}
+use Rattle.osi_between.proofs.Vocabulary.{messages_out, messages_after, closing, IsAt, AreLast, append_assoc, subst}
+use Rattle.osi_between.proofs.unit.what_a_taken_unit_means.{brings_given, brings_ignored, brings_none}
+use Rattle.osi_between.proofs.meeting.what_is_in_flight_for_a_connection.{leaving_takes, open_takes, open_sends, open_closes}
+use Rattle.osi_between.proofs.meeting.what_is_in_flight_for_a_connection.{open_here, closed_here, told_nothing, parting_is, IsBehind}
 use Rattle.osi_between.proofs.meeting.what_a_unit_or_call_changes.{given_changes, given_ignored, leaving_changes, crossed_changes}
 use Rattle.osi_between.proofs.meeting.what_a_unit_or_call_changes.{over_changes, send_changes, close_changes}
 use Rattle.osi_between.proofs.unit.the_units_of_one_connection.{all_sendable, all_join, all_rest}
 use Rattle.osi_between.proofs.link.a_call_is_turns_of_two_links.{left_takes, sends_passes}
-use Rattle.osi_between.proofs.unit.units_are_read_as_messages.{kinds_begun}
+use Rattle.osi_between.proofs.unit.units_are_read_as_messages.{lacks_begun, lacks_one}
 use Rattle.osi_between.proofs.between.an_acting_end_keeps_the_invariant.{Each}
 
 -- ---- from the other side
@@ -50,10 +50,31 @@ given_goes n g = grind arith
 stands_open : (p : LinkPair) (why : Option ℕ) (hs : List Given) → Stands (open_here p why hs) → AreOpen true p
 stands_open p why hs h = grind arith
 
+pub is_behind : (p : LinkPair) (why : Option ℕ) (hs : List Given) → Stands (open_here p why hs) → IsBehind p why hs
+is_behind p None hs h = tt
+is_behind p (Some reason) hs h = h.2
+
+last_join : (hs given all : List Given) → AreLast hs all → AreLast (hs ++ given) (all ++ given)
+last_join hs given all h = record {
+  ignored = h.ignored;
+  is = ap (λ (l : List Given). l ++ given) h.is ∙ append_assoc h.ignored hs given;
+}
+
+-- the first of them is ignored too
+last_ignored : (g : Given) (gs all : List Given) → AreLast (g ∷ gs) all → AreLast gs all
+last_ignored g gs all h = record { ignored = h.ignored ++ g ∷ []; is = h.is ∙ sym (append_assoc h.ignored (g ∷ []) gs) }
+
+pub all_last : (gs : List Given) → AreLast gs gs
+all_last gs = record { ignored = []; is = refl }
+
+pub none_last : (gs : List Given) → AreLast [] gs
+none_last gs = record { ignored = gs; is = sym (append-nil gs) }
+
 stands_behind : (p q : LinkPair) (why : Option ℕ) (hs given : List Given) → Stands (open_here p why hs) → AreOpen true q →
-    AreOfClass true given → Stands (open_here q why (hs ++ given))
-stands_behind p q None hs given h a two = a
-stands_behind p q (Some reason) hs given h a two = (a, all_join IsTwo hs given h.1 two)
+    AreOfClass true given → q.rightward ≡ p.rightward ++ given → Stands (open_here q why (hs ++ given))
+stands_behind p q None hs given h a two more = a
+stands_behind p q (Some reason) hs given h a two more =
+    (a, all_join IsTwo hs given h.1 two, subst (AreLast (hs ++ given)) (sym more) (last_join hs given p.rightward h.2))
 
 take_open : (n : ℕ) (s : State) (p : LinkPair) (why : Option ℕ) → Each → (hs : List Given) (g : Given) (gs : List Given) →
     IsAt n s (open_here p why hs) → p.leftward ≡ g ∷ gs →
@@ -76,7 +97,7 @@ take_open n s p why each hs g gs a e =
       out = simp addressed_join;
       back = rw e refl;
       goes = given_goes n g;
-      stands = stands_behind p (after_take p t.link gs) why hs given a.stands open_then of_two;
+      stands = stands_behind p (after_take p t.link gs) why hs given a.stands open_then of_two refl;
       carries = open_takes n p why hs g gs a.some links_open e t;
       brings = brings_given n g p.left t.link links_open.left.handed t.taken;
       keeps = λ e. refl;
@@ -105,13 +126,18 @@ send_open n s p why each hs octets a short are =
         out = simp addressed_join;
         back = refl;
         goes = refl;
-        stands = stands_behind p (after_send p octets) why hs given a.stands open_then of_two;
-        carries = open_sends n p why hs octets links_open passes;
+        stands = stands_behind p (after_send p octets) why hs given a.stands open_then of_two refl;
+        carries = open_sends n p why hs octets links_open (is_behind p why hs a.stands) passes;
         brings = grind (arith, brings_none, drained_leaves);
         keeps = λ e. refl;
       },
       refl,
     )
+
+closed_stands : (p : LinkPair) (why : Option ℕ) (hs : List Given) (reason : ℕ) → Stands (open_here p why hs) →
+    Stands (closed_here p why hs reason)
+closed_stands p None hs reason h = (h, h.agree.agree_back.class, all_last p.leftward)
+closed_stands p (Some other) hs reason h = (h.1, h.0.agree.agree_back.class)
 
 -- it is closed
 pub close_open : (n : ℕ) (s : State) (p : LinkPair) (why : Option ℕ) → Each → (hs : List Given) (reason : ℕ) →
@@ -131,9 +157,9 @@ close_open n s p why each hs reason a small =
         out = refl;
         back = refl;
         goes = refl;
-        stands = grind arith;
+        stands = closed_stands p why hs reason a.stands;
         carries = open_closes n p why hs reason a.some;
-        brings = grind (arith, kinds_begun);
+        brings = grind (arith, lacks_begun);
         keeps = λ e. cc;
       },
       refl,
@@ -213,8 +239,8 @@ takes_quietly n s old new u unit rest arrived comes b answers changes same goes_
         lost = [];
         told = told;
         leftward = leftward;
-        before = same_like (there n old) stays (stays ++ []) (sym (append-nil stays));
-        after = same_like (there n old) (messages_out n new) (stays ++ []) (still ∙ sym (append-nil stays));
+        before = sym (append-nil stays);
+        after = still ∙ sym (append-nil stays);
       };
       brings = brings;
       keeps = λ e. refl;
@@ -227,8 +253,9 @@ take_here n s (left_there p hs reason) unit rest a b = take_open_by n s p (Some 
 take_here n s (left_here p (g ∷ gs) reason) unit rest a b =
     takes_quietly n s (left_here p (g ∷ gs) reason) (left_here p gs reason) (unit_of n g) unit rest (messages_after [] (unit_of n g ∷ []))
     refl b (given_answers n (Some (closing n)) g) (given_ignored n s a.lasts a.class a.orderly g a.stands.1.0 a.is) refl refl
-    (given_goes n g) (a.stands.0, a.stands.1.1) (told_nothing (messages_after [] (unit_of n g ∷ [])) (λ m. []) (λ m. refl))
-    (kinds_both (unit_of n g ∷ []) (addressed n gs ++ uncut_units p.right.ends.unsent)) refl (brings_ignored n g)
+    (given_goes n g) (a.stands.0, a.stands.1.1, last_ignored g gs p.leftward a.stands.2)
+    (told_nothing (messages_after [] (unit_of n g ∷ [])) (λ m. []) (λ m. refl))
+    (lacks_one n g (addressed n gs ++ uncut_units p.right.ends.unsent)) refl (brings_ignored n g)
 take_here n s (left_both hs reason [] other) unit rest a b =
     takes_quietly n s (left_both hs reason [] other) (waiting_there hs (Some reason)) (leaving n other) unit rest (bye other ∷ [])
     refl b refl (crossed_changes n s a.lasts a.class a.orderly other a.is) refl refl refl a.stands.0 refl
@@ -238,7 +265,7 @@ take_here n s (left_both hs reason (g ∷ gs) other) unit rest a b =
     (messages_after [] (unit_of n g ∷ [])) refl b (given_answers n (Some (closing n)) g)
     (given_ignored n s a.lasts a.class a.orderly g a.stands.1.0 a.is) refl refl (given_goes n g) (a.stands.0, a.stands.1.1)
     (told_nothing (messages_after [] (unit_of n g ∷ [])) (λ m. []) (λ m. refl))
-    (kinds_both (unit_of n g ∷ []) ((addressed n gs ++ leaving n other ∷ []) ++ [])) refl (brings_ignored n g)
+    (lacks_one n g ((addressed n gs ++ leaving n other ∷ []) ++ [])) refl (brings_ignored n g)
 take_here n s (waiting_here [] None) unit rest a b =
     takes_quietly n s (waiting_here [] None) parted (disconnected n n) unit rest (over ∷ []) refl b refl
     (over_changes n s a.lasts a.class a.orderly a.is) refl refl refl tt refl refl refl (grind arith)
@@ -250,7 +277,7 @@ take_here n s (waiting_here (g ∷ gs) last) unit rest a b =
     takes_quietly n s (waiting_here (g ∷ gs) last) (waiting_here gs last) (unit_of n g) unit rest (messages_after [] (unit_of n g ∷ []))
     refl b (given_answers n (Some (closing n)) g) (given_ignored n s a.lasts a.class a.orderly g a.stands.0 a.is) refl refl
     (given_goes n g) a.stands.1 (told_nothing (messages_after [] (unit_of n g ∷ [])) (λ m. []) (λ m. refl))
-    (kinds_both (unit_of n g ∷ []) ((addressed n gs ++ farewell n last ∷ []) ++ [])) refl (brings_ignored n g)
+    (lacks_one n g ((addressed n gs ++ farewell n last ∷ []) ++ [])) refl (brings_ignored n g)
 take_here n s m unit rest a b = cc
 
 -- ---- calls here

@@ -85,7 +85,7 @@ carries_met end each n called m new es put c = record {
   told = c.told ∙ told_met n (seen_from end m) c.arrived;
   came = rw (seen_twice end new) (rw (seen_twice end m) at c.leftward);
   before = rw (seen_twice end m) at c.before;
-  after = rw (seen_twice end new) (rw (seen_twice end m) at c.after);
+  after = rw (seen_twice end new) c.after;
 }
 
 -- to one that both have had open neither a CR nor a CC comes

@@ -9,10 +9,10 @@ use Rattle.osi_between.proofs.Vocabulary.{Connection, asked, linked, State, pack
 use Rattle.osi_between.proofs.Vocabulary.{react_quiet, unasked, asking, accepting, withdrawing, met, answer_of, IsTsap, IsAskedBy}
 use Rattle.osi_between.proofs.Vocabulary.{MayTakeTwo, IsAccepted, CourseMoves, talking, left_there, Message, ask, agree, messages_after}
 use Rattle.osi_between.proofs.Vocabulary.{uncut_units, not_yet, awaiting, put_named, length, length-append, inl, Course, Meeting, mirror}
-use Rattle.osi_between.proofs.Vocabulary.{Moves, here, there, out, back, messages_out, asks_in, IsAt, unsent_at}
+use Rattle.osi_between.proofs.Vocabulary.{Moves, here, there, out, back, messages_out, asks_in, IsAt, unsent_at, connection_in, at_end}
 use Rattle.osi_between.proofs.unit.what_a_taken_unit_means.{brings_none, same_like}
 use Rattle.osi_between.proofs.meeting.how_a_connection_changes_at_each_end.{given_place, acts_changed}
-use Rattle.osi_between.proofs.meeting.a_connection_after_each_unit_and_call.{open_mirror}
+use Rattle.osi_between.proofs.meeting.a_connection_after_each_unit_and_call.{open_mirror, none_last}
 use Rattle.osi_between.proofs.link.a_request_and_its_answer_open_two_links.{request_of, caller_link, called_link, opens_links}
 use Rattle.osi_between.proofs.link.a_request_and_its_answer_open_two_links.{asked_sendable, no_octets}
 use Rattle.osi_between.proofs.between.an_acting_end_keeps_the_invariant.{Each}
@@ -140,7 +140,7 @@ accepted_moves n c p q why each s r t put h le plain none_out left mv is =
         stays = agree ∷ mv.carries.stays;
         lost = mv.carries.lost;
         told = grind arith;
-        came = refl;
+        came = same_like (connection_in (at_end false n (opening c q why))) [] [] refl;
         before = ap (λ (l : List Message). agree ∷ l) before;
         after = ap (λ (l : List Message). agree ∷ l) after;
       };
@@ -155,6 +155,10 @@ pub accepted_at : (n : ℕ) (c : Connect) (p : LinkPair) (s r : State) → 0 < n
 accepted_at n c p s r some h quiet orderly le at = grind (arith, open_mirror)
 
 -- ---- the caller takes the CC
+
+-- nothing is in flight from the caller then
+opened_quiet : (n : ℕ) (p : LinkPair) (why : Option ℕ) → p.left.ends.unsent ≡ [] → p.rightward ≡ [] → messages_out n (opened_as p why) ≡ []
+opened_quiet n p why none out = grind arith
 
 pub confirm_moves : (n : ℕ) (c : Connect) (p : LinkPair) (why : Option ℕ) → Each → (s r : State) → IsAccepted n s r c p → s.ended ≡ None →
     s.is_caller ≡ true → MayTakeTwo s.class → s.local.class2 ≡ true → n ≤ s.given → value_at n s.live ≡ Some asked →
@@ -176,7 +180,7 @@ confirm_moves n c p why each s r h quiet caller two supports le at =
       there = refl;
       out = grind arith;
       back = refl;
-      holds = grind arith;
+      holds = grind (arith, none_last);
       given = omega arith;
       numbers = refl;
       places = tt;
@@ -187,7 +191,7 @@ confirm_moves n c p why each s r h quiet caller two supports le at =
         told = refl;
         came = ap (λ (b : List ℕ). agree ∷ messages_after b us) (sym (grind arith));
         before = refl;
-        after = same_like (there n m) (messages_out n m) [] (grind (arith, none));
+        after = opened_quiet n p why none h.rightward;
       };
       brings = grind arith;
       keeps = λ e. refl;

@@ -7,8 +7,9 @@ use Rattle.osi_between.proofs.Vocabulary.{parts_under_way, under_way, under_way_
 use Rattle.osi_between.proofs.Vocabulary.{unit_of, with_tsdu, zero_standing, tsdus_after, uncut, drained_leaves, Happening, tsdu, closed}
 use Rattle.osi_between.proofs.Vocabulary.{pumped, handed_out, Meeting, talking, left_here, left_there, left_both, waiting_there, addressed}
 use Rattle.osi_between.proofs.Vocabulary.{leaving, told_open, messages_out, Message, message, bye, over, parting, messages_after}
-use Rattle.osi_between.proofs.Vocabulary.{uncut_units, kind_of, AreOpen, links, LeftTakes, after_take, after_send, Bool, Passes, Option}
-use Rattle.osi_between.proofs.unit.units_are_read_as_messages.{tsdu_messages, messages_behind, messages_front, kinds_begun, kinds_join}
+use Rattle.osi_between.proofs.Vocabulary.{uncut_units, AreLast, HasWholeTsdus, append_cancel_left, AreOpen, links, LeftTakes, after_take, after_send, Bool, Passes, Option}
+use Rattle.osi_between.proofs.unit.units_are_read_as_messages.{tsdu_messages, messages_behind, messages_front, messages_part}
+use Rattle.osi_between.proofs.unit.units_are_read_as_messages.{begun_after, begun_last, lacks_begun}
 use Rattle.osi_between.proofs.link.a_call_is_turns_of_two_links.{turned_any, turned_any_back, turned_take, turned_send, Turned}
 
 -- ---- lists of messages
@@ -24,10 +25,10 @@ pub told_nothing : (ms : List Message) (f : Message → List Happening) → ((m 
 told_nothing [] f none = refl
 told_nothing (m ∷ ms) f none = told_nothing ms f none ∙ ap (λ (l : List Happening). l ++ flat_map f ms) (sym (none m))
 
--- to a closing link, by kind
-pub kinds_both : (us vs : List Value) →
-    map kind_of (messages_after [] (us ++ vs)) ≡ map kind_of (messages_after [] us ++ messages_after [] vs)
-kinds_both us vs = kinds_join us vs [] ∙ sym (map-append kind_of (messages_after [] us) (messages_after [] vs))
+-- the octets of the first message
+abbrev octets_first : List Message → List ℕ
+octets_first (message octets ∷ ms) = octets
+octets_first ms = []
 
 -- ---- links
 
@@ -44,6 +45,23 @@ pair_before n p later e = search (arith, tsdu_messages, under_way_is)
 pub pair_messages : (n : ℕ) (p : LinkPair) → p.right.ends.joining.whole ≡ [] →
     messages_after p.right.ends.joining.begun (addressed n p.rightward ++ uncut_units p.left.ends.unsent) ≡ map message (under_way p)
 pair_messages n p e = grind (arith, append-nil p.left.ends.unsent, pair_before n p [] e)
+
+-- if each TSDU in flight is whole, none is begun by the units and by what is unsent
+pub whole_begun : (n : ℕ) (p : LinkPair) → p.right.ends.joining.whole ≡ [] → HasWholeTsdus p →
+    begun_after p.right.ends.joining.begun (addressed n p.rightward ++ uncut_units p.left.ends.unsent) ≡ []
+whole_begun n p e whole =
+    let begun = p.right.ends.joining.begun in
+    let unsent = p.left.ends.unsent in
+    let us = addressed n p.rightward ++ uncut_units unsent in
+    let parts : addressed n p.rightward ++ uncut_units (unsent ++ [] ∷ []) ≡ us ++ data0 true [] ∷ [] =
+    ap (λ (l : List Value). addressed n p.rightward ++ l) (map-append (data0 true) unsent ([] ∷ []))
+    ∙ sym (append_assoc (addressed n p.rightward) (uncut_units unsent) (data0 true [] ∷ [])) in
+    let one : messages_after begun us ++ message (begun_after begun us ++ []) ∷ [] ≡ messages_after begun us ++ message [] ∷ [] =
+    sym (messages_part us begun (data0 true [] ∷ [])) ∙ ap (messages_after begun) (sym parts) ∙ pair_before n p ([] ∷ []) e
+    ∙ ap (map message) (whole ([] ∷ [])) ∙ map-append message (under_way p) ([] ∷ [])
+    ∙ ap (λ (l : List Message). l ++ message [] ∷ []) (sym (pair_messages n p e)) in
+    let last = append_cancel_left (messages_after begun us) (message (begun_after begun us ++ []) ∷ []) (message [] ∷ []) one in
+    sym (append-nil (begun_after begun us)) ∙ ap octets_first last
 
 -- a link with nothing to send, which has taken nothing
 abbrev pub bare : Standing
@@ -101,6 +119,11 @@ abbrev pub open_here : LinkPair → Option ℕ → List Given → Meeting
 open_here p None hs = talking p
 open_here p (Some reason) hs = left_there p hs reason
 
+-- these units are the last of those that would be in flight to there, if none had been ignored
+abbrev pub IsBehind : LinkPair → Option ℕ → List Given → Type 0
+IsBehind p None hs = Unit {0}
+IsBehind p (Some reason) hs = AreLast hs p.rightward
+
 -- the same, closed here too
 abbrev pub closed_here : LinkPair → Option ℕ → List Given → ℕ → Meeting
 closed_here p None hs reason = left_here p p.leftward reason
@@ -128,16 +151,30 @@ open_takes n p (Some reason) hs g gs some a e t =
       told = c.told;
       leftward = before_leaving n reason (addressed n p.leftward) (addressed n gs) p.left.ends.joining.begun q.left.ends.joining.begun
           c.arrived some c.leftward;
-      before = ap (map kind_of) (sym (append-nil c.stays));
-      after = ap (map kind_of) c.after;
+      before = c.before;
+      after = c.after;
     }
 
+-- If units are the last of those in flight to there, no TSDU is begun by these and by what is unsent.
+pub last_whole : (n : ℕ) (p : LinkPair) (hs : List Given) → AreOpen true p → AreLast hs p.rightward →
+    begun_after [] (addressed n hs ++ uncut_units p.left.ends.unsent) ≡ []
+last_whole n p hs a last =
+    let begun = p.right.ends.joining.begun in
+    let unsent = uncut_units p.left.ends.unsent in
+    let us = addressed n p.rightward ++ unsent in
+    let parts : us ≡ addressed n last.ignored ++ (addressed n hs ++ unsent) =
+    ap (λ (gs : List Given). addressed n gs ++ unsent) last.is
+    ∙ ap (λ (l : List Value). l ++ unsent) (map-append (unit_of n) last.ignored hs)
+    ∙ append_assoc (addressed n last.ignored) (addressed n hs) unsent in
+    begun_last (addressed n last.ignored) (addressed n hs ++ unsent) begun
+    (ap (begun_after begun) (sym parts) ∙ whole_begun n p a.right.handed a.whole)
+
 abbrev pub open_sends : (n : ℕ) (p : LinkPair) (why : Option ℕ) (hs : List Given) (octets : List ℕ) → AreOpen true p →
-    Passes true p (after_send p octets) (octets ∷ []) [] →
+    IsBehind p why hs → Passes true p (after_send p octets) (octets ∷ []) [] →
     Carries n (open_here p why hs) (open_here (after_send p octets) why (hs ++ all_given (with_tsdu p.left octets))) []
     (message octets ∷ [])
-open_sends n p None hs octets a passes = talking_carries true n p (after_send p octets) (octets ∷ []) [] a passes
-open_sends n p (Some reason) hs octets a passes =
+open_sends n p None hs octets a last passes = talking_carries true n p (after_send p octets) (octets ∷ []) [] a passes
+open_sends n p (Some reason) hs octets a last passes =
     let link = pumped (with_tsdu p.left octets) in
     let given = all_given (with_tsdu p.left octets) in
     let v = links p.left hs bare p.leftward in
@@ -158,8 +195,9 @@ open_sends n p (Some reason) hs octets a passes =
       told = refl;
       leftward = ap (λ (j : Joining). messages_after j.begun ((addressed n p.leftward ++ leaving n reason ∷ []) ++ []))
           (sym (drained_leaves (with_tsdu p.left octets)).1);
-      before = ap (map kind_of) (sym (append-nil (messages_out n (left_there p hs reason))));
-      after = ap (map kind_of) (same ∙ ap (messages_after []) parts) ∙ kinds_both (us ++ uncut_units unsent) (data0 true octets ∷ []);
+      before = sym (append-nil (messages_out n (left_there p hs reason)));
+      after = same ∙ ap (messages_after []) parts ∙ messages_part (us ++ uncut_units unsent) [] (data0 true octets ∷ [])
+          ∙ ap (λ (b : List ℕ). messages_after [] (us ++ uncut_units unsent) ++ message (b ++ octets) ∷ []) (last_whole n p hs a last);
     }
 
 abbrev pub open_closes : (n : ℕ) (p : LinkPair) (why : Option ℕ) (hs : List Given) (reason : ℕ) → 0 < n →
@@ -173,29 +211,33 @@ open_closes n p None hs reason some =
       stays = messages_after begun us;
       lost = front.0;
       told = refl;
-      leftward = kinds_begun (addressed n p.leftward ++ uncut_units p.right.ends.unsent) p.left.ends.joining.begun [];
+      leftward = lacks_begun (addressed n p.leftward ++ uncut_units p.right.ends.unsent) p.left.ends.joining.begun;
       before = front.1;
       after = behind_leaving n us reason begun some;
     }
-open_closes n p (Some other) hs reason some = record {
-  arrived = [];
-  stays = messages_after [] (addressed n hs);
-  lost = messages_after [] (uncut_units p.left.ends.unsent);
-  told = refl;
-  leftward = kinds_begun ((addressed n p.leftward ++ leaving n other ∷ []) ++ []) p.left.ends.joining.begun [];
-  before = kinds_both (addressed n hs) (uncut_units p.left.ends.unsent);
-  after = ap (map kind_of) (behind_leaving n (addressed n hs) reason [] some);
-}
+open_closes n p (Some other) hs reason some =
+    let front = messages_front (addressed n hs) [] (uncut_units p.left.ends.unsent) in
+    record {
+      arrived = [];
+      stays = messages_after [] (addressed n hs);
+      lost = front.0;
+      told = refl;
+      leftward = lacks_begun ((addressed n p.leftward ++ leaving n other ∷ []) ++ []) p.left.ends.joining.begun;
+      before = front.1;
+      after = behind_leaving n (addressed n hs) reason [] some;
+    }
 
 abbrev pub leaving_takes : (n : ℕ) (p : LinkPair) (hs : List Given) (reason : ℕ) → 0 < n → p.leftward ≡ [] →
     Carries n (left_there p hs reason) (waiting_there hs None) (closed n reason ∷ []) (over ∷ [])
-leaving_takes n p hs reason some e = record {
-  arrived = bye reason ∷ [];
-  stays = messages_after [] (addressed n hs);
-  lost = messages_after [] (uncut_units p.left.ends.unsent);
-  told = refl;
-  leftward = ap (λ (us : List Given). messages_after p.left.ends.joining.begun ((addressed n us ++ leaving n reason ∷ []) ++ [])) e
-      ∙ behind_leaving n [] reason p.left.ends.joining.begun some;
-  before = kinds_both (addressed n hs) (uncut_units p.left.ends.unsent);
-  after = ap (map kind_of) (behind_over n (addressed n hs) []);
-}
+leaving_takes n p hs reason some e =
+    let front = messages_front (addressed n hs) [] (uncut_units p.left.ends.unsent) in
+    record {
+      arrived = bye reason ∷ [];
+      stays = messages_after [] (addressed n hs);
+      lost = front.0;
+      told = refl;
+      leftward = ap (λ (us : List Given). messages_after p.left.ends.joining.begun ((addressed n us ++ leaving n reason ∷ []) ++ [])) e
+          ∙ behind_leaving n [] reason p.left.ends.joining.begun some;
+      before = front.1;
+      after = behind_over n (addressed n hs) [];
+    }

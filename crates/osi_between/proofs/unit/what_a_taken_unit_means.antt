@@ -1,13 +1,14 @@
 -- What the units mean that an end takes.
 -- For connections of class 2, class 0 and the invariant.
-use Rattle.osi_between.proofs.Vocabulary.{◌≡◌, ℕ, Bool, true, List, [], ◌∷◌, map, take, Option, Some, Ok, arith, AllByRecursion, map-append}
+use Rattle.osi_between.proofs.Vocabulary.{◌≡◌, ℕ, Bool, true, List, [], ◌∷◌, map, take, Option, Some, Ok, arith, AllByRecursion}
 use Rattle.osi_between.proofs.Vocabulary.{Standing, Given, taken, unit_of, drained_leaves, pumped, handed_out, Connection, linked, closing}
-use Rattle.osi_between.proofs.Vocabulary.{Message, message, messages_after, begun_at, AreLike, Progress, in_use, shutting, may_arrive}
+use Rattle.osi_between.proofs.Vocabulary.{Message, message, messages_after, begun_at, AreLike, sym, ◌∙◌, Progress, in_use, shutting, may_arrive}
 use Rattle.osi_between.proofs.Vocabulary.{behind_arrivals, behind_puts, Brings}
-use Rattle.osi_between.proofs.unit.units_are_read_as_messages.{kinds_join}
+use Rattle.osi_between.proofs.unit.units_are_read_as_messages.{lacks_one, led_none}
 
 pub same_like : (o : Option Connection) (some others : List Message) → some ≡ others → AreLike o some others
-same_like o some others e = grind (arith, map)
+same_like (Some (closing peer)) some others e = record { lacking = []; is = e ∙ sym (led_none others) }
+same_like o some others e = e
 
 -- ---- nothing is taken
 
@@ -32,4 +33,4 @@ ignored_stay n g = grind arith
 
 pub brings_ignored : (n : ℕ) (g : Given) →
     Brings true shutting shutting (Some (closing n)) (Some (closing n)) (unit_of n g ∷ []) (messages_after [] (unit_of n g ∷ [])) []
-brings_ignored n g = search (arith, kinds_join, map-append, ignored_may, ignored_stay)
+brings_ignored n g = search (arith, lacks_one, ignored_may, ignored_stay)

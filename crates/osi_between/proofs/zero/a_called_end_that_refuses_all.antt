@@ -8,7 +8,6 @@ use Rattle.osi_between.proofs.Vocabulary.{Connection, asked, linked, State, pack
 use Rattle.osi_between.proofs.Vocabulary.{told_of, IsTsap, ask, deny, Refusal, rows_in, denying, AreRefusing, refusing, IsProposed}
 use Rattle.osi_between.proofs.between.an_acting_end_keeps_the_invariant.{Does}
 use Rattle.osi_between.proofs.unit.the_units_of_one_connection.{units_same, none_left}
-use Rattle.osi_between.proofs.unit.what_a_taken_unit_means.{same_like}
 use Rattle.osi_between.proofs.meeting.how_a_connection_is_opened.{push_places}
 use Rattle.osi_between.proofs.meeting.how_a_connection_changes_at_each_end.{given_place}
 use Rattle.osi_between.proofs.joined.requests_beginnings_and_nothing_in_flight.{next_never}
@@ -47,8 +46,8 @@ asks_first reason s r going coming calling to j empty none back left fits fits_t
         cut = refl;
         all_for = tt;
         written_for = all;
-        before = grind (arith, same_like, units_same);
-        after = grind (arith, same_like, units_same);
+        before = grind (arith, units_same);
+        after = grind (arith, units_same);
         brings = grind arith;
         others_stay = λ q apart. push_places s t asked q refl refl apart;
         given = refl;
@@ -110,8 +109,8 @@ refuses reason s r going coming rest c j live is back some a cut =
         cut = cut;
         all_for = (source, tt);
         written_for = (refl, tt);
-        before = grind (arith, same_like, units_same);
-        after = grind (arith, same_like, units_same);
+        before = grind (arith, units_same);
+        after = grind (arith, units_same);
         brings = grind arith;
         others_stay = λ q apart. refl;
         given = omega arith;
@@ -150,8 +149,8 @@ is_refused reason s r going coming rest j live none is some cut =
         cut = cut;
         all_for = (refl, tt);
         written_for = tt;
-        before = grind (arith, same_like, units_same);
-        after = grind (arith, same_like, units_same);
+        before = grind (arith, units_same);
+        after = grind (arith, units_same);
         brings = grind arith;
         others_stay = grind (arith, without_other);
         given = omega arith;

@@ -14,7 +14,7 @@ use Rattle.osi_between.proofs.Vocabulary.{told_opening, references_for, class_be
 use Rattle.osi_between.proofs.Vocabulary.{if◌then◌else◌, opens, HasGivenInRange, in_use}
 use Rattle.osi_between.proofs.between.an_acting_end_keeps_the_invariant.{Does, JoinedAt, Each}
 use Rattle.osi_between.proofs.unit.the_units_of_one_connection.{units_same, all_rest, all_sendable}
-use Rattle.osi_between.proofs.unit.what_a_taken_unit_means.{same_like, brings_none, brings_given}
+use Rattle.osi_between.proofs.unit.what_a_taken_unit_means.{brings_none, brings_given}
 use Rattle.osi_between.proofs.meeting.how_a_connection_changes_at_each_end.{idle_all}
 use Rattle.osi_between.proofs.meeting.what_is_in_flight_for_a_connection.{told_tsdus, talking_carries}
 use Rattle.osi_between.proofs.meeting.a_connection_after_each_unit_and_call.{addressed_join, open_mirror}
@@ -141,9 +141,8 @@ does_zero end this other next going coming rest taken put g h cut mv =
         cut = cut;
         all_for = mv.all_for;
         written_for = mv.written_for;
-        before = grind (arith, same_like, append-nil);
-        after = same_like (connection_in (place_at 1 other)) (under_way_for 1 next other (going ++ mv.units))
-            (under_way_for 1 this other going ++ put) (is ∙ mv.sent ∙ ap (λ (l : List Message). l ++ put) (sym was));
+        before = sym (append-nil (under_way_for 1 this other going));
+        after = is ∙ mv.sent ∙ ap (λ (l : List Message). l ++ put) (sym was);
         brings = rw (here, now) mv.brings;
         others_stay = λ q apart. other_place next (at_end end mv.new) q mv.here apart
             ∙ sym (other_place this (at_end end g) q h.here apart);

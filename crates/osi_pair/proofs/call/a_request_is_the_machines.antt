@@ -21,9 +21,10 @@ use Rattle.osi_pair.proofs.turn.what_an_acting_end_leaves_in_flight.{out_way, pl
 use Rattle.osi_pair.proofs.call.a_call_is_the_machines.{session_now_is}
 use Rattle.osi_pair.proofs.call.what_a_call_sends_can_be_written.{profile_small, asker_small}
 use Rattle.osi_pair.proofs.call.a_request_is_answered_as_by_the_machine.{Awaits, refusal_same}
-use Rattle.osi_pair.proofs.flight.what_is_in_flight_when_an_end_acts.{none_under_way, same_alike, like_alike}
+use Rattle.osi_pair.proofs.flight.what_is_in_flight_when_an_end_acts.{none_under_way}
 use Rattle.osi_pair.proofs.turn.a_turn_keeps_the_match.{seen, unseen, Others, other_seen}
 use Rattle.osi_pair.proofs.packet.a_request_begins_a_session.{begun_kept, begun_waits}
+use Rattle.osi_pair.proofs.flight.what_a_closing_receiver_has_dropped.{like_alike, same_alike}
 
 -- the laws of the crates below
 pub record ConnectLaws : Type 0 where

@@ -9,11 +9,12 @@ use Rattle.osi_pair.proofs.Vocabulary.{connection_at, Step, breaks, Line, Tables
 use Rattle.osi_pair.proofs.Vocabulary.{after_break, fresh_ends, carriers_of, IsLine, Stands, StandsAt, StandsAtBreak, AreUnderWay, HasLine}
 use Rattle.osi_pair.proofs.Vocabulary.{HasJoined, IsSound, fresh_end, Left, Right, EndReason, cut_there, cut_count, SessionState as State}
 use Rattle.osi_pair.proofs.flight.who_receives_what_is_in_flight.{TakeLaws, TakesFrom, takes_from}
-use Rattle.osi_pair.proofs.flight.what_is_in_flight_when_an_end_acts.{Takes, Front, front_at, alike_take}
+use Rattle.osi_pair.proofs.flight.what_is_in_flight_when_an_end_acts.{Takes, Front, front_at}
 use Rattle.osi_pair.proofs.flight.whether_something_is_cut_off.{found_each}
 use Rattle.osi_pair.proofs.promise.matching_ends_keep_the_promises.{tables_at, is_run}
 use Rattle.osi_pair.proofs.turn.what_an_acting_end_leaves_in_flight.{one_step}
 use Rattle.osi_pair.proofs.turn.a_turn_keeps_the_match.{still_seated}
+use Rattle.osi_pair.proofs.flight.what_a_closing_receiver_has_dropped.{alike_take}
 
 -- what is proved of two carriers
 pub record BreakLaws : Type 0 where

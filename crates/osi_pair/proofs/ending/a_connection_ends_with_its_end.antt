@@ -3,16 +3,17 @@
 use Rattle.osi_between.specs.Messages as between
 use Rattle.osi_machine.specs.Core as machine
 use Rattle.osi_machine.specs.Worlds.{not_yet, gone}
-use Rattle.osi_pair.proofs.Vocabulary.{ended_there, take-map, ◌≡◌, refl, ◌∙◌, ap, ℕ, ◌+◌, Bool, true, false, if◌then◌else◌, not, List, []}
+use Rattle.osi_pair.proofs.Vocabulary.{ended_there, take-map, ◌≡◌, refl, ◌∙◌, ap, ℕ, Bool, true, false, if◌then◌else◌, not, List, []}
 use Rattle.osi_pair.proofs.Vocabulary.{◌++◌, length, map, take, nat_lt, Option, Some, None, is_some, arith, messages_front, IfSome}
 use Rattle.osi_pair.proofs.Vocabulary.{append-nil, Value, Place, never, was_given, place_at, connection_in, Rows, value_at, Connection}
 use Rattle.osi_pair.proofs.Vocabulary.{State, units_of, Between, Both, is_cut, to_come, under_way, side, last_of, messages_after, begun_at}
 use Rattle.osi_pair.proofs.Vocabulary.{Progress, connection_at, is_given, Seat, Line, awaits, seen_from, ended_lines, Message, IsInOctets}
 use Rattle.osi_pair.proofs.Vocabulary.{broken as broken_off, react, kept_at, Holding, transport_in, IsSeated, AreUnderWay, EndReason}
 use Rattle.osi_pair.proofs.Vocabulary.{SessionState as Session, append_assoc, list_any-append, take-append-le}
-use Rattle.osi_pair.proofs.flight.what_is_in_flight_when_an_end_acts.{Takes, as_now, alike_take}
+use Rattle.osi_pair.proofs.flight.what_is_in_flight_when_an_end_acts.{Takes, as_now}
 use Rattle.osi_pair.proofs.flight.what_is_in_flight_when_an_end_acts as ways
 use Rattle.osi_pair.proofs.session.a_reply_can_be_sent.{ended_broken, goes_broken}
+use Rattle.osi_pair.proofs.flight.what_a_closing_receiver_has_dropped.{alike_take}
 
 -- ---- a side that has ended
 

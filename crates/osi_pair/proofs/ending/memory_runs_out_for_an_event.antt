@@ -12,7 +12,7 @@ use Rattle.osi_pair.proofs.Vocabulary.{IsTableRun, LosesAsItEnds, delivers, lear
 use Rattle.osi_pair.proofs.Vocabulary.{seen_from, end_of, step, unseen, puts, shortened, without_first, message_taken, Message, over, put}
 use Rattle.osi_pair.proofs.Vocabulary.{replied, IsInOctets, Standing, opened, broken as broken_off, begun, react, Shown, Starves, told_all}
 use Rattle.osi_pair.proofs.Vocabulary.{IsUnderWay, IsSeated, End, TwoEnds, end_at, other, side_in, is_caller, carriers_of, message_in}
-use Rattle.osi_pair.proofs.Vocabulary.{Stands, Goes, Side, kind_of, ◌≢◌, ◌≤◌, length, Some, ◌<◌, Seat, transport_in, HasLine}
+use Rattle.osi_pair.proofs.Vocabulary.{Stands, Goes, Side, ◌≢◌, ◌≤◌, length, Some, ◌<◌, Seat, transport_in, HasLine}
 use Rattle.osi_pair.proofs.turn.what_an_acting_end_leaves_in_flight.{run_behind, number_one}
 use Rattle.osi_pair.proofs.packet.when_a_session_replies_or_closes.{opened_stays}
 use Rattle.osi_pair.proofs.flight.a_taken_packet_is_one_row.{packet_acts}
@@ -38,6 +38,7 @@ use Rattle.osi_pair.proofs.ending.want_of_memory_is_an_end.{out_shown, ended_sho
 use Rattle.osi_pair.proofs.packet.a_disconnect_loses_the_session.{out_leaves}
 use Rattle.osi_pair.proofs.flight.whether_something_is_cut_off.{Lasts, this_or_other}
 use Rattle.osi_pair.proofs.flight.what_is_in_flight_when_an_end_acts.{way_same}
+use Rattle.osi_pair.proofs.flight.what_a_closing_receiver_has_dropped.{kind_of}
 
 -- ---- the connections of an end whose carrier acted for a unit that no session receives
 

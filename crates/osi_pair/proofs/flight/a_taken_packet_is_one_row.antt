@@ -47,8 +47,8 @@ pub record UnitActs (terms : Terms) (end from : Bool) (both : Both) (b : Between
   pub came : AreLike (connection_in (place_at n (last_of end now))) (under_way from n both b) (arrived_in row ++ under_way from n both2 now)
   pub stays : List Message
   pub gone : List Message
-  pub out_before : AreLike (connection_in (place_at n (last_of from b))) (under_way end n both b) (stays ++ gone)
-  pub out_after : AreLike (connection_in (place_at n (last_of from b))) (under_way end n both2 now) (stays ++ put_in both (put_for row))
+  pub out_before : under_way end n both b ≡ stays ++ gone
+  pub out_after : under_way end n both2 now ≡ stays ++ put_in both (put_for row)
   pub keeps : leaves_use (before row) (after row) ≡ false → gone ≡ []
   pub others : (q : ℕ) → q ≢ n → (way : Bool) → under_way way q both b ≡ under_way way q both2 now
   pub other_places : (q : ℕ) → q ≢ n → place_at q (last_of end now) ≡ place_at q (last_of end b)

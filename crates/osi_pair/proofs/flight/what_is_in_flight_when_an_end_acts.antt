@@ -1,34 +1,18 @@
 -- What is in flight, as messages of the tables and as those between two carriers, when one end acts.
 -- For what is in flight, turns, calls, breaks and ends, packets and carries.
 use Rattle.osi_between.specs.Messages as carrier
-use Rattle.osi_between.specs.Progress as progress
 use Rattle.osi_pair.proofs.Vocabulary.{take-map, ◌≡◌, ℕ, Bool, true, false, ◌≤◌, ◌⊎◌, inl, inr, List, [], ◌∷◌, ◌++◌, length, map, take}
-use Rattle.osi_pair.proofs.Vocabulary.{drop, Option, Some, None, refl, sym, ap, subst, ◌∙◌, arith, take-append_seam, length-map, map-append}
-use Rattle.osi_pair.proofs.Vocabulary.{append-nil, take-append-drop, Place, connection_in, progress_of, kind_of, AreLike, Progress}
-use Rattle.osi_pair.proofs.Vocabulary.{shutting, Message, unit, EndReason, AreAlike, message_in, word_in, AreUnderWay, IsOverWhenLeft}
+use Rattle.osi_pair.proofs.Vocabulary.{drop, Option, Some, None, refl, sym, ap, subst, ◌∙◌, arith, map-append}
+use Rattle.osi_pair.proofs.Vocabulary.{append-nil, take-append-drop, Place, connection_in, progress_of, AreLike, Progress}
+use Rattle.osi_pair.proofs.Vocabulary.{Message, unit, EndReason, AreAlike, message_in, word_in, AreUnderWay, IsOverWhenLeft}
 use Rattle.osi_pair.proofs.Vocabulary.{after_message, IsCalm, StaysCalm, IsNoFaultBehind, over_calm, Word, whole, part, joins, left_of}
 use Rattle.osi_pair.proofs.Vocabulary.{IsBegun, AreInOrder, most_data, is_leaving, DT, part_octets, First, Middle, Last, list_any}
 use Rattle.osi_pair.proofs.Vocabulary.{SessionState as State, PartPlace, length-append}
 use Rattle.osi_pair.proofs.words.added_and_cut_words_are_messages.{IsRest, Next, FrontOf, next_is, front_of, cut_behind, AreWords, wholes}
 use Rattle.osi_pair.proofs.words.added_and_cut_words_are_messages.{put_words, MayLeave, leave_behind, appends}
 use Rattle.osi_pair.proofs.flight.what_may_arrive_row_by_row.{Row, before, after}
-
-abbrev pub Sent : Type 0
-Sent = List carrier.Message
-
--- ---- alike
-
-pub same_alike : (g : Progress) (xs ys : Sent) → xs ≡ ys → AreAlike g xs ys
-same_alike g xs ys h = grind arith
-
-pub alike_take : (g : Progress) (xs ys gone : Sent) → AreAlike g xs (ys ++ gone) → AreAlike g (take (length ys) xs) ys
-alike_take g xs ys gone h = grind (arith, take-map kind_of (length ys) xs, map-append, length-map, take-append_seam)
-
--- ---- if one place is unchanged
-
--- messages that are like at a connection are alike there
-pub like_alike : (p : Place) (xs ys : Sent) → AreLike (connection_in p) xs ys → AreAlike (progress_of p) xs ys
-like_alike p xs ys h = grind arith
+use Rattle.osi_pair.proofs.flight.what_a_closing_receiver_has_dropped.{Sent, shuts, same_alike, alike_then, alike_row, alike_take}
+use Rattle.osi_pair.proofs.flight.what_a_closing_receiver_has_dropped.{alike_more, first_alike, none_alike, kind_of, alike_kind}
 
 -- ---- the same words
 
@@ -69,17 +53,24 @@ words_of_puts [] = refl
 words_of_puts (m ∷ puts) = ap (λ (l : Sent). message_in m ∷ l) (words_of_puts puts)
 
 -- words after words
-put_alike : (p : Place) (words more : List Word) (stays put new : Sent) → AreAlike (progress_of p) (map word_in words) stays →
-    AreLike (connection_in p) new (stays ++ put) → map word_in more ≡ put → AreAlike (progress_of p) (map word_in (words ++ more)) new
-put_alike p words more stays put new first after same = grind (arith, map-append)
+put_alike : (g : Progress) (words more : List Word) (stays put new : Sent) → AreAlike g (map word_in words) stays → new ≡ stays ++ put →
+    map word_in more ≡ put → AreAlike g (map word_in (words ++ more)) new
+put_alike g words more stays put new first after same =
+    rw (map-append word_in words more, same, after) (alike_more g (map word_in words) stays put first)
+
+-- those that stay
+stays_alike : (g : Progress) (xs old stays gone : Sent) → AreAlike g xs old → old ≡ stays ++ gone → gone ≡ [] → AreAlike g xs stays
+stays_alike g xs old stays gone h before none =
+    subst (AreAlike g xs) (before ∙ ap (λ (l : Sent). stays ++ l) none ∙ append-nil stays) h
 
 -- nothing of it is lost, and something is put after it, unless what is in flight was cut
 pub out_puts : (o : Option EndReason) (p : Place) (c d : Bool) (H : About) (x : State) (ms puts : List Message) (more : List Word)
     (old new stays gone put : Sent) → AreUnderWay o (progress_of p) c H x ms old → AreWords more puts → (c ≡ false) ⊎ (more ≡ []) →
-    (d ≡ false → c ≡ false) → AreLike (connection_in p) old (stays ++ gone) → AreLike (connection_in p) new (stays ++ put) → gone ≡ [] →
+    (d ≡ false → c ≡ false) → old ≡ stays ++ gone → new ≡ stays ++ put → gone ≡ [] →
     map word_in more ≡ put → AreUnderWay o (progress_of p) d H x (ms ++ puts) new
 out_puts o p c d H x ms puts more old new stays gone put w are spare cut before after none same =
-    let first : o ≡ None → AreAlike (progress_of p) (map word_in w.words) stays = grind (arith, append-nil) in
+    let first : o ≡ None → AreAlike (progress_of p) (map word_in w.words) stays =
+    λ e. stays_alike (progress_of p) (map word_in w.words) old stays gone (w.alike e) before none in
     elim spare [
       | inl uncut ↦ grind (arith, put_alike, no_begun, put_words w.begun w.words more puts w.order (w.finished uncut) are, w.finished uncut)
       | inr nothing ↦ (grind (arith, after, map, append-nil, as_now))
@@ -88,8 +79,7 @@ out_puts o p c d H x ms puts more old new stays gone put w are spare cut before 
 -- messages that go by themselves
 pub out_keeps : (o : Option EndReason) (p : Place) (c d : Bool) (H : About) (x : State) (ms puts : List Message)
     (old new stays gone put : Sent) → AreUnderWay o (progress_of p) c H x ms old → (c ≡ false) ⊎ (puts ≡ []) → (d ≡ false → c ≡ false) →
-    AreLike (connection_in p) old (stays ++ gone) → AreLike (connection_in p) new (stays ++ put) → gone ≡ [] → map message_in puts ≡ put →
-    AreUnderWay o (progress_of p) d H x (ms ++ puts) new
+    old ≡ stays ++ gone → new ≡ stays ++ put → gone ≡ [] → map message_in puts ≡ put → AreUnderWay o (progress_of p) d H x (ms ++ puts) new
 out_keeps o p c d H x ms puts old new stays gone put w spare cut before after none same =
     out_puts o p c d H x ms puts (map whole puts) old new stays gone put w (wholes puts) (grind arith) cut before after none
     (words_of_puts puts ∙ same)
@@ -152,7 +142,7 @@ front_at o q g h c d H x ms k old new w takes cut alike =
 -- its sender leaves, which is put after
 leave_at : (o : Option EndReason) (p : Place) (c d : Bool) (H : About) (x : State) (ms : List Message) (m : Message) (k : ℕ)
     (old new stays put : Sent) → (w : AreUnderWay o (progress_of p) c H x ms old) → MayLeave m →
-    (o ≡ None → AreAlike (progress_of p) (map word_in (take k w.words)) stays) → AreLike (connection_in p) new (stays ++ put) →
+    (o ≡ None → AreAlike (progress_of p) (map word_in (take k w.words)) stays) → new ≡ stays ++ put →
     message_in m ∷ [] ≡ put → Left o (progress_of p) d H x ms (m ∷ []) new
 leave_at o p c d H x ms m k old new stays put w goes first now_is same =
     let kept = take k w.words in
@@ -168,12 +158,12 @@ pub record IsLeave (puts : List Message) : Type 0 where
 
 pub out_cuts : (o : Option EndReason) (p : Place) (c d : Bool) (H : About) (x : State) (ms puts : List Message)
     (old new stays gone put : Sent) → AreUnderWay o (progress_of p) c H x ms old → Takes x ms → IsLeave puts ⊎ ((d ≡ true) × (puts ≡ [])) →
-    AreLike (connection_in p) old (stays ++ gone) → AreLike (connection_in p) new (stays ++ put) → map message_in puts ≡ put →
-    Left o (progress_of p) d H x ms puts new
+    old ≡ stays ++ gone → new ≡ stays ++ put → map message_in puts ≡ put → Left o (progress_of p) d H x ms puts new
 out_cuts o p c d H x ms puts old new stays gone put w takes which before after same =
     let k = length stays in
     let first : o ≡ None → AreAlike (progress_of p) (map word_in (take k w.words)) stays =
-    λ e. grind (arith, take-map word_in k w.words, alike_take (progress_of p) (map word_in w.words) stays gone (grind arith)) in
+    λ e. subst (λ (l : Sent). AreAlike (progress_of p) l stays) (take-map word_in k w.words)
+    (alike_take (progress_of p) (map word_in w.words) stays gone (subst (AreAlike (progress_of p) (map word_in w.words)) before (w.alike e))) in
     elim which [
       | inl leave ↦ subst (λ (l : List Message). Left o (progress_of p) d H x ms l new) (sym leave.is)
           (leave_at o p c d H x ms leave.m k old new stays put w leave.leaves first after (sym (ap (map message_in) leave.is) ∙ same))
@@ -181,16 +171,11 @@ out_cuts o p c d H x ms puts old new stays gone put w takes which before after s
           let left : stays ++ put ≡ stays =
           ap (λ (l : Sent). stays ++ l) (sym (sym (ap (map message_in) nothing.1) ∙ same)) ∙ append-nil stays in
           let y = front_at o o (progress_of p) (progress_of p) c d H x ms k old new w takes nothing.0
-          (grind arith) in
+          (λ e. subst (AreAlike (progress_of p) (map word_in (take k w.words))) (sym (after ∙ left)) (first e)) in
           grind (arith, append-nil (take y.keep ms))
     ]
 
 -- ---- to the end that acts
-
-abbrev pub shuts : Progress → Bool
-shuts shutting = true
-shuts progress.gone = true
-shuts g = false
 
 -- the first of them
 record SplitWords (g h : Progress) (words : List Word) (m : carrier.Message) (rest : Sent) : Type 0 where
@@ -200,10 +185,12 @@ record SplitWords (g h : Progress) (words : List Word) (m : carrier.Message) (re
   is : AreAlike g (word_in first ∷ []) (m ∷ [])
   stays : AreAlike h (map word_in others) rest
 
-split : (g : Progress) (ms : List Word) (m : carrier.Message) (rest : Sent) → AreAlike g (map word_in ms) (m ∷ rest) →
-    SplitWords g g ms m rest
-split g [] m rest h = grind arith
-split g (x ∷ ms) m rest h = grind arith
+split : (g h : Progress) (ms : List Word) (m : carrier.Message) (rest : Sent) → AreAlike g (map word_in ms) (m ∷ rest) →
+    SplitWords g h ms m rest
+split g h [] m rest k = absurd (none_alike g m rest k)
+split g h (x ∷ ms) m rest k =
+    let y = first_alike g (word_in x) (map word_in ms) m rest k in
+    record { first = x; others = ms; parts = refl; is = y.is; stays = same_alike h (map word_in ms) rest y.stays }
 
 -- the way after it, if this has begun, to a session with this state
 abbrev pub BehindFirst : Progress → Bool → Option (List ℕ) → State → List Message → Sent → Type 0
@@ -304,13 +291,13 @@ split_way : (g h : Progress) (d : Bool) (H : About) (x : State) (ms : List Messa
     (d ≡ false → left_of begun (first ∷ others) ≡ None) → (IsBegun (left_of begun (first ∷ others)) → StaysCalm x ms) → H begun →
     Comes g h d H x ms m rest
 split_way g h d H x ms m rest begun (whole first) others is stays joined order finished calm held =
-    whole_comes g h d H x ms m rest first others joined (grind arith)
+    whole_comes g h d H x ms m rest first others joined (alike_kind g (message_in first) m is)
     (inl (record { is = is; held = λ e. subst H (grind arith) held })) stays order.1 finished calm
 split_way g h d H x ms m rest begun (part First o) others is stays joined order finished calm held = search (arith, part_next)
 split_way g h d H x ms m rest (Some b) (part Middle o) others is stays joined order finished calm held =
     search (arith, part_next x (b ++ o) others ms joined order.2 calm)
 split_way g h d H x ms m rest (Some b) (part Last o) others is stays joined order finished calm held =
-    whole_comes g h d H x ms m rest (unit (DT (b ++ o))) others joined (grind arith)
+    whole_comes g h d H x ms m rest (unit (DT (b ++ o))) others joined (alike_kind g (carrier.message (part_octets Last o)) m is)
     (inr (record { front = b; last = o; first_is = refl; is = is; short = order.1; held = held })) stays order.2 finished calm
 split_way g h d H x ms m rest begun first others is stays joined order finished calm held = grind arith
 
@@ -321,7 +308,11 @@ is_tsdu m = false
 
 pub no_part : (g : Progress) (octets : List ℕ) (m : carrier.Message) → is_tsdu m ≡ false →
     AreAlike g (carrier.message octets ∷ []) (m ∷ []) → ⊥
-no_part g octets m e is = grind arith
+no_part g octets m e is = by m e (alike_kind g (carrier.message octets) m is)
+  where
+    by : (m : carrier.Message) → is_tsdu m ≡ false → carrier.message [] ≡ kind_of m → ⊥
+    by (carrier.message rest) e kind = cc
+    by m e kind = cc
 
 pub record Alone (g h : Progress) (d : Bool) (H : About) (x : State) (ms : List Message) (m : carrier.Message) (rest : Sent) : Type 0 where
   pub first : Message
@@ -339,7 +330,8 @@ alone_of g h d H x ms m rest e h2 = search (arith, no_part)
 comes_first : (row : Row) (old new : Place) (words : List Word) (m : carrier.Message) (ys rest : Sent) → progress_of old ≡ before row →
     progress_of new ≡ after row → AreAlike (progress_of old) (map word_in words) ys → AreLike (connection_in new) ys (m ∷ rest) →
     SplitWords (before row) (after row) words m rest
-comes_first row old new ms m ys rest e f h k = search (arith, split, before)
+comes_first row old new ms m ys rest e f h k =
+    split (before row) (after row) ms m rest (alike_row row old new (map word_in ms) ys (m ∷ rest) e f h k)
 
 pub back_comes : (row : Row) (o : Option EndReason) (old new : Place) (c d : Bool) (H : About) (x : State) (ms : List Message)
     (m : carrier.Message) (ys rest : Sent) → progress_of old ≡ before row → progress_of new ≡ after row →
@@ -356,4 +348,6 @@ back_comes row o old new c d H x ms m ys rest e f w lasts cut k =
 pub back_waits : (o q : Option EndReason) (g : Progress) (new : Place) (c d : Bool) (H K : About) (x : State) (ms : List Message)
     (ys zs : Sent) → (shuts g ≡ true → shuts (progress_of new) ≡ true) → AreUnderWay o g c H x ms ys → o ≡ None → (d ≡ false → c ≡ false) →
     ((b : Option (List ℕ)) → H b → K b) → AreLike (connection_in new) ys zs → AreUnderWay q (progress_of new) d K x ms zs
-back_waits o q g new c d H K x ms ys zs shut w lasts cut holds k = grind arith
+back_waits o q g new c d H K x ms ys zs shut w lasts cut holds k =
+    as_now o q g (progress_of new) c d H K x x ms ys zs w cut holds (λ calm. calm)
+    (λ e. alike_then g new (map word_in w.words) ys zs shut (w.alike lasts) k)

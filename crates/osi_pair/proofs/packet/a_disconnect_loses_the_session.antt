@@ -6,7 +6,7 @@ use Rattle.osi_machine.specs.Worlds as worlds
 use Rattle.osi_pair.proofs.Vocabulary.{◌≡◌, ℕ, Bool, false, List, [], ◌∷◌, map, take, sym, ap, ◌∙◌, arith, Held, place_at, Between, last_of}
 use Rattle.osi_pair.proofs.Vocabulary.{under_way, put_in, is_cut, progress_of, Line as TableLine, Turn, Tables, Message, over, put, Move}
 use Rattle.osi_pair.proofs.Vocabulary.{react, End, TwoEnds, end_at, other, is_caller, carriers_of, message_in, Stands, Goes, HasJoined}
-use Rattle.osi_pair.proofs.Vocabulary.{Side, kind_of, message_taken, without_first}
+use Rattle.osi_pair.proofs.Vocabulary.{Side, message_taken, without_first}
 use Rattle.osi_pair.proofs.call.a_call_is_the_machines.{put_nothing}
 use Rattle.osi_pair.proofs.turn.what_remains_when_a_unit_was_taken.{DidAt, line_then}
 use Rattle.osi_pair.proofs.packet.a_session_makes_its_move.{heard_by}
@@ -15,6 +15,7 @@ use Rattle.osi_pair.proofs.packet.a_unit_with_which_no_session_acts.{answer_for,
 use Rattle.osi_pair.proofs.flight.what_may_arrive_row_by_row.{Row, leaves, put_for}
 use Rattle.osi_pair.proofs.turn.a_turn_keeps_the_match.{IsSeen, with_holding, out_there}
 use Rattle.osi_pair.proofs.flight.what_is_in_flight_when_an_end_acts.{out_cuts, Takes}
+use Rattle.osi_pair.proofs.flight.what_a_closing_receiver_has_dropped.{kind_of}
 
 -- ---- the turn of the tables
 

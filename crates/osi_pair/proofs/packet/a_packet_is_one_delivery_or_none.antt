@@ -12,7 +12,7 @@ use Rattle.osi_pair.proofs.Vocabulary.{reference_of, Both, side, Between, AreBet
 use Rattle.osi_pair.proofs.Vocabulary.{Terms, beyond, Step, delivers, Line as TableLine, Tables, end_of, step, run, Message, after_unit}
 use Rattle.osi_pair.proofs.Vocabulary.{carries_out, AllCameAbout, after_packet, attends, concludes, opens, IsSound, told_all, End}
 use Rattle.osi_pair.proofs.Vocabulary.{IsAttended, rise_joins, TwoEnds, end_at, side_in, is_caller, carriers_of, AreDeliveries, IsInOrder}
-use Rattle.osi_pair.proofs.Vocabulary.{Stands, Goes, HasJoined, message_in, waiting_in, Side, other, kind_of as message_kind, after_message}
+use Rattle.osi_pair.proofs.Vocabulary.{Stands, Goes, HasJoined, message_in, waiting_in, Side, other, after_message}
 use Rattle.osi_pair.proofs.Vocabulary.{StaysCalm, told_opened as opened, awaits_cn as awaits, SessionState, Shown, Standing, option_map}
 use Rattle.osi_pair.proofs.Vocabulary.{class_in, learns, unseen, seen_from, is_some, used_live, push_other, push_here, fresh_line}
 use Rattle.osi_pair.proofs.Vocabulary.{session_in, Some, is_parting, Progress, ◌<◌}
@@ -32,6 +32,7 @@ use Rattle.osi_pair.proofs.turn.a_turn_keeps_the_match.{with_holding, turned_pai
 use Rattle.osi_pair.proofs.session.a_seat_is_its_progress_and_session.{session_of_seat, HasSession, transport_by}
 use Rattle.osi_pair.proofs.flight.whether_something_is_cut_off.{Lasts}
 use Rattle.osi_pair.proofs.flight.what_is_in_flight_when_an_end_acts.{BehindFirst}
+use Rattle.osi_pair.proofs.flight.what_a_closing_receiver_has_dropped.{kind_of as message_kind}
 
 -- what is proved of two carriers and of one end
 pub record PacketLaws : Type 0 where

@@ -4,10 +4,11 @@ use Rattle.osi_between.specs.Messages as carrier
 use Rattle.osi_pair.proofs.Vocabulary.{◌≡◌, ℕ, Bool, true, false, List, [], ◌∷◌, Option, Some, None, arith, connection_at, delivers, learns}
 use Rattle.osi_pair.proofs.Vocabulary.{Line as TableLine, Turn, Tables, seen_from, end_of, after_turn, step, Message, unit, put, replied}
 use Rattle.osi_pair.proofs.Vocabulary.{said_of, Meaning, Input, taken, opened, refused, broken as broken_off, Standing, react, side_in}
-use Rattle.osi_pair.proofs.Vocabulary.{message_in, Side, kind_of}
+use Rattle.osi_pair.proofs.Vocabulary.{message_in, Side}
 use Rattle.osi_pair.proofs.turn.what_remains_when_a_unit_was_taken.{line_then}
 use Rattle.osi_pair.proofs.flight.what_may_arrive_row_by_row.{Row, agrees, denies, tells, before, arrived_in}
 use Rattle.osi_pair.proofs.session.a_seat_is_its_progress_and_session.{transport_by}
+use Rattle.osi_pair.proofs.flight.what_a_closing_receiver_has_dropped.{kind_of}
 
 -- what happens to the session
 abbrev pub heard_by : Row → Message → Input

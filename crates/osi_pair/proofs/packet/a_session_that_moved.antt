@@ -16,7 +16,7 @@ use Rattle.osi_pair.proofs.Vocabulary.{Tables, seen_from, after_turn, step, Mess
 use Rattle.osi_pair.proofs.Vocabulary.{Standing, Move, react, listening, after_packet, concludes, told_all, kept_at, answers, End}
 use Rattle.osi_pair.proofs.Vocabulary.{packet_rises, TwoEnds, end_at, other, side_in, is_caller, class_in, carriers_of, message_in}
 use Rattle.osi_pair.proofs.Vocabulary.{AreAlike, IsInOrder, Stands, Goes, joining, HasJoined, waiting_in, quieted, Side, IsNoFault}
-use Rattle.osi_pair.proofs.Vocabulary.{IsJoinedAs, kind_of, part_octets, Last, after_message, StaysCalm, left_is, Link, EndLine as Line}
+use Rattle.osi_pair.proofs.Vocabulary.{IsJoinedAs, part_octets, Last, after_message, StaysCalm, left_is, Link, EndLine as Line}
 use Rattle.osi_pair.proofs.Vocabulary.{PartPlace, SessionState, IsSound, Both, Listener, HasNumbersInWords, needs_link, put_row, line_after}
 use Rattle.osi_pair.proofs.Vocabulary.{put_other, quieted_at, unit, tsdu, put_here, leaves_use, came, came_as, part_comes, to_session}
 use Rattle.osi_pair.proofs.Vocabulary.{session_in, came_numbers, hands_none, append-nil, rests, Shown}
@@ -48,6 +48,7 @@ use Rattle.osi_pair.proofs.flight.whether_something_is_cut_off.{Lasts}
 use Rattle.osi_pair.proofs.turn.all_is_shown.{StandsShown, shown_pair}
 use Rattle.osi_pair.proofs.packet.a_packet_is_taken.{shown_by}
 use Rattle.osi_pair.proofs.packet.a_disconnect_loses_the_session.{left_channel, left_turn, turn_left, out_leaves}
+use Rattle.osi_pair.proofs.flight.what_a_closing_receiver_has_dropped.{kind_of}
 
 -- ---- a move
 

@@ -13,11 +13,12 @@ use Rattle.osi_pair.proofs.packet.a_unit_with_which_no_session_acts.{answer_for,
 use Rattle.osi_pair.proofs.flight.what_may_arrive_row_by_row.{Row, quiet, still, refuses, ignores, ends, before, after, arrived_in, put_for}
 use Rattle.osi_pair.proofs.session.a_seat_is_its_progress_and_session.{transport_by, transport_at, HasSession}
 use Rattle.osi_pair.proofs.turn.a_turn_keeps_the_match.{IsSeen, seen, seen_twice, with_holding, GoesTo, out_there, back_here}
-use Rattle.osi_pair.proofs.flight.what_is_in_flight_when_an_end_acts.{shuts, out_keeps, back_comes, back_waits, Comes, Alone, alone_of}
+use Rattle.osi_pair.proofs.flight.what_is_in_flight_when_an_end_acts.{out_keeps, back_comes, back_waits, Comes, Alone, alone_of}
 use Rattle.osi_pair.proofs.flight.what_is_in_flight_when_an_end_acts.{is_tsdu, BehindFirst}
 use Rattle.osi_pair.proofs.flight.whether_something_is_cut_off.{cut_none, Lasts}
 use Rattle.osi_pair.proofs.session.an_end_moves_as_the_tables_do.{kept_of}
 use Rattle.osi_pair.proofs.flight.a_taken_packet_is_one_row.{heard_both}
+use Rattle.osi_pair.proofs.flight.what_a_closing_receiver_has_dropped.{shuts}
 
 -- ---- the end that took the unit
 
@@ -58,10 +59,8 @@ did_at s p b packet h lines pa =
           (arrived_in d.row ++ under_way from n two d.now)) d.came;
       stays = d.stays;
       gone = d.gone;
-      out_before = at (λ from two. AreLike (connection_in (place_at n (last_of from b))) (under_way (is_caller s) n old b)
-          (d.stays ++ d.gone)) d.out_before;
-      out_after = at (λ from two. AreLike (connection_in (place_at n (last_of from b))) (under_way (is_caller s) n two d.now)
-          (d.stays ++ put_in old (put_for d.row))) d.out_after;
+      out_before = d.out_before;
+      out_after = at (λ from two. under_way (is_caller s) n two d.now ≡ d.stays ++ put_in old (put_for d.row)) d.out_after;
       keeps = d.keeps;
       others = at (λ from two. (q : ℕ) → q ≢ n → (way : Bool) → under_way way q old b ≡ under_way way q two d.now) d.others;
       other_places = d.other_places;

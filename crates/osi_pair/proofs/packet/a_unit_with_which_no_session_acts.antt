@@ -5,7 +5,7 @@ use Rattle.osi_between.specs.Messages as carrier
 use Rattle.osi_machine.specs.Core as machine
 use Rattle.osi_machine.specs.Worlds as worlds
 use Rattle.osi_pair.proofs.Vocabulary.{◌≡◌, ℕ, Bool, true, false, if◌then◌else◌, List, [], ◌∷◌, ◌++◌, length, map, Option, Some, None, ◌⊎◌}
-use Rattle.osi_pair.proofs.Vocabulary.{arith, append-nil, kind_of, Terms, delivers, shown_at, connection_at, learns, Line, Turn, Tables}
+use Rattle.osi_pair.proofs.Vocabulary.{arith, append-nil, Terms, delivers, shown_at, connection_at, learns, Line, Turn, Tables}
 use Rattle.osi_pair.proofs.Vocabulary.{seen_from, unseen, without_first, message_taken, after_turn, stays, end_of, step, Message, Transport}
 use Rattle.osi_pair.proofs.Vocabulary.{agree, deny, over, put, with_same, with_other, with_count, side_in, message_in, terms_in, Word, Side}
 use Rattle.osi_pair.proofs.Vocabulary.{noted_in as noted}
@@ -15,6 +15,7 @@ use Rattle.osi_pair.proofs.flight.what_may_arrive_row_by_row.{arrived_in, is_row
 use Rattle.osi_pair.proofs.session.a_seat_is_its_progress_and_session.{transport_by}
 use Rattle.osi_pair.proofs.flight.what_is_in_flight_when_an_end_acts.{IsLeave}
 use Rattle.osi_pair.proofs.words.added_and_cut_words_are_messages.{MayLeave}
+use Rattle.osi_pair.proofs.flight.what_a_closing_receiver_has_dropped.{kind_of}
 
 -- ---- a delivery of the tables
 

@@ -4,7 +4,7 @@ use Rattle.osi_between.specs.Messages as carrier
 use Rattle.osi_machine.specs.Worlds as worlds
 use Rattle.osi_pair.proofs.Vocabulary.{◌≡◌, ℕ, ◌≤◌, None, option_map, sym, ap, subst, ◌∙◌, inl, inr, arith, Held, Value, place_at, Between}
 use Rattle.osi_pair.proofs.Vocabulary.{last_of, in_use, Terms, class_of, learns, Line, Tables, Message, End, TwoEnds, is_caller, class_in}
-use Rattle.osi_pair.proofs.Vocabulary.{terms_in, message_in, Stands, Side, kind_of}
+use Rattle.osi_pair.proofs.Vocabulary.{terms_in, message_in, Stands, Side}
 use Rattle.osi_pair.proofs.flight.which_unit_arrives_first.{IsFirstFor}
 use Rattle.osi_pair.proofs.turn.what_remains_when_a_unit_was_taken.{terms_at, DidAt, is_agree, last_is, known_then}
 use Rattle.osi_pair.proofs.packet.what_a_session_hears_row_by_row.{AsMove, got_in}
@@ -13,6 +13,7 @@ use Rattle.osi_pair.proofs.flight.what_may_arrive_row_by_row.{Row, agrees, denie
 use Rattle.osi_pair.proofs.session.a_seat_is_its_progress_and_session.{transport_by}
 use Rattle.osi_pair.proofs.turn.a_turn_keeps_the_match.{with_holding}
 use Rattle.osi_pair.proofs.flight.whether_something_is_cut_off.{Lasts}
+use Rattle.osi_pair.proofs.flight.what_a_closing_receiver_has_dropped.{kind_of}
 
 -- ---- a CC
 

@@ -16,12 +16,13 @@ use Rattle.osi_pair.proofs.turn.what_remains_when_a_unit_was_taken.{terms_at, or
 use Rattle.osi_pair.proofs.session.a_seat_is_its_progress_and_session.{transport_by, HasSession, seat_of_session, transport_at}
 use Rattle.osi_pair.proofs.turn.a_turn_keeps_the_match.{IsSeen, seen, seen_twice, with_holding, Others}
 use Rattle.osi_pair.proofs.turn.a_turn_keeps_the_match.{LinesAfter, Turned, turned_stands, seen_with, still_there, GoesTo, holding_here}
-use Rattle.osi_pair.proofs.flight.what_is_in_flight_when_an_end_acts.{shuts, back_waits, out_keeps, Takes, out_cuts}
+use Rattle.osi_pair.proofs.flight.what_is_in_flight_when_an_end_acts.{back_waits, out_keeps, Takes, out_cuts}
 use Rattle.osi_pair.proofs.flight.whether_something_is_cut_off.{Lasts, cut_none}
 use Rattle.osi_pair.proofs.flight.a_taken_packet_is_one_row.{CarrierLaws}
 use Rattle.osi_pair.proofs.packet.a_unit_with_which_no_session_acts.{unless_broken, put_unless, spare_by, leave_by}
 use Rattle.osi_pair.proofs.packet.a_packet_is_one_delivery_or_none.{both_carrier}
 use Rattle.osi_machine.specs.Tables.{closed}
+use Rattle.osi_pair.proofs.flight.what_a_closing_receiver_has_dropped.{shuts}
 
 -- ---- the carrier
 

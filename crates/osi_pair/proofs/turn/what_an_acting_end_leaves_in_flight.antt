@@ -11,9 +11,10 @@ use Rattle.osi_pair.proofs.Vocabulary.{entry_in, IsUnderWay, IsInOrder, IsLine, 
 use Rattle.osi_pair.proofs.Vocabulary.{waiting_in, Word, Side, StaysCalm, noted_in}
 use Rattle.osi_pair.proofs.flight.whether_something_is_cut_off.{cut_none, Lasts, IsWithin}
 use Rattle.osi_pair.proofs.packet.a_unit_with_which_no_session_acts.{unless_broken, put_unless, words_put, put_spare}
-use Rattle.osi_pair.proofs.flight.what_is_in_flight_when_an_end_acts.{as_now, out_puts, like_alike}
+use Rattle.osi_pair.proofs.flight.what_is_in_flight_when_an_end_acts.{as_now, out_puts}
 use Rattle.osi_pair.proofs.turn.a_turn_keeps_the_match.{GoesTo, still_there, journals_join}
 use Rattle.osi_pair.proofs.words.added_and_cut_words_are_messages.{AreWords}
+use Rattle.osi_pair.proofs.flight.what_a_closing_receiver_has_dropped.{shuts, alike_then}
 
 -- ---- what is in flight from the end that acted
 
@@ -29,8 +30,8 @@ out_way terms side r p new b c words more channel broken seat to are k reach non
     let x = to.session.state in
     let sends = is_caller side in
     let puts = put_in (carriers_of p) (map word_in words) in
-    let before : AreLike (connection_in place) (under_way sends r (carriers_of p) b) (k.stays ++ k.gone) = grind (arith, k.before) in
-    let after : AreLike (connection_in place) (under_way sends r (carriers_of new) c) (k.stays ++ puts) = grind (arith, k.after) in
+    let before : under_way sends r (carriers_of p) b ≡ k.stays ++ k.gone = k.before in
+    let after : under_way sends r (carriers_of new) c ≡ k.stays ++ puts = k.after in
     let way = out_puts _ place (is_cut sends (carriers_of p)) (is_cut sends (carriers_of new)) (HasJoined r taker) x channel
     (unless_broken broken more) (words_put broken words) (under_way sends r (carriers_of p) b) (under_way sends r (carriers_of new) c)
     k.stays k.gone puts was (grind arith) (put_spare broken (is_cut sends (carriers_of p)) words (cut_none side p broken reach alive))
@@ -50,12 +51,18 @@ pub back_way : (terms : Terms) (side : Side) (r : ℕ) (p new : TwoEnds) (b c : 
     (StaysCalm to.session.state seat.channel → StaysCalm now.session.state seat.channel) → IsUnderWay (other side) side r p b seat to →
     IsUnderWay (other side) side r new c seat now
 back_way terms side r p new b c messages seat to now k same there alive reach holds calms was =
+    let from = is_caller (other side) in
+    let place = place_at r (last_of (is_caller side) c) in
+    let came : AreLike (connection_in place) (under_way from r (carriers_of p) b) (under_way from r (carriers_of new) c) =
+    grind (arith, k.came) in
     as_now (end_at side p).end.carrier.ended (end_at side new).end.carrier.ended
     (progress_of (place_at r (last_of (is_caller side) b))) (progress_of (place_at r (last_of (is_caller side) c)))
     (is_cut (is_caller (other side)) (carriers_of p)) (is_cut (is_caller (other side)) (carriers_of new)) (HasJoined r (end_at side p))
     (HasJoined r (end_at side new)) to.session.state now.session.state seat.channel
     (under_way (is_caller (other side)) r (carriers_of p) b) (under_way (is_caller (other side)) r (carriers_of new) c) was
-    (grind arith) holds calms (grind (arith, like_alike))
+    (grind arith) holds calms
+    (λ e. alike_then (progress_of (place_at r (last_of (is_caller side) b))) place (map word_in was.words)
+    (under_way from r (carriers_of p) b) (under_way from r (carriers_of new) c) (λ s. sym (ap shuts same) ∙ s) (was.alike alive) came)
 
 -- ---- places
 
