@@ -48,8 +48,8 @@ pub use Rattle.osi_listing.specs.SessionLines.{fields_left, member_fields, membe
 pub use Rattle.osi_listing.specs.SoFar.{IsListedSoFar, entries_so_far}
 pub use Rattle.osi_listing.specs.Streams.{Join, Part, after_parts, is_same_stream, joined, part_of, parts_of}
 pub use Rattle.osi_listing.specs.Streams.Join.{Begun}
-pub use Rattle.osi_listing.specs.Traced.{CountsOn, FindsNoRoom, IsListedInPart, KeepsLittle, KeepsOn, Stands, keeps_nothing, kept_of}
-pub use Rattle.osi_listing.specs.Traced.{unfetched, unfinished}
+pub use Rattle.osi_listing.specs.Traced.{CountsAlike, CountsOn, FindsNoRoom, HasListed, IsListedInPart, KeepsLittle, KeepsOn, LacksRoom}
+pub use Rattle.osi_listing.specs.Traced.{Stands, counted_by, keeps_nothing, kept_of, octets_fed, unfetched, unfinished}
 pub use Rattle.osi_listing.specs.declared.counting.Counts.{Counts}
 pub use Rattle.osi_listing.specs.declared.pieces.Lister.{Lister}
 pub use Rattle.osi_listing.specs.declared.pieces.Stage.{Stage}

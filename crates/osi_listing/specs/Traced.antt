@@ -33,28 +33,35 @@ pub record KeepsLittle (lister : Lister) : Type 0 where
   pub class_0 : kept_of (join_value lister.work.streams.class_0) ≤ 1048576
   pub class_2 : (d : ℕ) → kept_of (join_at lister.work.streams.class_2 d) ≤ 1048576
 
--- the lines that were given are a prefix of the listing so far of a prefix of the octets that passed
-pub record IsListedInPart (octets given : List ℕ) : Type 0 where
+-- a lister has counted what another one had counted, and no octet more
+pub record CountsAlike (old new : Lister) : Type 0 where
+  pub counts : counted_by new ≡ counted_by old
+  pub octets : octets_fed new ≡ octets_fed old
+
+-- The lines that were given are a prefix of the listing so far of a prefix of the octets that passed. This prefix has so many
+-- octets, and its listing these counts.
+pub record IsListedInPart (octets given : List ℕ) (taken : ℕ) (counts : Counts) : Type 0 where
   pub took : List ℕ
   pub others : List ℕ
   pub lines : List ℕ
   pub more : List ℕ
-  pub counts : Counts
   pub passed : octets ≡ took ++ others
+  pub many : taken ≡ length took
   pub listed : IsListedSoFar took lines counts
   pub gave : lines ≡ given ++ more
 
 abbrev pub Stands : Keeping → Lister → List ℕ → List ℕ → Type 0
 Stands Lines lister octets given = IsFed lister octets given
 Stands Counters lister octets given = (lines : List ℕ) × IsFed lister octets lines × (given ≡ [])
-Stands Nothing lister octets given = IsListedInPart octets given
+Stands Nothing lister octets given = IsListedInPart octets given (octets_fed lister) (counted_by lister)
 
 -- the lines that nobody has fetched yet
 abbrev pub unfetched : Trace → List ℕ
 unfetched t = t.text.items
 
 -- These octets passed, and these lines were fetched. If the trace keeps lines, the fetched lines and those that nobody
--- has fetched yet are the listing so far of the octets. If it has stopped, they are a prefix of it.
+-- has fetched yet are the listing so far of the octets. If it has stopped, they are a prefix of it, and what it counted is
+-- that of a prefix of the octets.
 abbrev pub IsTraced : Trace → List ℕ → List ℕ → Type 0
 IsTraced t octets fetched = Stands t.keeping t.lister octets (fetched ++ unfetched t)
 
@@ -100,14 +107,19 @@ CountsOn streams Lines = ⊥
 CountsOn streams Counters = streams ≤ 64
 CountsOn streams Nothing = 64 < streams
 
+-- a lister has listed a piece
+abbrev pub HasListed : Lister → List ℕ → Lister → Type 0
+HasListed old piece new = (lines : List ℕ) × Feeds old piece [] lines new
+
 -- the lines of a piece find no room
 pub record FindsNoRoom (room : ℕ) (text : List ℕ) (old : Lister) (piece : List ℕ) (new : Lister) : Type 0 where
   pub lines : List ℕ
   pub listed : Feeds old piece [] lines new
   pub lacks : LacksRoom room text lines
 
--- why a trace stops: its lister ran out of memory; too many streams are within a TSDU; or, if it keeps lines, those of the piece
--- find no room
+-- Why a trace stops. Its lister ran out of memory, and has counted nothing of the piece; or the piece was listed, and too many
+-- streams are within a TSDU, or, if the trace keeps lines, those of the piece find no room.
 abbrev pub HasToStop : Trace → List ℕ → Trace → Type 0
-HasToStop old piece new = IsLost new.lister ⊎ ((64 < unfinished new.lister)
+HasToStop old piece new = (IsLost new.lister × CountsAlike old.lister new.lister)
+    ⊎ ((HasListed old.lister piece new.lister × (64 < unfinished new.lister))
     ⊎ ((old.keeping ≡ Lines) × FindsNoRoom (vec_capacity old.text) (unfetched old) old.lister piece new.lister))

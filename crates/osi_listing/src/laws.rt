@@ -10,7 +10,7 @@ ghost use Rattle.osi_listing.specs.declared.traces.Trace.{Trace};
 ghost use Rattle.osi_listing.specs.Fed.{IsFed, Feeds, FeedsAll};
 ghost use Rattle.osi_listing.specs.Listing.{IsListing};
 ghost use Rattle.osi_listing.specs.SoFar.{IsListedSoFar};
-ghost use Rattle.osi_listing.specs.Traced.{IsTraced, IsListedInPart, KeepsLittle, counted, unfetched};
+ghost use Rattle.osi_listing.specs.Traced.{IsTraced, IsListedInPart, KeepsLittle, counted, octets_taken, unfetched};
 
 use osi_tpkt::laws::a_stream_has_one_cut;
 
@@ -34,12 +34,13 @@ pub fn the_pieces_do_not_matter()
 }
 
 /// The lines that were fetched of a trace are always a prefix of the listing of the octets that passed, or of a prefix
-/// of these octets if the trace has stopped. As long as it keeps lines, the fetched lines and those that nobody has
-/// fetched yet are the whole listing so far.
+/// of these octets if the trace has stopped. That listing has what the trace has counted. As long as it keeps lines, the
+/// fetched lines and those that nobody has fetched yet are the whole listing so far.
 pub fn what_is_fetched_is_the_listing()
     ensures whole { (trace : Trace) (octets fetched : List ℕ) → IsTraced trace octets fetched → trace.keeping ≡ Lines →
         IsListedSoFar octets (fetched ++ unfetched trace) (counted trace) }
-    ensures begins { (trace : Trace) (octets fetched : List ℕ) → IsTraced trace octets fetched → IsListedInPart octets fetched }
+    ensures begins { (trace : Trace) (octets fetched : List ℕ) → IsTraced trace octets fetched →
+        IsListedInPart octets fetched (octets_taken trace) (counted trace) }
 {}
 
 /// A lister keeps at most 65,535 octets of a packet, and of each stream at most 1,048,576 octets of a TSDU, until the stream has

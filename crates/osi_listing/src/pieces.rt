@@ -5,7 +5,7 @@ ghost use Rattle.osi_tpkt.specs.Packet.{IsFaultOf};
 ghost use Rattle.osi_listing.specs.Fed.{IsFed, IsLost, Feeds, StandsAt};
 ghost use Rattle.osi_listing.specs.Listing.{IsListing};
 ghost use Rattle.osi_listing.specs.SoFar.{IsListedSoFar};
-ghost use Rattle.osi_listing.specs.Traced.{counted_by, octets_fed, unfinished};
+ghost use Rattle.osi_listing.specs.Traced.{CountsAlike, counted_by, octets_fed, unfinished};
 
 use crate::counting::Counts;
 use crate::lines::{push_fault, push_rest};
@@ -70,8 +70,8 @@ impl Lister {
     /// of the fault that ends the stream. Octets after a fault add no line.
     ///
     /// # Errors
-    /// An allocation failed, or more than 2^64 - 1 octets were fed. Then the text may have gained some lines, and each
-    /// further call returns `Err` and adds nothing.
+    /// An allocation failed, or more than 2^64 - 1 octets were fed. Then the text may have gained some lines, but nothing
+    /// of the piece is counted, and each further call returns `Err`, adds nothing and counts nothing.
     pub fn feed(
         &mut self,
         alloc: Global,
@@ -80,12 +80,16 @@ impl Lister {
     ) -> Result<(), AllocError>
         ensures fed { OnOk result (Feeds self.old piece.now text.old.items text.new.items self.new) }
         ensures lost { OnErr result (IsLost self.new) }
+        ensures counted { OnErr result (CountsAlike self.old self.new) }
         ensures again { IsLost self.old → IsErr result × (text.new.items ≡ text.old.items) }
     {
+        let (counts, octets) = (self.work.counts, self.octets);
         match self.take(alloc, text, piece) {
             Ok(()) => Ok(()),
             Err(error) => {
                 self.stage = Stage::Lost;
+                self.work.counts = counts;
+                self.octets = octets;
                 Err(error)
             }
         }
@@ -152,7 +156,7 @@ impl Lister {
         if self.work.counts.refused == 0 { 0 } else { 1 }
     }
 
-    /// How many lines of each kind there are so far.
+    /// How many lines of each kind there are so far; once memory ran out, before the piece in which it did.
     pub fn counts(&self) -> Counts
         ensures value { result ≡ counted_by self.now }
         ensures listed { (octets lines : List ℕ) → IsFed self.now octets lines → IsListedSoFar octets lines result }
@@ -160,7 +164,7 @@ impl Lister {
         self.work.counts
     }
 
-    /// How many octets were fed.
+    /// How many octets were fed; once memory ran out, before the piece in which it did.
     pub fn octets(&self) -> u64
         ensures value { result ≡ octets_fed self.now }
         ensures fed { (octets lines : List ℕ) → IsFed self.now octets lines → result ≡ length octets }

@@ -66,12 +66,14 @@ impl Trace {
         }
     }
 
-    /// Takes the next octets that passed. It stops only if it has to.
+    /// Takes the next octets that passed. It stops only if it has to. If an allocation fails, it has counted what came
+    /// before this piece, otherwise also the piece. Once it has stopped, nothing changes.
     pub fn feed(&mut self, alloc: Global, piece: &[u8])
         ensures traced { (octets fetched : List ℕ) → IsTraced self.old octets fetched → IsTraced self.new (octets ++ piece.now) fetched }
         ensures bounded { IsBounded self.old → IsBounded self.new }
         ensures keeping { is_stopped self.new ≡ false → self.new.keeping ≡ self.old.keeping }
         ensures stops { is_stopped self.old ≡ false → is_stopped self.new ≡ true → HasToStop self.old piece.now self.new }
+        ensures over { is_stopped self.old ≡ true → self.new ≡ self.old }
     {
         match self.keeping {
             Keeping::Lines => self.list(alloc, piece),

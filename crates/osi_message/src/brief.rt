@@ -1,7 +1,7 @@
 //! Brief messages: those whose TSDU is one unit with at most one parameter, of one octet, and without user data. They are
 //! written and read directly, so that no place for the parameters of a unit is needed.
 
-ghost use Rattle.std.specs.Prelude.{◌≡◌, true, [], ◌∷◌, Ok, IfSome};
+ghost use Rattle.std.specs.Prelude.{◌≡◌, true, [], ◌∷◌, Ok, IfSome, IsSome};
 ghost use Rattle.osi_message.specs.Brief.{is_brief};
 ghost use Rattle.osi_message.specs.Meanings.{meant_by, PT, FN, DN, NF, AB};
 ghost use Rattle.osi_message.specs.Reading.{said_at};
@@ -59,7 +59,8 @@ fn with_octet(si: u8, code: u8, octet: u8) -> Short
 
 /// The octets of a PT without user data.
 fn please_octets(tokens: Tokens, user_data: &[u8]) -> Option<Short>
-    ensures { IfSome result (λ s. s ≡ written (PT tokens user_data.now)) }
+    ensures written { IfSome result (λ s. s ≡ written (PT tokens user_data.now)) }
+    ensures brief { user_data.now ≡ [] → IsSome result }
 {
     if !user_data.is_empty() {
         return None;
@@ -69,7 +70,8 @@ fn please_octets(tokens: Tokens, user_data: &[u8]) -> Option<Short>
 
 /// The octets of an AB without user data.
 fn abort_octets(bits: u8, user_data: &[u8]) -> Option<Short>
-    ensures { IfSome result (λ s. s ≡ written (AB bits user_data.now)) }
+    ensures written { IfSome result (λ s. s ≡ written (AB bits user_data.now)) }
+    ensures brief { user_data.now ≡ [] → IsSome result }
 {
     if !user_data.is_empty() {
         return None;
@@ -79,7 +81,8 @@ fn abort_octets(bits: u8, user_data: &[u8]) -> Option<Short>
 
 /// The octets of an FN without user data.
 fn finish_octets(user_data: &[u8]) -> Option<Short>
-    ensures { IfSome result (λ s. s ≡ written (FN user_data.now)) }
+    ensures written { IfSome result (λ s. s ≡ written (FN user_data.now)) }
+    ensures brief { user_data.now ≡ [] → IsSome result }
 {
     if !user_data.is_empty() {
         return None;
@@ -89,7 +92,8 @@ fn finish_octets(user_data: &[u8]) -> Option<Short>
 
 /// The octets of a DN without user data.
 fn disconnect_octets(user_data: &[u8]) -> Option<Short>
-    ensures { IfSome result (λ s. s ≡ written (DN user_data.now)) }
+    ensures written { IfSome result (λ s. s ≡ written (DN user_data.now)) }
+    ensures brief { user_data.now ≡ [] → IsSome result }
 {
     if !user_data.is_empty() {
         return None;
@@ -99,7 +103,8 @@ fn disconnect_octets(user_data: &[u8]) -> Option<Short>
 
 /// The octets of an NF without user data.
 fn not_finished_octets(user_data: &[u8]) -> Option<Short>
-    ensures { IfSome result (λ s. s ≡ written (NF user_data.now)) }
+    ensures written { IfSome result (λ s. s ≡ written (NF user_data.now)) }
+    ensures brief { user_data.now ≡ [] → IsSome result }
 {
     if !user_data.is_empty() {
         return None;
@@ -110,7 +115,8 @@ fn not_finished_octets(user_data: &[u8]) -> Option<Short>
 /// The octets of a brief message; `None` for any other.
 #[tactic(auto, using(crate::proofs::brief_messages_in_octets::give_written, crate::proofs::brief_messages_in_octets::abort_accept_written))]
 pub(crate) fn brief_octets(message: &Message) -> Option<Short>
-    ensures { IfSome result (λ s. s ≡ written (meant_by message.now)) }
+    ensures written { IfSome result (λ s. s ≡ written (meant_by message.now)) }
+    ensures brief { is_brief (meant_by message.now) ≡ true → IsSome result }
 {
     match *message {
         Message::Give { tokens } => Some(with_octet(GIVE, TOKEN_ITEM, tokens.octet())),

@@ -1,10 +1,11 @@
 //! The octets in which a message is sent.
 
-ghost use Rattle.std.specs.Prelude.{◌≡◌, ◌<◌, true, false, [], ◌∷◌, length, IfOk};
+ghost use Rattle.std.specs.Prelude.{◌≡◌, ◌<◌, true, false, [], ◌∷◌, length, IfOk, IsOk};
 ghost use Rattle.osi_spdu.specs.Groups.{units_of};
 ghost use Rattle.osi_spdu.specs.Sizes.{size_of};
 ghost use Rattle.osi_spdu.specs.Values.{is_size};
 ghost use Rattle.osi_spdu.specs.Writing.{tsdu_octets, TsduFits};
+ghost use Rattle.osi_message.specs.Brief.{is_brief, is_inline};
 ghost use Rattle.osi_message.specs.Meanings.{DT, MIP, MIA, meant_by};
 ghost use Rattle.osi_message.specs.Parting.{in_one, is_whole, tsdus_of};
 ghost use Rattle.osi_message.specs.Tsdus.{octets_in, octets_lent, AreSeveral};
@@ -116,7 +117,8 @@ impl Sent {
     /// and their confirmations without user data, and brief messages, need no memory.
     pub fn of(alloc: Global, message: &Message) -> Result<Sent, AllocError>
         requires { length (user_data_of (meant_by message.now)) < 65000 }
-        ensures { IfOk result (λ s. s ≡ in_one (meant_by message.now)) }
+        ensures written { IfOk result (λ s. s ≡ in_one (meant_by message.now)) }
+        ensures memory { is_inline (meant_by message.now) ≡ true → IsOk result }
     {
         match *message {
             Message::Data { user_data } => Sent::whole(alloc, user_data),
@@ -142,7 +144,8 @@ impl Sent {
     /// A message other than data, in one TSDU. A brief one is written directly, and needs no memory.
     fn other(alloc: Global, message: &Message) -> Result<Sent, AllocError>
         requires { length (user_data_of (meant_by message.now)) < 65000 }
-        ensures { IfOk result (λ s. s ≡ in_one (meant_by message.now)) }
+        ensures written { IfOk result (λ s. s ≡ in_one (meant_by message.now)) }
+        ensures memory { is_brief (meant_by message.now) ≡ true → IsOk result }
     {
         match brief_octets(message) {
             Some(octets) => Ok(Sent::short(octets)),
@@ -213,7 +216,8 @@ impl Sent {
         user_data: &[u8],
     ) -> Result<Sent, AllocError>
         requires { length user_data.now < 65000 }
-        ensures { IfOk result (λ s. s ≡ in_one (MIP confirm number.number user_data.now)) }
+        ensures written { IfOk result (λ s. s ≡ in_one (MIP confirm number.number user_data.now)) }
+        ensures memory { confirm ≡ true → user_data.now ≡ [] → IsOk result }
     {
         if confirm && user_data.is_empty() {
             let octets = plain::minor_point(number);
@@ -227,7 +231,8 @@ impl Sent {
     #[inline]
     pub fn minor_ack(alloc: Global, number: Serial, user_data: &[u8]) -> Result<Sent, AllocError>
         requires { length user_data.now < 65000 }
-        ensures { IfOk result (λ s. s ≡ in_one (MIA number.number user_data.now)) }
+        ensures written { IfOk result (λ s. s ≡ in_one (MIA number.number user_data.now)) }
+        ensures memory { user_data.now ≡ [] → IsOk result }
     {
         if user_data.is_empty() {
             let octets = plain::minor_ack(number);
@@ -237,10 +242,11 @@ impl Sent {
     }
 
     /// A message, if a TSDU may have at most this size: data as [`Sent::data`] writes it, any other message in one
-    /// TSDU, as [`Sent::of`] writes it.
+    /// TSDU, as [`Sent::of`] writes it, so that the same messages need no memory.
     pub fn within(alloc: Global, limit: TsduSize, message: &Message) -> Result<Sent, AllocError>
         requires { length (user_data_of (meant_by message.now)) < 65000 }
-        ensures { IfOk result (λ s. s ≡ tsdus_of (size_of limit) (meant_by message.now)) }
+        ensures written { IfOk result (λ s. s ≡ tsdus_of (size_of limit) (meant_by message.now)) }
+        ensures memory { is_inline (meant_by message.now) ≡ true → IsOk result }
     {
         match *message {
             Message::Data { user_data } => Sent::data(alloc, limit, user_data),

@@ -48,7 +48,7 @@ impl Model for Pair {
 }
 
 impl Pair {
-    ghost use Rattle.std.specs.Prelude.{◌≡◌, ◌+◌, ◌<◌, ◌≤◌, List, [], None, length, map, IfOk, IfErr, OnOk, OnErr, IsOk};
+    ghost use Rattle.std.specs.Prelude.{◌≡◌, ◌+◌, ◌<◌, ◌≤◌, Bool, List, [], None, length, map, IfOk, IfErr, OnOk, OnErr, IsOk};
     ghost use Rattle.osi_machine.specs.Machine.{Step};
     ghost use Rattle.osi_pair.specs.Advancing.{StandsAfter};
     ghost use Rattle.osi_pair.specs.Ends.{fresh_ends, end_at};
@@ -148,13 +148,27 @@ impl Pair {
         self.ends.apply(event)
     }
 
-    /// Applies events one after the other, up to the first that is refused, and returns whether a carry among them was cut
-    /// short.
+    /// Applies events one after the other, up to the first that is refused.
     ///
     /// Each event does what [`Pair::apply`] says. So if the two ends matched a list of steps of the machine, they match
     /// that list followed by the steps of all events. An error gives the place of the refused event, counted from 0,
     /// and the reason; the events before it have been applied.
-    pub fn run(&mut self, events: &[Event]) -> Result<bool, RunError>
+    ///
+    /// [`Pair::run_telling_cuts`] does the same, and returns whether a carry among the events was cut short. None is if
+    /// the journal has room for as many entries as the events cause, and for 82 more ([`Pair::reserve`]).
+    pub fn run(&mut self, events: &[Event]) -> Result<(), RunError>
+        ensures all { OnOk result ((is_cut : Bool) × RunsThrough events.now self.old is_cut self.new) }
+        ensures stops { IfErr result (λ error. StopsAt events.now self.old error self.new) }
+        ensures safe { IsSafe self.new.ends }
+    {
+        match self.run_telling_cuts(events) {
+            Ok(_is_cut_short) => Ok(()),
+            Err(error) => Err(error),
+        }
+    }
+
+    /// Does what [`Pair::run`] does, and returns whether a carry among the events was cut short.
+    pub fn run_telling_cuts(&mut self, events: &[Event]) -> Result<bool, RunError>
         ensures all { IfOk result (λ is_cut. RunsThrough events.now self.old is_cut self.new) }
         ensures stops { IfErr result (λ error. StopsAt events.now self.old error self.new) }
         ensures safe { IsSafe self.new.ends }

@@ -64,6 +64,7 @@ pub use indications::{AbortCause, Indication};
 pub use lending::DataParts;
 pub use numbers::Numbers;
 pub use opening::Opening;
+pub use osi_message::Sent;
 pub use phases::Phase;
 pub use plans::{Plan, PlannedPoint, SentPoint};
 pub use reactions::Reply;

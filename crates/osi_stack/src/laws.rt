@@ -359,12 +359,12 @@ pub fn the_pieces_do_not_matter()
 /// then the user makes a call. If two runs use the same octets in each round, in whatever pieces, and make the same
 /// calls, the ends reach the same state, with the same indications and the same octets put. A session may be called
 /// while indications are pending; a connection requested while only live connections have pending ones; and one given
-/// up once none is pending (`rounds`). After the rounds the same octets may end the ends, or they may have ended; if
-/// memory suffices there, the state is still the same (`last`). The byte connection may break whatever is pending: then
-/// the indications of each reference are the same, in the same order, but not necessarily those of several references
-/// (1 may be lost before a pending indication of 2), and everything else is the same (`broken`). After an end, as after
-/// a break, there are no rounds: no packet takes effect and no call is accepted, and feeding, fetching and taking there
-/// change nothing that can be seen (`behind`).
+/// up, or a break found, only once none is pending (`rounds`). After the rounds the same octets may end the ends, or
+/// they may have ended; if memory suffices there, the state is still the same (`last`). The byte connection may also
+/// break whatever is pending, if nothing follows: then the indications of each reference are the same, in the same order,
+/// but not necessarily those of several references (1 may be lost before a pending indication of 2), and everything else
+/// is the same (`broken`). After an end, as after a break, there are no rounds: no packet takes effect and no call is
+/// accepted, and feeding, fetching and taking there change nothing that can be seen (`behind`).
 ///
 /// `connect` drops the lines of connections that are gone and have no pending indications. So if it is called while
 /// some are pending, one of two ends may keep such a line that the other has dropped (`asked`). If the runs began with

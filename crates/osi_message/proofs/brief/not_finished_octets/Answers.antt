@@ -2,5 +2,5 @@ use Rattle.std.proofs.Common.{arith}
 use Rattle.osi_message.proofs.brief_messages_in_octets.{not_finished_written, none_left, none_there}
 use Rattle.osi_message.proofs.brief.not_finished_octets.Goals as goal
 
-pub returns : goal.returns
-returns c = grind (arith, none_there, none_left, not_finished_written)
+pub returns-clause-written : goal.returns-clause-written
+returns-clause-written c = grind (arith, none_there, none_left, not_finished_written)

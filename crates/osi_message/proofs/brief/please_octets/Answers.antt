@@ -2,5 +2,5 @@ use Rattle.std.proofs.Common.{arith}
 use Rattle.osi_message.proofs.brief_messages_in_octets.{please_written, none_left, none_there}
 use Rattle.osi_message.proofs.brief.please_octets.Goals as goal
 
-pub returns : goal.returns
-returns c = grind (arith, none_there, none_left, please_written)
+pub returns-clause-written : goal.returns-clause-written
+returns-clause-written c = grind (arith, none_there, none_left, please_written)

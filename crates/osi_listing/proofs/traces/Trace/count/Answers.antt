@@ -1,4 +1,4 @@
-use Rattle.osi_listing.proofs.Vocabulary.{arith, ◌++◌, unfetched}
+use Rattle.osi_listing.proofs.Vocabulary.{arith, ◌++◌, inl, inr, unfetched}
 use Rattle.osi_listing.proofs.a_trace_is_a_prefix_of_the_listing.{stops_counters, stops_for_streams, counted_on}
 use Rattle.osi_listing.proofs.traces.Trace.count.Goals as goal
 
@@ -12,4 +12,7 @@ returns-clause-traced c = λ counts octets fetched h.
     c.in-Ok.ensures.fed h
 
 pub returns-clause-stops : goal.returns-clause-stops
-returns-clause-stops c = grind (arith, stops_for_streams)
+returns-clause-stops c = λ stopped.
+    inr (inl (stops_for_streams c.counting-self.result c.args.self.now.lister c.feed.new.self c.args.piece.now c.new-lines.result.items
+    c.feed.new.text.items c.unfinished.result c.new-lines.ensures.items c.unfinished.ensures c.counting-self.ensures
+    c.in-Ok.ensures.fed stopped))

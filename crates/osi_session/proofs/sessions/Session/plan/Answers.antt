@@ -15,10 +15,10 @@ returns-in-Ok c =
     let a = accepts c.in_ok-step.ensures c.self.view_is c.size_limit.ensures c.self.invariant.0 (request_small c.args.request) in
     record {
       state = a.leaves;
-      sent = c.in-Ok.ensures ∙ a.sends;
+      sent = c.in-Ok.ensures.written ∙ a.sends;
       planned = plan_of (called_by c.args.request)
           (record { was = c.self.inside.state; next = c.in_ok-step.step.next; sent = c.in-Ok.sent }) x c.in_ok-step.ensures refl
-          (c.in-Ok.ensures ∙ ap (λ (n : ℕ). tsdus_of n x.sent) c.size_limit.ensures);
+          (c.in-Ok.ensures.written ∙ ap (λ (n : ℕ). tsdus_of n x.sent) c.size_limit.ensures);
       was = ap (λ (s : Listener). s.state) c.self.view_is;
       accepted = a.passes;
       sendable = a.sendable;

@@ -12,7 +12,7 @@ pub returns-in-Ok-clause-planned : goal.returns-in-Ok-clause-planned
 unfolding words_sent
 returns-in-Ok-clause-planned c =
     point_planned (record { sent = c.in-Ok.sent; point = point.Minor c.in_ok-number.number }) c.args.confirm c.args.user_data.now
-    c.self.view_is (eq-eqb _ _ c.in_ok-number.ensures.number) c.in_ok-number.ensures.ok c.self.invariant.0 c.in-Ok.ensures
+    c.self.view_is (eq-eqb _ _ c.in_ok-number.ensures.number) c.in_ok-number.ensures.ok c.self.invariant.0 c.in-Ok.ensures.written
 
 pub returns-in-Err-clause-refused : goal.returns-in-Err-clause-refused
 returns-in-Err-clause-refused c = point_passes _ c.self.view_is c.in_ok-number.ensures.ok

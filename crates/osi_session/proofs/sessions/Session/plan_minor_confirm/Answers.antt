@@ -22,7 +22,7 @@ returns-in-Ok-clause-planned c =
     subst (λ (n : ℕ). PlansPoint c.args.self.now (MinorConfirm n c.args.user_data.now) p) same
     (point_planned p true c.args.user_data.now c.self.view_is refl
     (subst (λ (n : ℕ). allowed c.self.inside.state (MinorConfirm n c.args.user_data.now) ≡ Ok x) (sym same) c.in_ok-serial.ensures.ok)
-    c.self.invariant.0 c.in-Ok.ensures)
+    c.self.invariant.0 c.in-Ok.ensures.written)
 
 pub returns-in-Err-clause-refused : goal.returns-in-Err-clause-refused
 returns-in-Err-clause-refused c = point_passes _ c.self.view_is c.in_ok-serial.ensures.ok
