@@ -7,11 +7,9 @@ from osi_session import Rule, TapSide, VerdictKind, Watch
 from witnesses import disputes, packets, pieces_of, streams
 
 MIDDLE = "not judged: the capture begins in the middle of a connection"
-FIRST = re.compile(r"^(left|right) (?:broke the protocol|leaves the profile) first, packet \d+: (.*)$")
+FIRST = re.compile(r"^(left|right) (?:broke the protocol|leaves the profile) first, packet \d+: .*$")
 # The files whose captures have one connection of class 0, but for a few.
 FILES = ("class_0", "kept_and_outside", "transport_of_class_0", "in_flight", "sizes_and_references")
-# What `osi judge` asks of a DC, and a watch doesn't: that it has the references of the DR that it answers.
-STRICTER = "TPDU NothingToAnswer"
 # Packets with a CR, a CC, a DR, a DC, an ER and a DT, with references that fit and others.
 PACKETS = [bytes.fromhex(digits) for digits in (
     "0300000b06e00000000100", "0300000b06e00000000200", "0300000b06d00001000100", "0300000b06d00002000100", "0300000e09d00001000100c00108",
@@ -30,9 +28,7 @@ def damaged(chance, pieces, others):
         change(chance, pieces, at, to, others)
         if not pieces:
             return damaged(chance, chance.choice(others), others)
-    pieces = [(side, octets) for side, octets in pieces if octets]
-    # Left is the side of the first octet.
-    return pieces if pieces[0][0] == "left" else [(turned(side), octets) for side, octets in pieces]
+    return [(side, octets) for side, octets in pieces if octets]
 
 
 def turned(side):
@@ -119,7 +115,7 @@ class TwoJudges:
             # A watch may have begun in the middle. A capture that begins with a CR hasn't, so a unit before the CR had passed is a break.
             return first[1] == ("left" if verdict.by == TapSide.LEFT else "right")
         side = verdict and ("left" if verdict.side == TapSide.LEFT else "right")
-        return first[1] == side or first[2] == STRICTER
+        return first[1] == side
 
     def run(self, pieces):
         text = text_of(pieces)

@@ -192,9 +192,6 @@ def picture_of_file(options, progress):
 def judged_capture(options, progress):
     """The picture of a capture of both sides with its verdict; or, with --states, what `osi judge` says after each packet."""
     pieces, said = pieces_of(options.judge, options)
-    if reading.is_network(options.judge) and pieces[0].side == "right":
-        raise BadInput(f"{options.judge}: the called side sent first, so osi judge gives no verdict")
-    pieces = reading.by_first(pieces)
     told = verdicts.read(read_text(options.verdicts)) if options.verdicts else None
     listings = listings_of(pieces, options.osi, named_listings(options), progress)
     judge = judged.runner(options.osi, progress.running)

@@ -42,11 +42,6 @@ def by_caller(pieces):
     return turned(pieces) if is_turned or (streams.is_connect_confirm(left) and not right) else pieces
 
 
-def by_first(pieces):
-    """The pieces with the side of the first octet at the left, as `osi judge` has it."""
-    return turned(pieces) if pieces[0].side == "right" else pieces
-
-
 def turned(pieces):
     """The pieces with the sides exchanged."""
     return [tapped.Piece(SIDES[piece.side == "left"], piece.octets, piece.frame, piece.time) for piece in pieces]

@@ -47,11 +47,11 @@ def lines_of(text):
 
 
 def read(text):
-    """Reads a capture as `osi judge` does: a line is a piece of one side, and left is the side of the first octet."""
+    """Reads a capture as `osi judge` does: a line is a piece of one side, of the called one (right) if it begins with a tab."""
     found = lines_of(text)
     if not found:
         raise BadInput("the capture has no octets")
-    return [Piece(SIDES[tabbed != found[0][0]], octets, frame, time) for tabbed, octets, frame, time in found]
+    return [Piece(SIDES[tabbed], octets, frame, time) for tabbed, octets, frame, time in found]
 
 
 def text_of(pieces):

@@ -181,8 +181,8 @@ class Reading(unittest.TestCase):
     def sides(self, text):
         return [(piece.side, piece.octets.hex()) for piece in tapped.read(text)]
 
-    def test_left_is_the_side_of_the_first_octet(self):
-        self.assertEqual(self.sides("# a\n\t0a 0b # c\n0c\n"), [("left", "0a0b"), ("right", "0c")])
+    def test_lines_that_begin_with_a_tab_are_of_the_called_side(self):
+        self.assertEqual(self.sides("# a\n\t0a 0b # c\n0c\n"), [("right", "0a0b"), ("left", "0c")])
         self.assertEqual(self.sides("0a\n\n\t0c\n"), [("left", "0a"), ("right", "0c")])
 
     def test_an_octet_belongs_to_the_line_of_its_first_digit(self):

@@ -18,6 +18,8 @@ TOP = os.path.dirname(os.path.dirname(os.path.dirname(os.path.dirname(os.path.ab
 STORED = os.path.join(TOP, "crates", "osi_runs", "data")
 # What `osi judge` prints of a side that did not keep the protocol, but for the last line.
 BLAMES = re.compile(r"(left|right) (\d+ )?(broke packet|leaves packet|too many|not judged after)")
+# That a side is not judged any further after a packet of its own.
+OWN = re.compile(r"(left|right) not judged after \1 (packet .*)")
 
 
 def disputes(name):
@@ -28,6 +30,15 @@ def disputes(name):
             title, *lines = capture.splitlines()
             pieces = [(TapSide(line.startswith("\t")), bytes.fromhex(line)) for line in lines if not line.startswith("#")]
             yield title, pieces, printed.splitlines()[1:]
+
+
+def is_left_out(line, told):
+    """Whether `osi judge` leaves a line out: a side's own first break ends the judging of this side alone, and has a line."""
+    own = OWN.fullmatch(line)
+    if not own or f"{own[1]} broke {own[2]}" not in told:
+        return False
+    other = "right" if own[1] == "left" else "left"
+    return not any(more.startswith(f"{other} not judged after {own[1]} ") for more in told)
 
 
 def opened() -> Watch:
@@ -64,7 +75,8 @@ class Watches(unittest.TestCase):
         for title, pieces, printed in (*disputes("class_2.disputes"), *disputes("in_flight.disputes")):
             with Watch() as watch:
                 told = [str(one) for side, octets in pieces for one in watch.feed(side, octets)]
-            self.assertEqual(sorted(told), sorted(filter(BLAMES.match, printed)), title)
+            shown = [line for line in told if not is_left_out(line, told)]
+            self.assertEqual(sorted(shown), sorted(filter(BLAMES.match, printed)), title)
 
     def test_a_watch_that_was_closed(self):
         watch = opened()

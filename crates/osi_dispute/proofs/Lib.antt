@@ -1,14 +1,13 @@
 mod Vocabulary
 pub mod what_is_fed_piece_by_piece_passes_whole
 pub mod digits_are_counted_one_by_one
-pub mod a_capture_has_one_finding
 pub mod a_text_is_one_capture
 pub mod rows_come_one_after_the_other
 pub mod a_rule_tells_a_break_from_leaving
-pub mod facts_have_one_verdict
 pub mod a_last_line_is_never_empty
 pub mod a_report_says_what_a_tap_holds
-pub mod a_capture_is_judged_in_one_of_two_ways
+pub mod a_judgement_is_a_report_or_a_reason
+pub mod how_a_stream_begins_stays
 pub mod a_session_is_told_in_one_way
 pub mod each_connection_has_a_number_of_its_own
 pub mod reports_are_alike

@@ -1,97 +1,79 @@
 -- What the proofs of this crate take from the library, from the crates below and from its own definitions.
 pub use Rattle.std.proofs.Common.{Bool, Err, IfOk, IfSome, List, None, Ok, Option, Result, Some, [], ap, arith, cond, drop, eq-eqb, false}
-pub use Rattle.std.proofs.Common.{filter, get_or, if◌then◌else◌, inl, inr, length, map, not, option_map, refl, set, slice_get, subst, suc}
-pub use Rattle.std.proofs.Common.{sym, take, true, zero, ℕ, ◌&&◌, ◌++◌, ◌+◌, ◌-◌, ◌<◌, ◌==◌, ◌^◌, ◌||◌, ◌∙◌, ◌∷◌, ◌≡◌, ◌≤◌, ◌⊎◌}
+pub use Rattle.std.proofs.Common.{filter, get_or, if◌then◌else◌, inl, inr, length, map, not, refl, set, slice_get, subst, suc}
+pub use Rattle.std.proofs.Common.{sym, take, true, zero, ℕ, ◌&&◌, ◌++◌, ◌+◌, ◌-◌, ◌<◌, ◌==◌, ◌^◌, ◌∙◌, ◌∷◌, ◌≡◌, ◌≤◌, ◌⊎◌}
 pub use Rattle.std.proofs.lemmas.Bool.{eqb-true}
 pub use Rattle.std.proofs.lemmas.Bool.Decides.{eqb_tells}
 pub use Rattle.std.proofs.lemmas.Grind.{flat_map-append}
 pub use Rattle.std.proofs.lemmas.List.{append-nil, append_assoc, length-append, length-map, length-set, map-append, take-append-drop}
 pub use Rattle.std.specs.List.{before_first, find, flat_map}
-pub use Rattle.osi_tpkt.proofs.a_stream_is_cut_in_one_way.{one_cut}
 pub use Rattle.osi_tpkt.specs.Stream.{offset_of}
 pub use Rattle.osi_tpdu.specs.Packet.{units_of}
 pub use Rattle.osi_tpdu.specs.Value.{Value}
 pub use Rattle.osi_tpdu.specs.declared.faults.TpduFault.{TpduFault}
-pub use Rattle.osi_session.specs.Standing.{CanSay, Seen, after_count}
+pub use Rattle.osi_session.specs.Standing.{Seen}
 pub use Rattle.osi_rules.specs.declared.findings.Meaning.{Meaning}
 pub use Rattle.osi_rules.specs.declared.findings.Reach.{Reach}
-pub use Rattle.osi_judge.proofs.captured.what_is_known_of_a_side_is_of_the_capture.{nameless_said_nothing}
+pub use Rattle.osi_judge.proofs.captured.a_capture_goes_on.{stream_beside, stream_fed}
 pub use Rattle.osi_judge.proofs.told.a_session_stands_in_one_way.{one_stands}
-pub use Rattle.osi_judge.proofs.told.a_side_strays_at_one_place.{Strays, never_strays, no_crowd, one_judged, one_list}
+pub use Rattle.osi_judge.proofs.told.a_side_strays_at_one_place.{Strays, never_strays, no_crowd}
 pub use Rattle.osi_judge.proofs.told.a_tsdu_is_broken_by_one_rule.{one_break}
 pub use Rattle.osi_judge.proofs.told.what_is_known_of_a_side.{found_as, room_as}
 pub use Rattle.osi_judge.specs.Breaking.{BreaksAt, BreaksWith, selection_of}
 pub use Rattle.osi_judge.specs.Captures.{Capture, of, other, piece, stream}
-pub use Rattle.osi_judge.specs.Explaining.{Explains, IsBlamed, IsExplained, Remark, answers, done, remarks, says, takes}
-pub use Rattle.osi_judge.specs.Following.{FirstIs, Taps, first_in, judged}
+pub use Rattle.osi_judge.specs.Explaining.{IsExplained}
 pub use Rattle.osi_judge.specs.Foremost.{foremost}
 pub use Rattle.osi_judge.specs.Judging.{HasRoom, IsFew, IsFound, IsKept, Keeps, Watched, Watches, WatchesBy}
 pub use Rattle.osi_judge.specs.Kept.{kept}
-pub use Rattle.osi_judge.specs.KeptIn.{AreKeptIn, IsKeptStanding, IsRuledIn}
 pub use Rattle.osi_judge.specs.Onward.{StandsBehind, StandsFor}
 pub use Rattle.osi_judge.specs.Profiles.{leaves}
 pub use Rattle.osi_judge.specs.Sides.{watched}
-pub use Rattle.osi_judge.specs.Stops.{breaks, broke_session, is_judged, place_of}
-pub use Rattle.osi_judge.specs.Tapping.{IsBrokenBy, IsCountIn, IsFirstIn, IsFoundIn, IsLeftBy, IsPlaceIn, IsReadIn, IsReferenceIn}
-pub use Rattle.osi_judge.specs.Tapping.{IsStoppedIn, begin_of, heard, told}
-pub use Rattle.osi_judge.specs.Transport.{IsSent, Sent, last_packet}
+pub use Rattle.osi_judge.specs.Stops.{broke_session}
+pub use Rattle.osi_judge.specs.Tapping.{begin_of}
 pub use Rattle.osi_judge.specs.declared.directions.Direction.{Direction}
 pub use Rattle.osi_judge.specs.declared.directions.Direction.TheVariants.{Right}
 pub use Rattle.osi_judge.specs.declared.findings.Finding.{Finding}
 pub use Rattle.osi_judge.specs.declared.findings.Finding.TheVariants.{Broke, Kept, Left, TooMany}
-pub use Rattle.osi_judge.specs.declared.judge.Judge.{Judge}
-pub use Rattle.osi_judge.specs.declared.judge.Reading.{Reading}
 pub use Rattle.osi_judge.specs.declared.members.Member.{Member}
 pub use Rattle.osi_judge.specs.declared.rules.Break.{Break}
 pub use Rattle.osi_judge.specs.declared.standings.Stands.{Stands}
-pub use Rattle.osi_judge.specs.declared.stops.Stopped.{Stopped}
 pub use Rattle.osi_tap.proofs.a_capture_has_one_first_break.{one_first, still_held}
 pub use Rattle.osi_tap.proofs.a_piece_comes_to_what_its_octets_do.{after_more, looks}
 pub use Rattle.osi_tap.proofs.the_first_break_of_transport_is_told_of_its_side.{first_mark}
 pub use Rattle.osi_tap.proofs.what_holds_of_a_result.{if_ok}
-pub use Rattle.osi_tap.proofs.what_is_kept_of_a_side_is_what_passed.{heard_at}
 pub use Rattle.osi_tap.proofs.who_is_to_blame.{broken}
-pub use Rattle.osi_tap.specs.Blaming.{IsMarkOf, IsToBlame, SomeIs, SomeoneIs}
+pub use Rattle.osi_tap.specs.Blaming.{IsMarkOf, IsToBlame, NobodyIs, SomeIs, SomeoneIs}
 pub use Rattle.osi_tap.specs.Connections.{Joined, Sessions, asked_at, changed, count, has_number, meant, numbered, packet_begins}
 pub use Rattle.osi_tap.specs.Connections.{reference_of, source_of, spoken, taken, taken_at}
 pub use Rattle.osi_tap.specs.Courses.{Course, marked, marks_of, noted_by, packet_by, reached, unit_passes, units_pass, unread}
 pub use Rattle.osi_tap.specs.Holding.{HoldsFound, HoldsJoined, IsHeard, IsPlace, line_in}
 pub use Rattle.osi_tap.specs.KnownSessions.{IsSession}
 pub use Rattle.osi_tap.specs.Lines.{place_in}
-pub use Rattle.osi_tap.specs.Rooms.{spent}
 pub use Rattle.osi_tap.specs.Standing.{HoldsState, IsSettled}
 pub use Rattle.osi_tap.specs.Streams.{Front, Streamed, counted, faulty, gathered, partial, whole}
-pub use Rattle.osi_tap.specs.Tapping.{State, after, begin, begin_within, begun, comes_to, looked_at, octet_passes, stream_of, with_stream}
+pub use Rattle.osi_tap.specs.Tapping.{State, after, begin, begun, comes_to, looked_at, octet_passes, stream_of, with_stream}
 pub use Rattle.osi_tap.specs.declared.marks.Cause.{Cause}
 pub use Rattle.osi_tap.specs.declared.marks.Cause.TheVariants.{BadPacket, BadUnit}
 pub use Rattle.osi_tap.specs.declared.marks.First.{First}
 pub use Rattle.osi_tap.specs.declared.marks.Layer.{Layer}
 pub use Rattle.osi_tap.specs.declared.marks.Mark.{Mark}
-pub use Rattle.osi_tap.specs.declared.rooms.Room.TheVariants.{Octets}
 pub use Rattle.osi_tap.specs.declared.tap.Tap.{Tap}
 pub use Rattle.osi_listing.specs.Capture.{is_blank, is_comment_sign}
-pub use Rattle.osi_dispute.specs.Adding.{AddsPair, AddsPairs, AddsReport}
-pub use Rattle.osi_dispute.specs.Disputes.{IsJudgement, IsNarrow, IsWide, Reported, is_beyond, transport_of}
-pub use Rattle.osi_verdict.specs.Facts.{AreFacts, Determined, Facts, IsFirstOf, StandsIn, account_by, begins_late, connection_by}
-pub use Rattle.osi_verdict.specs.Facts.{is_refused, is_unanswered, keeps, kept_outcome, left_first, outcome_of, outcome_unless, told_by}
-pub use Rattle.osi_verdict.specs.Facts.{told_of, unjudged, verdict_by}
-pub use Rattle.osi_dispute.specs.Laws.{IsDecided}
+pub use Rattle.osi_dispute.specs.Adding.{AddsJudgement, AddsPair, AddsPairs, AddsReport}
+pub use Rattle.osi_dispute.specs.Disputes.{IsJudgement, Judges}
+pub use Rattle.osi_dispute.specs.Openings.{Opens, first_code, unjudged}
+pub use Rattle.osi_dispute.specs.declared.openings.Opening.{Opening}
+pub use Rattle.osi_verdict.specs.Facts.{connection_by}
 pub use Rattle.osi_dispute.specs.Reading.{row, rows_left}
 pub use Rattle.osi_dispute.specs.ReportTexts.{last_line, last_status, pair_lines, read_lines, transport_lines}
-pub use Rattle.osi_dispute.specs.Reports.{ArePairs, IsFirstLast, IsLast, IsMarkLast, IsPair, IsPairOf, IsReport, IsStrayLast, Report}
+pub use Rattle.osi_dispute.specs.Reports.{ArePairs, IsFirstLast, IsLast, IsLastBy, IsMarkLast, IsPair, IsPairOf, IsReport, IsStrayLast}
+pub use Rattle.osi_dispute.specs.Reports.{Report}
 pub use Rattle.osi_dispute.specs.Reports.{SaysSo, Strayed, Tells, all_keep, carried, is_clear, is_opened, is_refused_in, kept_last, no_pair}
 pub use Rattle.osi_dispute.specs.Reports.{stray_last}
-pub use Rattle.osi_dispute.specs.Rows.{IsCaptureOf, Row, capture_of, digits_left, digits_on, left_is_tabbed, passed_by, rows_of, side_of}
-pub use Rattle.osi_verdict.specs.Texts.{connection_first, first_line, is_stopped_before, line_by, outcome_line, verdict_status}
-pub use Rattle.osi_verdict.specs.Texts.{verdict_text}
-pub use Rattle.osi_verdict.specs.Verdicts.{IsVerdict, Knows}
+pub use Rattle.osi_dispute.specs.Rows.{IsCaptureOf, Row, capture_of, digits_left, digits_on, rows_of, side_of}
 pub use Rattle.osi_dispute.specs.declared.reports.Last.{Last}
 pub use Rattle.osi_dispute.specs.declared.reports.Pair.{Pair}
 pub use Rattle.osi_dispute.specs.declared.reports.Transport.{Transport}
 pub use Rattle.osi_verdict.specs.declared.texts.Judgement.{Judgement}
-pub use Rattle.osi_verdict.specs.declared.verdicts.Account.{Account}
 pub use Rattle.osi_verdict.specs.declared.verdicts.Connection.{Connection}
-pub use Rattle.osi_verdict.specs.declared.verdicts.Connection.TheVariants.{Session}
 pub use Rattle.osi_verdict.specs.declared.verdicts.Told.{Told}
-pub use Rattle.osi_verdict.specs.declared.verdicts.Unjudged.{Unjudged}
-pub use Rattle.osi_verdict.specs.declared.verdicts.Verdict.{Verdict}

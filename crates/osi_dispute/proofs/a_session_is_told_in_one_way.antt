@@ -1,11 +1,18 @@
 -- Of a session one thing is found, and by one rule, from what it said and heard: for the law on reports.
-use Rattle.osi_dispute.proofs.Vocabulary.{◌≡◌, ◌∙◌, inl, inr, refl, sym, ap, subst, ℕ, ◌+◌, ◌<◌, true, false, List, length, take, get_or}
-use Rattle.osi_dispute.proofs.Vocabulary.{arith, Seen, Direction, Finding, Kept, Broke, Left, TooMany, Member, Break, BreaksAt, IsExplained}
+use Rattle.osi_dispute.proofs.Vocabulary.{◌≡◌, ◌∙◌, inl, inr, refl, sym, ap, subst, ℕ, zero, suc, ◌+◌, ◌<◌, ◌≤◌, true, false, List}
+use Rattle.osi_dispute.proofs.Vocabulary.{[], ◌∷◌, length, take, get_or, arith}
+use Rattle.osi_dispute.proofs.Vocabulary.{Seen, Direction, Finding, Kept, Broke, Left, TooMany, Member, Break, BreaksAt, IsExplained}
 use Rattle.osi_dispute.proofs.Vocabulary.{Watched, Watches, WatchesBy, IsKept, IsFew, HasRoom, IsFound, kept, leaves, broke_session}
 use Rattle.osi_dispute.proofs.Vocabulary.{begin_of, Strays, never_strays, no_crowd, room_as, found_as, one_break}
 use Rattle.osi_judge.specs.Explaining.{Told}
-use Rattle.osi_dispute.proofs.a_capture_has_one_finding.{take_less}
 use Rattle.osi_dispute.proofs.a_rule_tells_a_break_from_leaving.{one_element, Leaves, left_same, left_broken}
+
+take_less : (xs : List Told) (n m : ℕ) → n ≤ m → take n (take m xs) ≡ take n xs
+take_less xs zero m l = refl
+take_less [] (suc n) zero l = refl
+take_less [] (suc n) (suc m) l = refl
+take_less (x ∷ xs) (suc n) zero l = absurd (omega arith)
+take_less (x ∷ xs) (suc n) (suc m) l = ap (λ (z : List Told). x ∷ z) (take_less xs n m (omega arith))
 
 -- ---- what is known of a session
 

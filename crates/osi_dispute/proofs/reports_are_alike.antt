@@ -3,11 +3,14 @@ use Rattle.std.proofs.Common.{arith}
 use Rattle.osi_dispute.proofs.Vocabulary.{◌≡◌, ◌∙◌, refl, sym, ap, subst, ℕ, ◌+◌, List, [], ◌∷◌, length, Option, Some, Direction, Break}
 use Rattle.osi_dispute.proofs.Vocabulary.{Stands, foremost, Watched, StandsBehind, one_stands, First, Layer, Mark, Joined, Sessions, spoken}
 use Rattle.osi_dispute.proofs.Vocabulary.{place_in, State, one_first, Last, Pair, Told, Connection, IsSession, Strayed, SaysSo, Tells}
-use Rattle.osi_dispute.proofs.Vocabulary.{IsPair, IsPairOf, ArePairs, IsFirstLast, IsLast, Report, IsReport}
+use Rattle.osi_dispute.proofs.Vocabulary.{IsPair, IsPairOf, ArePairs, IsFirstLast, IsLast, Report, IsReport, None, Capture}
+use Rattle.osi_dispute.proofs.Vocabulary.{comes_to, Judges, IsJudgement, last_status, unjudged}
+use Rattle.osi_dispute.specs.ReportTexts.{report_text}
 use Rattle.osi_judge.specs.declared.directions.Direction.TheVariants as side
 use Rattle.osi_tap.specs.Lines.{told}
 use Rattle.osi_verdict.specs.declared.verdicts.Told.TheVariants as what
 use Rattle.osi_dispute.proofs.a_session_is_told_in_one_way.{IsOne, one_session}
+use Rattle.osi_dispute.proofs.a_text_is_one_capture.{one_text}
 
 -- ---- of the session of a side
 
@@ -96,3 +99,22 @@ one_report s r q h k =
     let pairs = all_pairs s.course.sessions 0 r.pairs q.pairs (h.pairs.count ∙ sym k.pairs.count) h.pairs.each k.pairs.each in
     let last = one_last s q.pairs r.last q.last (subst (λ (ps : List Pair). IsLast s ps r.last) pairs h.last) k.last in
     λ i. record { left = left i; right = right i; pairs = pairs i; last = last i }
+
+-- ---- of a text
+
+pub one_finding : (d : Direction) (j : Joined) (w v : Watched) → IsSession d j w → IsSession d j v → w.finding ≡ v.finding
+one_finding d j w v h k = (same_session d j w v h k).found
+
+one_of_both : (why : Option Last) (s : State) (lines others : List ℕ) (status other : ℕ) → Judges why s lines status
+    → Judges why s others other → (lines ≡ others) × (status ≡ other)
+one_of_both None s lines others status other h k =
+    let same = one_report s h.report k.report h.reported k.reported in
+    (h.told ∙ ap report_text same ∙ sym k.told, h.answered ∙ ap (λ (r : Report). last_status r.last) same ∙ sym k.answered)
+one_of_both (Some last) s lines others status other h k = (h.told ∙ sym k.told, h.answered ∙ sym k.answered)
+
+pub one_judgement : (text lines others : List ℕ) (status other : ℕ) → IsJudgement text lines status → IsJudgement text others other
+    → (lines ≡ others) × (status ≡ other)
+one_judgement text lines others status other h k =
+    let same = one_text text h.capture k.capture h.reads k.reads in
+    one_of_both (unjudged k.capture) (comes_to k.capture) lines others status other
+    (subst (λ (x : Capture). Judges (unjudged x) (comes_to x) lines status) same h.judged) k.judged

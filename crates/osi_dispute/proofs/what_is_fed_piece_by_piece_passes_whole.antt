@@ -1,9 +1,10 @@
 -- What is fed the octets of a piece one part after the other, and the rows of a text one row after the other, knows the capture of
--- all of them: a judge, or a tap. For `feed_all`, `feed_pieces`, `tap_all` and `tap_pieces`.
+-- all of them: for `feed_all` and `feed_pieces`.
 use Rattle.osi_dispute.proofs.Vocabulary.{◌≡◌, ◌∙◌, refl, sym, ap, ℕ, ◌==◌, Bool, true, false, not, arith, length, List, [], ◌∷◌, ◌++◌}
 use Rattle.osi_dispute.proofs.Vocabulary.{take, drop, append-nil, append_assoc, map-append, take-append-drop, flat_map-append, Direction}
-use Rattle.osi_dispute.proofs.Vocabulary.{Capture, piece, of, judged, first_in, Taps, FirstIs, Judge, Tap, HoldsState, State, after}
-use Rattle.osi_dispute.proofs.Vocabulary.{after_more, Knows, Row, side_of, passed_by}
+use Rattle.osi_dispute.proofs.Vocabulary.{Capture, piece, of, stream, Tap, HoldsState, State, after, comes_to, after_more, Row, side_of}
+use Rattle.osi_dispute.proofs.Vocabulary.{capture_of, Opening, Opens}
+use Rattle.osi_judge.specs.declared.directions.Direction.TheVariants as side
 
 -- whatever had passed, this passed after it, by what is known
 abbrev pub Passes : {T : Type 0} → (T → Capture → Type 0) → T → T → Capture → Type 0
@@ -13,19 +14,17 @@ passes_more : {T : Type 0} (k : T → Capture → Type 0) (old now new : T) (a b
     → Passes k now new b → Passes k old new c
 passes_more k old now new a b c e p q = grind (arith, append_assoc)
 
-pub passes_as : (old new : Judge) (more : Capture)
-    → ((capture : Capture) → Taps (judged old) capture → Taps (judged new) (capture ++ more))
-    → ((capture : Capture) → Taps (judged old) capture → FirstIs (first_in old) (judged old) capture
-    → FirstIs (first_in new) (judged new) (capture ++ more)) → Passes Knows old new more
-passes_as old new more t f = λ capture k. record { taps = t capture k.taps; first = f capture k.taps k.first }
+-- what is known of a tap
+abbrev pub Comes : Tap → Capture → Type 0
+Comes t capture = HoldsState t (comes_to capture)
 
--- what is known of a tap, which held this state before the capture
-abbrev pub Comes : State → Tap → Capture → Type 0
-Comes begin t capture = HoldsState t (after capture begin)
+pub comes_as : (old new : Tap) (more : Capture) → ((s : State) → HoldsState old s → HoldsState new (after more s))
+    → Passes Comes old new more
+comes_as old new more t = grind (arith, after_more)
 
-pub comes_as : (begin : State) (old new : Tap) (more : Capture) → ((s : State) → HoldsState old s → HoldsState new (after more s))
-    → Passes (Comes begin) old new more
-comes_as begin old new more t = grind (arith, after_more)
+-- and of how the octets of left begin
+abbrev pub Begins : Opening → Capture → Type 0
+Begins o capture = Opens o (stream side.Left capture)
 
 -- ---- octets of a piece
 
@@ -58,22 +57,22 @@ empty_not xs b e t = grind (arith, empty_yes)
 
 -- ---- rows
 
-abbrev pub AreFed : {T : Type 0} → (T → Capture → Type 0) → Bool → T → T → List Row → List Row → Type 0
-AreFed k left old now rows rest = (fed : List Row) × (rows ≡ fed ++ rest) × Passes k old now (passed_by left fed)
+abbrev pub AreFed : {T : Type 0} → (T → Capture → Type 0) → T → T → List Row → List Row → Type 0
+AreFed k old now rows rest = (fed : List Row) × (rows ≡ fed ++ rest) × Passes k old now (capture_of fed)
 
-pub none_fed : {T : Type 0} (k : T → Capture → Type 0) (left : Bool) (j : T) (rows : List Row) → AreFed k left j j rows rows
-none_fed k left j rows = ([], refl, grind (arith, append-nil))
+pub none_fed : {T : Type 0} (k : T → Capture → Type 0) (j : T) (rows : List Row) → AreFed k j j rows rows
+none_fed k j rows = ([], refl, grind (arith, append-nil))
 
-pub more_fed : {T : Type 0} (k : T → Capture → Type 0) (left : Bool) (old now new : T) (rows rest later : List Row) (r : Row)
-    → rest ≡ r ∷ later → AreFed k left old now rows rest
-    → Passes k now new (piece (side_of r.is_tabbed left) r.octets) → AreFed k left old new rows later
-more_fed k left old now new rows rest later r g (fed, e, p) q = (
+pub more_fed : {T : Type 0} (k : T → Capture → Type 0) (old now new : T) (rows rest later : List Row) (r : Row)
+    → rest ≡ r ∷ later → AreFed k old now rows rest
+    → Passes k now new (piece (side_of r.is_tabbed) r.octets) → AreFed k old new rows later
+more_fed k old now new rows rest later r g (fed, e, p) q = (
   fed ++ r ∷ [],
   e ∙ ap (λ (z : List Row). fed ++ z) g ∙ sym (append_assoc fed (r ∷ []) later),
   search (arith, passes_more, flat_map-append, append-nil),
 )
 
-pub all_fed : {T : Type 0} (k : T → Capture → Type 0) (left : Bool) (old now : T) (rows rest : List Row) → rest ≡ []
-    → AreFed k left old now rows rest
-    → Passes k old now (passed_by left rows)
-all_fed k left old now rows rest n (fed, e, p) = grind (arith, append-nil)
+pub all_fed : {T : Type 0} (k : T → Capture → Type 0) (old now : T) (rows rest : List Row) → rest ≡ []
+    → AreFed k old now rows rest
+    → Passes k old now (capture_of rows)
+all_fed k old now rows rest n (fed, e, p) = grind (arith, append-nil)

@@ -1,11 +1,13 @@
 -- What is added to a text as a report is written.
-use Rattle.std.specs.Prelude.{◌≡◌, ℕ, Bool, List, ◌++◌, length, Option}
+use Rattle.std.specs.Prelude.{◌≡◌, ℕ, Bool, List, ◌++◌, length, Option, Some, None}
 use Rattle.std.specs.List.{flat_map}
 use Rattle.osi_tap.specs.Connections.{Joined, Sessions}
 use Rattle.osi_tap.specs.Tapping.{State}
+use Rattle.osi_judge.specs.declared.directions.Direction.TheVariants.{Left, Right}
+use Rattle.osi_dispute.specs.declared.reports.Last.{Last}
 use Rattle.osi_dispute.specs.declared.reports.Pair.{Pair}
-use Rattle.osi_dispute.specs.Reports.{Report, IsReport, IsPairOf, ArePairs, all_keep}
-use Rattle.osi_dispute.specs.ReportTexts.{pair_lines, report_text, last_status}
+use Rattle.osi_dispute.specs.Reports.{Report, IsReport, IsPairOf, ArePairs, all_keep, carried}
+use Rattle.osi_dispute.specs.ReportTexts.{pair_lines, read_lines, report_text, last_line, last_status}
 
 -- the lines of one connection, of which both sides kept the protocol or not
 pub record AddsPair (o : Option Joined) (old new : List ℕ) (keeps : Bool) : Type 0 where
@@ -28,3 +30,12 @@ pub record AddsReport (s : State) (old new : List ℕ) (status : ℕ) : Type 0 w
   pub reported : IsReport s report
   pub added : new ≡ old ++ report_text report
   pub answered : status ≡ last_status report.last
+
+-- what was read, and why nothing of it is judged
+pub record AddsUnjudged (s : State) (why : Last) (old new : List ℕ) (status : ℕ) : Type 0 where
+  pub added : new ≡ old ++ read_lines (carried Left s) (carried Right s) ++ last_line why
+  pub answered : status ≡ last_status why
+
+abbrev pub AddsJudgement : Option Last → State → (old new : List ℕ) → ℕ → Type 0
+AddsJudgement None s old new status = AddsReport s old new status
+AddsJudgement (Some why) s old new status = AddsUnjudged s why old new status

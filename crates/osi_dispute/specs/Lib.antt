@@ -3,6 +3,6 @@ pub mod Reading
 pub mod Causes
 pub mod Reports
 pub mod ReportTexts
+pub mod Openings
 pub mod Adding
 pub mod Disputes
-pub mod Laws

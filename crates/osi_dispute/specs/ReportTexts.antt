@@ -1,5 +1,5 @@
 -- The text of a report on all connections of a byte connection.
-use Rattle.std.specs.Prelude.{ℕ, Bool, true, false, List, [], ◌++◌, codes, Option, Some, None}
+use Rattle.std.specs.Prelude.{ℕ, ◌==◌, ◌&&◌, not, if◌then◌else◌, Bool, true, false, List, [], ◌++◌, codes, Option, Some, None}
 use Rattle.std.specs.List.{flat_map}
 use Rattle.osi_judge.specs.declared.directions.Direction.{Direction}
 use Rattle.osi_judge.specs.declared.directions.Direction.TheVariants as side
@@ -11,6 +11,7 @@ use Rattle.osi_dispute.specs.declared.reports.Pair.{Pair}
 use Rattle.osi_dispute.specs.declared.reports.Transport.{Transport as Carried}
 use Rattle.osi_dispute.specs.declared.reports.Last.{Last}
 use Rattle.osi_dispute.specs.declared.reports.Last.TheVariants.{BothKept, Broke, Left, Transport, TooManySessions, TooManyConnections}
+use Rattle.osi_dispute.specs.declared.reports.Last.TheVariants.{NoOctets, BeginsLate}
 use Rattle.osi_dispute.specs.Reports.{Report}
 use Rattle.osi_verdict.specs.declared.verdicts.Unjudged.TheVariants.{TooMany}
 use Rattle.osi_verdict.specs.Names.{side_name}
@@ -19,6 +20,12 @@ use Rattle.osi_verdict.specs.Lines.{reading_line}
 use Rattle.osi_verdict.specs.Texts.{connection_lines, first_text, broke_first, left_first, unjudged_line}
 
 -- ---- transport
+
+abbrev pub is_side : Direction → Direction → Bool
+is_side side.Left side.Left = true
+is_side side.Right side.Right = true
+is_side side.Left side.Right = false
+is_side side.Right side.Left = false
 
 -- what a mark is at, and what was found there
 unfoldable pub mark_text : Mark → List ℕ
@@ -51,11 +58,29 @@ abbrev pub halt_lines : Direction → Option Mark → List ℕ
 halt_lines d None = []
 halt_lines d (Some m) = halt_line d m
 
+-- the packet of a mark is of this side
+abbrev pub is_of : Direction → Option Mark → Bool
+is_of d None = false
+is_of d (Some m) = is_side d m.direction
+
+-- two marks are of packets at one offset
+abbrev pub is_at : Option Mark → Option Mark → Bool
+is_at (Some m) (Some k) = m.offset == k.offset
+is_at None k = false
+is_at (Some m) None = false
+
+-- The packet with the first break of a side ends the judging of this side alone. Then the line of that break says all.
+abbrev pub ends_itself : Direction → (own other : Carried) → Bool
+ends_itself d own other = is_of d own.halted && is_at own.broke own.halted && not (is_of d other.halted)
+
+abbrev pub halt_told : Direction → (own other : Carried) → Option Mark
+halt_told d own other = if ends_itself d own other then None else own.halted
+
 -- of both sides
 unfoldable pub transport_lines : (left right : Carried) → List ℕ
 transport_lines left right =
-    mark_lines side.Left left.broke ++ mark_lines side.Right right.broke ++ halt_lines side.Left left.halted
-    ++ halt_lines side.Right right.halted
+    mark_lines side.Left left.broke ++ mark_lines side.Right right.broke ++ halt_lines side.Left (halt_told side.Left left right)
+    ++ halt_lines side.Right (halt_told side.Right right left)
 
 -- ---- connections
 
@@ -79,6 +104,8 @@ last_line (Left d offset by) = left_first d offset by
 last_line (Transport d m) = mark_first d m
 last_line TooManySessions = unjudged_line TooMany
 last_line TooManyConnections = codes "not judged: there are more than 128 connections at once\n"
+last_line NoOctets = codes "not judged: no octets\n"
+last_line BeginsLate = codes "not judged: the capture begins in the middle of a connection\n"
 
 -- ---- the report
 

@@ -45,27 +45,14 @@ rows_from is_within (line ∷ lines) octets =
 abbrev pub rows_of : List ℕ → List ℕ → List Row
 rows_of text octets = rows_from false (lines_of text) octets
 
--- left is the side of the first octet
-abbrev pub left_by : Bool → List ℕ → Bool → Bool
-left_by here [] later = later
-left_by here (octet ∷ octets) later = here
-
-abbrev pub left_is_tabbed : List Row → Bool
-left_is_tabbed [] = false
-left_is_tabbed (r ∷ rows) = left_by r.is_tabbed r.octets (left_is_tabbed rows)
-
-abbrev pub side_of : (is_tabbed left : Bool) → Direction
-side_of true true = Left
-side_of false false = Left
-side_of true false = Right
-side_of false true = Right
-
-abbrev pub passed_by : Bool → List Row → Capture
-passed_by left rows = flat_map (λ (r : Row). piece (side_of r.is_tabbed left) r.octets) rows
+-- lines that begin with a tab are of the called side, all others of the side that called
+abbrev pub side_of : (is_tabbed : Bool) → Direction
+side_of false = Left
+side_of true = Right
 
 -- the octets that passed, by the rows of a text
 abbrev pub capture_of : List Row → Capture
-capture_of rows = passed_by (left_is_tabbed rows) rows
+capture_of rows = flat_map (λ (r : Row). piece (side_of r.is_tabbed) r.octets) rows
 
 -- a text is this capture of both sides
 pub record IsCaptureOf (text : List ℕ) (capture : Capture) : Type 0 where

@@ -1,48 +1,44 @@
 //! Laws of judgements: what one text can be judged to be. Each function does nothing; its clauses are the laws.
 
-ghost use Rattle.std.specs.Prelude.{◌≡◌, ℕ, List, []};
+ghost use Rattle.std.specs.Prelude.{◌≡◌, true, ℕ, List, []};
 ghost use Rattle.osi_judge.specs.declared.directions.Direction.{Direction};
-ghost use Rattle.osi_judge.specs.declared.findings.Finding.{Finding};
+ghost use Rattle.osi_judge.specs.declared.directions.Direction.TheVariants.{Left, Right};
 ghost use Rattle.osi_judge.specs.Captures.{Capture};
-ghost use Rattle.osi_judge.specs.Tapping.{IsFoundIn};
-ghost use Rattle.osi_verdict.specs.declared.verdicts.Verdict.{Verdict};
+ghost use Rattle.osi_judge.specs.Judging.{Watched};
 ghost use Rattle.osi_dispute.specs.Disputes.{IsJudgement};
-ghost use Rattle.osi_verdict.specs.Facts.{IsDetermined};
-ghost use Rattle.osi_dispute.specs.Laws.{IsDecided};
-ghost use Rattle.osi_dispute.specs.Reports.{Report, IsReport};
-ghost use Rattle.osi_tap.specs.Tapping.{State};
+ghost use Rattle.osi_dispute.specs.Reports.{IsLast, IsReport, Report, all_keep, carried, is_clear};
+ghost use Rattle.osi_dispute.specs.ReportTexts.{last_line};
+ghost use Rattle.osi_dispute.specs.declared.reports.Last.{Last};
+ghost use Rattle.osi_dispute.specs.declared.reports.Last.TheVariants.{BothKept};
+ghost use Rattle.osi_dispute.specs.declared.reports.Pair.{Pair};
 ghost use Rattle.osi_dispute.specs.Rows.{IsCaptureOf};
-ghost use Rattle.osi_verdict.specs.Texts.{outcome_line};
+ghost use Rattle.osi_tap.specs.Blaming.{NobodyIs};
+ghost use Rattle.osi_tap.specs.Connections.{Joined};
+ghost use Rattle.osi_tap.specs.KnownSessions.{IsSession};
+ghost use Rattle.osi_tap.specs.Tapping.{State};
 
-use osi_judge::laws::{
-    a_capture_has_one_first_break, a_capture_has_one_reading, a_side_is_found_in_one_way,
-};
-
-/// A text is one capture, and one thing is found of each side of a capture: that it kept the protocol, or broke it
-/// with one of its TSDUs.
+/// A text is one capture, and one thing is found of the session of a side on a connection.
 pub fn a_text_has_one_finding()
     ensures text { (text : List ℕ) (some others : Capture) → IsCaptureOf text some → IsCaptureOf text others → some ≡ others }
-    ensures finding { (d : Direction) (capture : Capture) (f g : Finding) → IsDecided f → IsDecided g
-        → IsFoundIn d capture f → IsFoundIn d capture g → f ≡ g }
-{
-    a_capture_has_one_reading();
-}
+    ensures finding { (d : Direction) (j : Joined) (some others : Watched) → IsSession d j some → IsSession d j others
+        → some.finding ≡ others.finding }
+{}
 
-/// A capture has one verdict, what a capture comes to has one report, and a text has one judgement: the lines and the status
-/// are a function of the text, whether a judge gives them or a tap.
+/// What a capture comes to has one report, and a text has one judgement: the lines and the status are a function of the text.
 pub fn a_text_has_one_judgement()
-    ensures verdict { (capture : Capture) (v w : Verdict) → IsDetermined capture v → IsDetermined capture w → v ≡ w }
     ensures report { (s : State) (r q : Report) → IsReport s r → IsReport s q → r ≡ q }
     ensures text { (text lines others : List ℕ) (status other : ℕ) → IsJudgement text lines status
         → IsJudgement text others other → (lines ≡ others) × (status ≡ other) }
-{
-    a_capture_has_one_reading();
-    a_side_is_found_in_one_way();
-    a_capture_has_one_first_break();
-}
+{}
 
-/// A verdict says who is to blame, that both sides kept the protocol, or why it isn't judged: its last line is never
-/// empty.
-pub fn a_verdict_ends_with_a_line()
-    ensures { (capture : Capture) (v : Verdict) → IsDetermined capture v → outcome_line v ≡ [] → ⊥ }
+/// The last line says who is to blame, that both sides kept the protocol, or why that is not known: it is never empty.
+pub fn a_judgement_ends_with_a_line()
+    ensures { (last : Last) → last_line last ≡ [] → ⊥ }
+{}
+
+/// If the last line says that both sides kept the protocol, all was judged: the transport of both sides broke no rule and was judged to
+/// its end, no session of any connection is to blame, and each kept the protocol.
+pub fn both_kept_means_that_all_was_judged()
+    ensures { (s : State) (pairs : List Pair) → IsLast s pairs BothKept → (is_clear (carried Left s) ≡ true)
+        × (is_clear (carried Right s) ≡ true) × (all_keep pairs ≡ true) × NobodyIs s.course.sessions }
 {}

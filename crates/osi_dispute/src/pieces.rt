@@ -2,15 +2,14 @@
 
 ghost use Rattle.std.specs.Prelude.{◌≡◌, ◌<◌, ◌≤◌, ◌+◌, ◌∷◌, ℕ, List, take, drop};
 ghost use Rattle.osi_listing.specs.Capture.{is_blank};
-ghost use Rattle.osi_dispute.specs.Rows.{is_tabbed, digits_on, digits_left, begun_on, ends_within, left_is_tabbed};
-ghost use Rattle.osi_dispute.specs.Reading.{rows_left};
+ghost use Rattle.osi_dispute.specs.Rows.{is_tabbed, digits_on, digits_left, begun_on, ends_within};
 
 use osi_names::first_line;
 
 /// A piece: the octets whose first digit is on one line.
 #[derive(Clone, Copy)]
 pub struct Piece<'a> {
-    /// The line begins with a tab.
+    /// The line begins with a tab: it is of the called side.
     pub is_tabbed: bool,
     /// These octets.
     pub octets: &'a [u8],
@@ -27,7 +26,7 @@ pub struct Pieces<'a> {
 
 impl<'a> Pieces<'a> {
     ghost use Rattle.std.specs.Prelude.{◌≡◌, ◌∷◌, [], false, IfSome, IfNone};
-    ghost use Rattle.osi_dispute.specs.Rows.{rows_of, left_is_tabbed};
+    ghost use Rattle.osi_dispute.specs.Rows.{rows_of};
     ghost use Rattle.osi_dispute.specs.Reading.{row, rows_left};
 
     /// All pieces of a text that captures these octets.
@@ -155,17 +154,4 @@ fn is_tabbed(line: &[u8]) -> bool
         [] => false,
         [first, ..] => *first == b'\t',
     }
-}
-
-/// Whether the first of these pieces with an octet is on a line that begins with a tab.
-pub fn is_left_tabbed(pieces: Pieces<'_>) -> bool
-    ensures { result ≡ left_is_tabbed (rows_left pieces.entry) }
-{
-    let mut pieces = pieces;
-    'pieces: while let Some(piece) = pieces.next_piece() {
-        if !piece.octets.is_empty() {
-            return piece.is_tabbed;
-        }
-    }
-    false
 }

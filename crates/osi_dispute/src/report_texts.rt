@@ -1,18 +1,22 @@
 //! Writes a report as text: the lines of each connection, those of transport, and the last line, which says who was first.
 
 ghost use Rattle.std.specs.Prelude.{◌≡◌, ◌++◌, ◌<◌, ◌&&◌, true, IfOk, OnOk};
-ghost use Rattle.osi_judge.specs.Captures.{Capture};
+ghost use Rattle.osi_judge.specs.Captures.{Capture, stream};
+ghost use Rattle.osi_judge.specs.declared.directions.Direction.TheVariants.{Left};
 ghost use Rattle.osi_tap.specs.Connections.{count, numbered};
 ghost use Rattle.osi_tap.specs.Standing.{HoldsState, IsSettled};
 ghost use Rattle.osi_tap.specs.Tapping.{State, comes_to};
 ghost use Rattle.osi_tpkt.specs.Stream.{offset_of};
-ghost use Rattle.osi_dispute.specs.Adding.{AddsPair, AddsPairs, AddsReport};
-ghost use Rattle.osi_dispute.specs.Reports.{HoldsCapture};
+ghost use Rattle.osi_dispute.specs.Adding.{AddsJudgement, AddsPair, AddsPairs, AddsReport, AddsUnjudged};
+ghost use Rattle.osi_dispute.specs.Openings.{Opens, unjudged};
+ghost use Rattle.osi_dispute.specs.Reports.{HoldsCapture, carried};
 ghost use Rattle.osi_dispute.specs.ReportTexts.{mark_text, is_outside, mark_verb, mark_line, mark_lines, halt_line, halt_lines};
 ghost use Rattle.osi_dispute.specs.ReportTexts.{first_verb, mark_first, last_line, pair_lines, transport_lines, read_lines, last_status};
+ghost use Rattle.osi_dispute.specs.ReportTexts.{ends_itself, halt_told, is_at, is_of, is_side};
 
 use crate::causes;
-use crate::reports::{Last, Pair, Transport, last_of, pair_at, transport_of};
+use crate::openings::Opening;
+use crate::reports::{Last, Pair, Transport, last_of, pair_at, transport_of, unjudged};
 use osi_judge::Direction;
 use osi_listing::{push_number_field, push_words};
 use osi_tap::{Cause, Mark, Tap};
@@ -101,6 +105,60 @@ fn push_halts(
     }
 }
 
+fn is_side(one: Direction, other: Direction) -> bool
+    ensures { result ≡ is_side one other }
+{
+    match (one, other) {
+        (Direction::Left, Direction::Left) => true,
+        (Direction::Right, Direction::Right) => true,
+        (Direction::Left, Direction::Right) => false,
+        (Direction::Right, Direction::Left) => false,
+    }
+}
+
+/// Whether the packet of a mark is of this side.
+fn is_of(direction: Direction, mark: Option<Mark>) -> bool
+    ensures { result ≡ is_of direction mark }
+{
+    match mark {
+        None => false,
+        Some(mark) => is_side(direction, mark.direction),
+    }
+}
+
+/// Whether two marks are of packets at one offset.
+fn is_at(one: Option<Mark>, other: Option<Mark>) -> bool
+    ensures { result ≡ is_at one other }
+{
+    match (one, other) {
+        (Some(one), Some(other)) => one.offset == other.offset,
+        _ => false,
+    }
+}
+
+/// Whether the packet with the first break of a side ends the judging of this side alone.
+fn ends_itself(direction: Direction, own: &Transport, other: &Transport) -> bool
+    ensures { result ≡ ends_itself direction own.now other.now }
+{
+    if !is_of(direction, own.halted) {
+        return false;
+    }
+    if !is_at(own.broke, own.halted) {
+        return false;
+    }
+    !is_of(direction, other.halted)
+}
+
+/// After which packet nothing more of a side is judged, if the line of its break does not say so.
+fn halt_told(direction: Direction, own: &Transport, other: &Transport) -> Option<Mark>
+    ensures { result ≡ halt_told direction own.now other.now }
+{
+    if ends_itself(direction, own, other) {
+        return None;
+    }
+    own.halted
+}
+
 /// Adds the lines of both sides of a connection.
 fn push_pair(text: &mut Vec<u8>, pair: &Pair) -> Result<(), AllocError>
     ensures { OnOk result (text.new.items ≡ text.old.items ++ pair_lines pair.now) }
@@ -150,8 +208,16 @@ fn push_transport(text: &mut Vec<u8>, left: &Transport, right: &Transport) -> Re
 {
     push_marks(text, Direction::Left, left.broke)?;
     push_marks(text, Direction::Right, right.broke)?;
-    push_halts(text, Direction::Left, left.halted)?;
-    push_halts(text, Direction::Right, right.halted)
+    push_halts(
+        text,
+        Direction::Left,
+        halt_told(Direction::Left, left, right),
+    )?;
+    push_halts(
+        text,
+        Direction::Right,
+        halt_told(Direction::Right, right, left),
+    )
 }
 
 /// What a side did first in its transport.
@@ -187,6 +253,11 @@ fn push_last(text: &mut Vec<u8>, last: &Last) -> Result<(), AllocError>
         Last::TooManyConnections => push_words(
             text,
             "not judged: there are more than 128 connections at once\n",
+        ),
+        Last::NoOctets => push_words(text, "not judged: no octets\n"),
+        Last::BeginsLate => push_words(
+            text,
+            "not judged: the capture begins in the middle of a connection\n",
         ),
     }
 }
@@ -227,6 +298,42 @@ pub fn push_report(text: &mut Vec<u8>, tap: &Tap) -> Result<u8, AllocError>
     let last = last_of(tap, &left, &right, keeps);
     push_last(text, &last)?;
     Ok(last_status(&last))
+}
+
+/// Adds what was read of both sides, and why nothing of it is judged.
+fn push_why(
+    text: &mut Vec<u8>,
+    left: &Transport,
+    right: &Transport,
+    why: &Last,
+) -> Result<u8, AllocError>
+    ensures told { IfOk result (λ status. (s : State) → left.now ≡ carried Direction.Left s → right.now ≡ carried Direction.Right s
+        → AddsUnjudged s why.now text.old.items text.new.items status) }
+    ensures small { IfOk result (λ status. status < 2) }
+{
+    push_read(text, left, right)?;
+    push_last(text, why)?;
+    Ok(last_status(why))
+}
+
+/// Adds the text of a judgement of everything that a tap was fed, once it is settled: a report, or why nothing is judged. `opening`
+/// knows how the octets of left begin. Returns 0 if both sides kept the protocol on all connections, and 1 in any other case.
+pub(crate) fn push_judgement(
+    text: &mut Vec<u8>,
+    tap: &Tap,
+    opening: &Opening,
+) -> Result<u8, AllocError>
+    ensures told { IfOk result (λ status. (capture : Capture) → HoldsState tap.now (comes_to capture) → IsSettled tap.now
+        → Opens opening.now (stream Left capture)
+        → AddsJudgement (unjudged capture) (comes_to capture) text.old.items text.new.items status) }
+    ensures small { IfOk result (λ status. status < 2) }
+{
+    let left = transport_of(tap, Direction::Left);
+    let right = transport_of(tap, Direction::Right);
+    match unjudged(&left, &right, opening) {
+        Some(why) => push_why(text, &left, &right, &why),
+        None => push_report(text, tap),
+    }
 }
 
 /// 0 if both sides kept the protocol on all connections, and 1 in any other case.

@@ -1,7 +1,8 @@
 //! Asks a tap what it found of all connections on a byte connection, and puts it together as a report.
 
 ghost use Rattle.std.specs.Prelude.{◌≡◌, ◌&&◌, ℕ, List, None, Some, IfOk, IfSome};
-ghost use Rattle.osi_judge.specs.Captures.{Capture, other};
+ghost use Rattle.osi_judge.specs.Captures.{Capture, other, stream};
+ghost use Rattle.osi_judge.specs.declared.directions.Direction.TheVariants.{Left};
 ghost use Rattle.osi_judge.specs.Stops.{broke_session};
 ghost use Rattle.osi_tap.specs.Connections.{Joined, numbered};
 ghost use Rattle.osi_tap.specs.Blaming.{IsFirstOf, IsMarkOf, IsToBlame, NobodyIs, SomeoneIs};
@@ -15,9 +16,11 @@ ghost use Rattle.osi_verdict.specs.Leaving.{is_dropped};
 ghost use Rattle.osi_dispute.specs.Reports.{SaysSo, is_opened, is_refused_in, Tells, IsPair, IsPairOf};
 ghost use Rattle.osi_dispute.specs.Reports.{all_keep as all_keep_of, carried, is_clear, kept_last, HoldsCapture, IsFirstLast};
 ghost use Rattle.osi_dispute.specs.Reports.{IsLast, IsMarkLast, IsStrayLast};
+ghost use Rattle.osi_dispute.specs.Openings.{Opens, begins_late, called_back, has_no_octets, is_request, unjudged};
 
+use crate::openings::Opening;
 use osi_judge::{Break, Direction, Finding, Reading};
-use osi_tap::{Connection as Joint, First, Layer, Mark, Tap};
+use osi_tap::{Connection as Joint, First, Layer, Mark, Tap, UnitKind};
 use osi_verdict::{Connection, Told};
 use std::alloc::AllocError;
 
@@ -58,6 +61,10 @@ pub enum Last {
     TooManySessions,
     /// It is not known: there are more connections than are looked at together.
     TooManyConnections,
+    /// There are no octets.
+    NoOctets,
+    /// The capture begins in the middle of a connection: the first unit of the side that called is no CR.
+    BeginsLate,
 }
 
 /// What is told of the session of a side.
@@ -208,6 +215,61 @@ pub(crate) fn transport_of(tap: &Tap, direction: Direction) -> Transport
         broke: tap.broke(direction),
         halted: tap.halted(direction),
     }
+}
+
+/// Whether there are no octets.
+fn has_no_octets(left: &Transport, right: &Transport) -> bool
+    ensures { (s : State) → left.now ≡ carried Direction.Left s → right.now ≡ carried Direction.Right s → result ≡ has_no_octets s }
+{
+    if left.reading.octets != 0 {
+        return false;
+    }
+    right.reading.octets == 0
+}
+
+fn is_request(mark: Option<Mark>) -> bool
+    ensures { result ≡ is_request mark }
+{
+    match mark {
+        None => false,
+        Some(mark) => matches!(mark.unit, Some(UnitKind::Cr)),
+    }
+}
+
+/// Whether a CR of the called side passed before any packet of the side that called.
+fn called_back(left: &Transport, right: &Transport) -> bool
+    ensures { (s : State) → left.now ≡ carried Direction.Left s → right.now ≡ carried Direction.Right s → result ≡ called_back s }
+{
+    is_request(right.broke) && left.broke.is_none()
+}
+
+/// Whether the capture begins in the middle of a connection.
+fn begins_late(left: &Transport, right: &Transport, opening: &Opening) -> bool
+    ensures { (s : State) (octets : List ℕ) → left.now ≡ carried Direction.Left s → right.now ≡ carried Direction.Right s
+        → Opens opening.now octets → result ≡ begins_late s octets }
+{
+    if left.reading.packets == 0 {
+        return false;
+    }
+    if !opening.is_another() {
+        return false;
+    }
+    !called_back(left, right)
+}
+
+/// Why nothing of a capture is judged, if that is so.
+pub(crate) fn unjudged(left: &Transport, right: &Transport, opening: &Opening) -> Option<Last>
+    ensures { (capture : Capture) → left.now ≡ carried Direction.Left (comes_to capture)
+        → right.now ≡ carried Direction.Right (comes_to capture) → Opens opening.now (stream Left capture)
+        → result ≡ unjudged capture }
+{
+    if has_no_octets(left, right) {
+        return Some(Last::NoOctets);
+    }
+    if begins_late(left, right, opening) {
+        return Some(Last::BeginsLate);
+    }
+    None
 }
 
 /// Whether the transport of a side broke no rule, and all of it was judged.

@@ -1,6 +1,6 @@
 //! Reading both directions of a capture from its text.
 
-use osi_dispute::{Pieces, is_left_tabbed};
+use osi_dispute::Pieces;
 use osi_explain::Capture;
 use std::alloc::{AllocError, Global};
 
@@ -8,13 +8,12 @@ use std::alloc::{AllocError, Global};
 pub(crate) fn capture_of(alloc: Global, text: &[u8], octets: &[u8]) -> Result<Capture, AllocError> {
     let mut capture = Capture::new(alloc);
     let mut pieces = Pieces::of(text, octets);
-    let left_is_tabbed = is_left_tabbed(pieces);
     let mut number = 0usize;
     'pieces: while let Some(piece) = pieces.next_piece() {
-        let stream = if piece.is_tabbed == left_is_tabbed {
-            &mut capture.left
-        } else {
+        let stream = if piece.is_tabbed {
             &mut capture.right
+        } else {
+            &mut capture.left
         };
         stream.pass(alloc, piece.octets, number)?;
         number = number.saturating_add(1);

@@ -7,7 +7,7 @@ ghost use Rattle.osi_witness.specs.Witnesses.{IsPlayed, Witnesses};
 use crate::captures::capture_of;
 use crate::players::LONGEST;
 use crate::telling::{Stop, Telling};
-use osi_explain::{Capture, Halt, Opening, Run, push_comment, run_of};
+use osi_explain::{Capture, Halt, Opening, Place, Run, push_comment, run_of};
 use osi_listing::{CaptureFault, octets_of};
 use osi_script::{Classes, Side};
 use osi_session::Standing;
@@ -23,16 +23,27 @@ pub struct Witness {
     pub status: u8,
 }
 
+/// The side whose transport goes no further first, and where.
+fn first_stop(left: Option<Place>, right: Option<Place>) -> Option<(Side, Place)> {
+    match (left, right) {
+        (None, None) => None,
+        (Some(place), None) => Some((Side::Left, place)),
+        (None, Some(place)) => Some((Side::Right, place)),
+        (Some(left), Some(right)) => {
+            if right.last < left.last {
+                return Some((Side::Right, right));
+            }
+            Some((Side::Left, left))
+        }
+    }
+}
+
 /// A script of a capture in which left asks for no connection.
 fn unopened(alloc: Global, capture: &Capture) -> Result<Witness, AllocError>
     ensures { IfOk result (λ w. w.status < 2) }
 {
     let mut script = Vec::new(alloc);
-    let (side, stop) = match (capture.left.stop, capture.right.stop) {
-        (Some(place), _) => (Side::Left, Some(place)),
-        (None, stop) => (Side::Right, stop),
-    };
-    let Some(place) = stop else {
+    let Some((side, place)) = first_stop(capture.left.stop, capture.right.stop) else {
         return Ok(Witness { script, status: 0 });
     };
     push_comment(&mut script, side, place.offset, Halt::Transport.words())?;

@@ -53,10 +53,10 @@ skipped, and # begins a comment. The text has at most 16,777,216 octets.";
 
 /// What a capture of both sides is.
 const CAPTURES: &str = "\
-Lines of hexadecimal digits, blanks and # comments. Each line is a piece of one side; a line that begins
-with a tab is of the other side. The side of the first octet is left: it has to be the one that calls.
-The pieces stand in the order in which they passed, all octets of both directions from the first on. The
-text has at most 16,777,216 octets:
+Lines of hexadecimal digits, blanks and # comments. Each line is a piece of one side: of the called side,
+which is right, if it begins with a tab, else of the side that called, which is left. The pieces stand in
+the order in which they passed, all octets of both directions from the first on. The text has at most
+16,777,216 octets:
 
   tshark -r run.pcap -q -z follow,tcp,raw,0 | sed -n '/^[0-9a-f\\t]*$/p' | osi judge
 

@@ -1,9 +1,0 @@
-use Rattle.osi_dispute.proofs.Vocabulary.{length, State, rows_left}
-use Rattle.osi_dispute.proofs.what_is_fed_piece_by_piece_passes_whole.{Comes, AreFed}
-use Rattle.osi_dispute.proofs.disputes.tap_pieces.Given as goal
-
-abbrev pub invariant-pieces : goal.invariant-pieces
-invariant-pieces l = (begin : State) → AreFed (Comes begin) l.fn.left_is_tabbed l.fn.tap l.tap (rows_left l.fn.pieces) (rows_left l.pieces)
-
-abbrev pub decreases-pieces : goal.decreases-pieces
-decreases-pieces l = length (rows_left l.pieces)
