@@ -1,6 +1,6 @@
 -- Of all sessions that may have sent what a side did, which came nearest to what it sent next, and by which rule it may not
 -- send it.
-use Rattle.std.specs.Prelude.{ℕ, zero, suc, ◌+◌, ◌-◌, Bool, ◌&&◌, ◌||◌, ◌==◌, if◌then◌else◌, nat_lt, is_none, List, []}
+use Rattle.std.specs.Prelude.{ℕ, zero, suc, ◌+◌, ◌-◌, Bool, true, false, not, ◌&&◌, ◌||◌, ◌==◌, if◌then◌else◌, nat_lt, is_none, List, []}
 use Rattle.std.specs.Prelude.{◌∷◌}
 use Rattle.std.specs.Prelude.{length, get_or, replicate, Option, Some, None, option_map}
 use Rattle.std.specs.List.{fold, flat_map}
@@ -9,6 +9,10 @@ use Rattle.osi_spdu.specs.declared.kinds.Kind.{Kind}
 use Rattle.osi_spdu.specs.Known.{Contents}
 use Rattle.osi_spdu.specs.Units.{said_by}
 use Rattle.osi_message.specs.Reading.{word, said_at}
+use Rattle.osi_message.specs.Meanings.{Meaning, RS}
+use Rattle.osi_message.specs.Words.{as_message}
+use Rattle.osi_session.specs.Respond.{is_restart}
+use Rattle.osi_session.specs.declared.breaches.Breach.{Breach}
 use Rattle.osi_session.specs.declared.breaches.Breach.TheVariants as breach
 use Rattle.osi_session.specs.declared.faults.CallError.{CallError}
 use Rattle.osi_session.specs.declared.faults.CallError.TheVariants as error
@@ -21,7 +25,7 @@ use Rattle.osi_judge.specs.declared.rules.Near.{Near}
 use Rattle.osi_judge.specs.declared.rules.Question.{Question}
 use Rattle.osi_judge.specs.declared.rules.Question.TheVariants as question
 use Rattle.osi_judge.specs.declared.rules.Rule.{Rule}
-use Rattle.osi_judge.specs.declared.rules.Rule.TheVariants.{Breach, Fault}
+use Rattle.osi_judge.specs.declared.rules.Rule.TheVariants.{Breach as by_breach, Fault}
 use Rattle.osi_judge.specs.Foremost.{is_before, first_of}
 
 -- ---- the rules, by the order in which they are tested
@@ -40,12 +44,12 @@ call_place error.TooLong = 9
 call_place error.OutOfMemory = 10
 
 abbrev pub place : Rule → ℕ
-place (Breach (breach.Call e)) = call_place e
-place (Breach breach.NothingToAnswer) = 12
-place (Breach breach.NoFault) = 13
-place (Breach breach.BadTokens) = 14
-place (Breach breach.BadEnclosure) = 15
-place (Breach breach.Outside) = 16
+place (by_breach (breach.Call e)) = call_place e
+place (by_breach breach.NothingToAnswer) = 12
+place (by_breach breach.NoFault) = 13
+place (by_breach breach.BadTokens) = 14
+place (by_breach breach.BadEnclosure) = 15
+place (by_breach breach.Outside) = 16
 place (Fault fault) = 17
 
 -- the later of two rules; at one rule, the session that comes before the other
@@ -67,8 +71,22 @@ abbrev pub kind_in : Unsaid → Option Kind
 kind_in (a_unit unit octets) = Some unit.kind
 kind_in (unread fault) = None
 
+-- a resynchronization of type abandon or set
+abbrev pub is_other_resync : Meaning → Bool
+is_other_resync (RS kind number wishes octets) = not (is_restart kind)
+is_other_resync m = false
+
+-- The numbers that X.225 allows such a resynchronization are not those of a restart, so it leaves the profile whatever its
+-- number.
+abbrev pub profiled : (is_other : Bool) → Breach → Breach
+profiled true (breach.Call error.BadNumber) = breach.Outside
+profiled is_other b = b
+
+abbrev pub told_of : Contents → Breach → Breach
+told_of unit b = profiled (is_other_resync (as_message (word unit))) b
+
 abbrev pub rule_for : Unsaid → Seen → Option Rule
-rule_for (a_unit unit octets) s = option_map Breach (breach_of s (word unit) octets)
+rule_for (a_unit unit octets) s = option_map (λ b. by_breach (told_of unit b)) (breach_of s (word unit) octets)
 rule_for (unread fault) s = Some (Fault fault)
 
 abbrev pub nearer_of : Near → Near → Near
@@ -116,7 +134,7 @@ goes_to us m = last_in m (reached us (length us) m)
 
 -- before any was tried
 abbrev pub far : List Member → Near
-far members = record { at = first_of members; rule = Breach (breach.Call error.NoSuchConnection) }
+far members = record { at = first_of members; rule = by_breach (breach.Call error.NoSuchConnection) }
 
 unfoldable pub nearest : Unsaid → List (List ℕ) → (before : ℕ) → List Member → Near
 nearest u us before members = fold (tried u) (far members) (flat_map (reached us before) members)

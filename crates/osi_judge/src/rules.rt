@@ -2,19 +2,21 @@
 
 ghost use Rattle.std.specs.Prelude.{◌≡◌, ◌≤◌, IfOk, List, length};
 ghost use Rattle.std.specs.List.{fold};
+ghost use Rattle.osi_message.specs.Meanings.{meant_by};
 ghost use Rattle.osi_spdu.specs.Groups.{units_of};
 ghost use Rattle.osi_spdu.specs.Units.{said_by};
 ghost use Rattle.osi_judge.specs.declared.members.Member.{Member};
 ghost use Rattle.osi_judge.specs.Breaking.{LeavesBehind, BreaksIn, BreaksAt, in_effect, selection_of};
 ghost use Rattle.osi_judge.specs.Nearest.{call_place, place, is_nearer, a_unit, unsaid, kind_in, rule_for, tried, reached, far, nearest};
-ghost use Rattle.osi_judge.specs.Nearest.{break_of};
+ghost use Rattle.osi_judge.specs.Nearest.{break_of, is_other_resync, told_of};
 
 use crate::heard::Heard;
 use crate::members::{Member, none_is_left};
 use crate::standings::{Turn, first_of, foremost, is_before, take_next};
 use crate::telling::behind_unit;
+use osi_message::Message;
 use osi_session::{Breach, CallError, Standing};
-use osi_spdu::{Group, Kind, Spdu, SpduFault, read_group};
+use osi_spdu::{Group, Kind, ResyncType, Spdu, SpduFault, read_group};
 use std::alloc::{AllocError, Global};
 
 /// Why a side may not send what it sent (X.225 sections 7 and 8).
@@ -54,6 +56,35 @@ impl Break {
     }
 }
 
+/// Whether a message is a resynchronization of type abandon or set.
+fn is_other_resync(message: &Message) -> bool
+    ensures { result ≡ is_other_resync (meant_by message.now) }
+{
+    match message {
+        Message::Restart { kind, .. } => !matches!(kind, ResyncType::Restart),
+        _ => false,
+    }
+}
+
+/// The rule that is told of a unit which breaks this one. A resynchronization of another type than a restart leaves the
+/// profile whatever its number, since X.225 allows it other numbers than a restart.
+#[tactic(auto, using(crate::proofs::told::a_resynchronization_is_read::resync_word))]
+fn told_of(unit: &Spdu, breach: Breach) -> Breach
+    ensures { result ≡ told_of (said_by unit.now) breach }
+{
+    let message = Message::of(unit);
+    match breach {
+        Breach::Call(CallError::BadNumber) => {
+            if is_other_resync(&message) {
+                Breach::Outside
+            } else {
+                breach
+            }
+        }
+        _ => breach,
+    }
+}
+
 /// What no session sends: a unit of a TSDU of this many octets, or a TSDU that is not session units.
 #[derive(Clone, Copy)]
 enum Question<'a> {
@@ -79,7 +110,7 @@ impl Question<'_> {
         match self {
             Question::Unit(unit, octets) => match standing.say(unit, *octets) {
                 Ok(_) => None,
-                Err(breach) => Some(Rule::Breach(breach)),
+                Err(breach) => Some(Rule::Breach(told_of(unit, breach))),
             },
             Question::Fault(fault) => Some(Rule::Fault(*fault)),
         }
