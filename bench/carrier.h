@@ -109,9 +109,13 @@ static void drop(struct octets *o, size_t n)
         o->first = o->length = 0;
 }
 
-/* The live connection of a reference. */
+/* The live connection of a reference. It is as far after the first one as its reference is above the first one's, unless a
+   connection between them is gone. */
 static struct link *find(struct carrier *c, unsigned reference)
 {
+    size_t place = reference - c->live[0].reference;
+    if (place < c->connections && c->live[place].reference == reference)
+        return &c->live[place];
     for (size_t i = 0; i < c->connections; i++)
         if (c->live[i].reference == reference)
             return &c->live[i];

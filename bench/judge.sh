@@ -5,7 +5,7 @@ cd "$(dirname "$0")/.."
 make >&2
 mkdir -p bench/out
 python3 - bench/out <<'P'
-import os, subprocess, sys, time
+import os, subprocess, sys
 sys.dont_write_bytecode = True
 sys.path.insert(0, "bench")
 from processor import processor
@@ -30,15 +30,14 @@ def texts():
 
 
 def timed(word, path):
-    """Seconds, the most MiB of memory, and the status."""
+    """Seconds of processor time, the most MiB of memory, and the status."""
     with open(path, "rb") as text, open(os.devnull, "wb") as out:
-        start = time.perf_counter()
         child = subprocess.Popen([PROGRAM, word], stdin=text, stdout=out)
         _, status, used = os.wait4(child.pid, 0)
-        return time.perf_counter() - start, used.ru_maxrss // 1024, os.waitstatus_to_exitcode(status)
+        return used.ru_utime + used.ru_stime, used.ru_maxrss // 1024, os.waitstatus_to_exitcode(status)
 
 
-print("Judging 16 MiB of text, in seconds, beside `osi show` on the same octets\n"
+print("Judging 16 MiB of text, in seconds of processor time, beside `osi show` on the same octets\n"
       f"{processor()}, the best of {RUNS} runs of each in turn. Below \"show / judge\" stands its speed divided by that of show.")
 print(f"{'capture':>32} {'judge':>8} {'MiB used':>8} {'show':>8} {'show / judge':>12}")
 for name, text in texts():

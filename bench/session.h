@@ -19,6 +19,8 @@ struct session {
     int answers;
     /* The most octets of a TSDU that this side sends; 0 for no limit. */
     uint16_t limit;
+    /* How much data one TSDU has room for: 0 while no data may be sent. */
+    size_t room;
 };
 
 /* User data of an indication, and the block that holds it, which the user frees. */
@@ -144,8 +146,15 @@ static int fits(const struct session *s, size_t octets)
     return s->limit == 0 || octets <= s->limit;
 }
 
-/* Data beyond the limit is refused: these sessions don't send it in parts. */
-static inline enum error may_data(const struct session *s, struct slice data)
+/* Counts how much data one TSDU has room for, when the phase, the tokens or the limit have changed. */
+static void count_room(struct session *s)
+{
+    const size_t most = s->limit == 0 ? MOST_DATA : s->limit < DATA_FRONT ? 0 : s->limit - DATA_FRONT;
+    s->room = s->phase == READY && has_right(s, DATA_TOKEN) ? most : 0;
+}
+
+/* The error of a call for data that has no room. */
+static __attribute__((noinline)) enum error no_data(const struct session *s, struct slice data)
 {
     if (s->phase == ABORTING || s->phase == ENDED)
         return CALL_ENDED;
@@ -153,9 +162,13 @@ static inline enum error may_data(const struct session *s, struct slice data)
         return BAD_STATE;
     if (!has_right(s, DATA_TOKEN))
         return TOKEN_NOT_HELD;
-    if (data.length == 0)
-        return EMPTY;
-    return data.length > MOST_DATA || !fits(s, DATA_FRONT + data.length) ? TOO_LONG : OK;
+    return data.length == 0 ? EMPTY : TOO_LONG;
+}
+
+/* Data beyond the limit is refused: these sessions don't send it in parts. */
+static inline enum error may_data(const struct session *s, struct slice data)
+{
+    return data.length != 0 && data.length <= s->room ? OK : no_data(s, data);
 }
 
 static inline enum error may_minor(const struct session *s, struct slice data)
@@ -220,6 +233,7 @@ static enum error abort_by(struct session *s, enum fault fault, uint8_t si, stru
     t->first.si = si;
     s->phase = ABORTING;
     s->held = 0;
+    count_room(s);
     return OK;
 }
 
@@ -243,71 +257,118 @@ static enum error show(struct indication *i, enum shown kind, struct slice data,
     return OK;
 }
 
-static enum error take_unit(struct session *s, const struct unit *u, uint8_t **memory, struct taken *t)
+static enum error take_data(struct session *s, struct slice data, uint8_t **memory, struct taken *t)
+{
+    if ((s->phase != READY && s->phase != RELEASING) || s->held & DATA_TOKEN)
+        return abort_by(s, NONE, 1, t);
+    return show(&t->first, SHOWN_DATA, data, memory);
+}
+
+static enum error take_minor(struct session *s, uint32_t number, int confirm, struct slice data, uint8_t **memory, struct taken *t)
 {
     enum error e;
+    if (s->phase != READY || !(s->units & 0x08) || s->held & (DATA_TOKEN | MINOR_TOKEN) || number != s->next)
+        return abort_by(s, NONE, 49, t);
+    e = show(&t->first, SHOWN_MINOR, data, memory);
+    if (e)
+        return e;
+    t->first.number = number;
+    t->first.confirm = confirm;
+    if (!s->answers)
+        s->confirmed = s->next;
+    s->next += 1;
+    s->answers = 1;
+    return OK;
+}
+
+static enum error take_confirmation(struct session *s, uint32_t number, struct slice data, uint8_t **memory, struct taken *t)
+{
+    enum error e;
+    if ((s->phase != READY && s->phase != MAJOR_ASKED && s->phase != RELEASING) || !(s->units & 0x08))
+        return abort_by(s, NONE, 50, t);
+    if (s->answers || s->confirmed > number || number + (s->phase == MAJOR_ASKED) >= s->next)
+        return abort_by(s, NONE, 50, t);
+    e = show(&t->first, SHOWN_CONFIRMED, data, memory);
+    if (e)
+        return e;
+    t->first.number = number;
+    s->confirmed = number + 1;
+    return OK;
+}
+
+static enum error take_unit(struct session *s, const struct unit *u, uint8_t **memory, struct taken *t)
+{
     switch (u->si) {
-    case 1:
-        if (s->phase != READY && s->phase != RELEASING)
-            return abort_by(s, NONE, 1, t);
-        if (s->held & DATA_TOKEN)
-            return abort_by(s, NONE, 1, t);
-        return show(&t->first, SHOWN_DATA, u->information, memory);
-    case 49:
-        if (s->phase != READY || !(s->units & 0x08) || s->held & (DATA_TOKEN | MINOR_TOKEN) || u->number != s->next)
-            return abort_by(s, NONE, 49, t);
-        e = show(&t->first, SHOWN_MINOR, u->data, memory);
-        if (e)
-            return e;
-        t->first.number = u->number;
-        t->first.confirm = !(u->there & BIT(SYNC) && u->sync);
-        if (!s->answers)
-            s->confirmed = s->next;
-        s->next += 1;
-        s->answers = 1;
-        return OK;
-    case 50:
-        if ((s->phase != READY && s->phase != MAJOR_ASKED && s->phase != RELEASING) || !(s->units & 0x08))
-            return abort_by(s, NONE, 50, t);
-        if (s->answers || s->confirmed > u->number || u->number + (s->phase == MAJOR_ASKED) >= s->next)
-            return abort_by(s, NONE, 50, t);
-        e = show(&t->first, SHOWN_CONFIRMED, u->data, memory);
-        if (e)
-            return e;
-        t->first.number = u->number;
-        s->confirmed = u->number + 1;
-        return OK;
-    default:
-        return abort_by(s, NONE, u->si, t);
+    case 1: return take_data(s, u->information, memory, t);
+    case 49: return take_minor(s, u->number, !(u->there & BIT(SYNC) && u->sync), u->data, memory, t);
+    case 50: return take_confirmation(s, u->number, u->data, memory, t);
+    default: return abort_by(s, NONE, u->si, t);
     }
 }
 
-/* Reads a TSDU and takes its units, the token item in front after the others. `memory` is the block in which the TSDU lies, or
-   NULL if its octets are lent. If an indication got the block, it is NULL afterwards. */
-static enum error take(struct session *s, const uint8_t *octets, size_t length, uint8_t **memory, struct taken *t)
+/* The token item in front, which acts after the other units. */
+static enum error take_tokens(struct session *s, const struct unit *u, struct taken *t)
+{
+    if (u->category != 0 || !(u->there & BIT(TOKENS)) || u->tokens == 0)
+        return OK;
+    if (u->tokens & ~s->available || u->tokens & s->held)
+        return abort_by(s, NONE, u->si, t);
+    t->first.tokens = u->tokens;
+    s->held |= u->tokens;
+    count_room(s);
+    return OK;
+}
+
+/* Reads any TSDU and takes its units. It stands apart, since its units need much room on the stack. */
+static __attribute__((noinline)) enum error take_units(struct session *s, const uint8_t *octets, size_t length, uint8_t **memory,
+                                                       struct taken *t)
 {
     struct unit units[MOST_UNITS];
     size_t count;
+    enum error e;
     struct failed f = read_units(units, &count, octets, length);
-    memset(t, 0, sizeof *t);
     if (f.fault)
         return abort_by(s, f.fault, 0, t);
     if (s->phase == ABORTING || s->phase == ENDED)
         return OK;
     for (size_t i = 1; i < count; i++) {
-        enum error e;
         if (s->phase == RESTARTING && units[i].si != 53 && units[i].si != 34)
             continue;
         e = take_unit(s, &units[i], memory, t);
         if (e || t->first.kind == SHOWN_ABORT)
             return e;
     }
-    if (units[0].category == 0 && units[0].there & BIT(TOKENS) && units[0].tokens) {
-        if (units[0].tokens & ~s->available || units[0].tokens & s->held)
-            return abort_by(s, NONE, units[0].si, t);
-        t->first.tokens = units[0].tokens;
-        s->held |= units[0].tokens;
-    }
-    return units[0].category == 1 ? take_unit(s, &units[0], memory, t) : OK;
+    e = take_tokens(s, &units[0], t);
+    return e == OK && units[0].category == 1 ? take_unit(s, &units[0], memory, t) : e;
+}
+
+/* The number of a MIP or an MIA that has no other parameter, after a GT that names no token. */
+static int plain_number(const uint8_t *octets, size_t length, uint32_t *number)
+{
+    const size_t digits = length - 6;
+    const struct slice value = {octets + 6, digits};
+    if (length < 7 || length > 12 || octets[0] != 1 || octets[1] != 0)
+        return 0;
+    return octets[3] == digits + 2 && octets[4] == 42 && octets[5] == digits && number_in(value, number);
+}
+
+/* Takes a TSDU. Whole data, points and confirmations that have only a number are read by their first octets, and any other TSDU
+   by its units. `memory` is the block in which the TSDU lies, or NULL if its octets are lent. If an indication got the block, it
+   is NULL afterwards. */
+static enum error take(struct session *s, const uint8_t *octets, size_t length, uint8_t **memory, struct taken *t)
+{
+    static const struct slice nothing = {(const uint8_t *)"", 0};
+    uint32_t number;
+    memset(t, 0, sizeof *t);
+    /* The phases from Restarting on take none of these. */
+    if (s->phase >= RESTARTING || length < DATA_FRONT)
+        return take_units(s, octets, length, memory, t);
+    if (memcmp(octets, "\1\0\1", DATA_FRONT) == 0)
+        return take_data(s, (struct slice){octets + DATA_FRONT, length - DATA_FRONT}, memory, t);
+    if (octets[2] == 49 && plain_number(octets, length, &number))
+        return take_minor(s, number, 1, nothing, memory, t);
+    if (octets[2] == 50 && plain_number(octets, length, &number))
+        return take_confirmation(s, number, nothing, memory, t);
+    return take_units(s, octets, length, memory, t);
 }
 #endif

@@ -5,7 +5,7 @@ cd "$(dirname "$0")/.."
 make >&2
 mkdir -p bench/out
 python3 - bench/out <<'P'
-import os, subprocess, sys, time
+import os, subprocess, sys
 sys.dont_write_bytecode = True
 sys.path.insert(0, "bench")
 from processor import processor
@@ -23,15 +23,14 @@ TEXTS = {
 
 
 def timed(job, path):
-    """Seconds, the most MiB of memory, and the status."""
+    """Seconds of processor time, the most MiB of memory, and the status."""
     with open(path, "rb") as text, open(os.devnull, "wb") as out:
-        start = time.perf_counter()
         child = subprocess.Popen(job, stdin=text, stdout=out)
         _, status, used = os.wait4(child.pid, 0)
-        return time.perf_counter() - start, used.ru_maxrss // 1024, os.waitstatus_to_exitcode(status)
+        return used.ru_utime + used.ru_stime, used.ru_maxrss // 1024, os.waitstatus_to_exitcode(status)
 
 
-print("Listing 16 MiB of text, in seconds, beside `xxd -r -p`, which reads the digits and no more\n"
+print("Listing 16 MiB of text, in seconds of processor time, beside `xxd -r -p`, which reads the digits and no more\n"
       f"{processor()}, the best of {RUNS} runs of each in turn. Below \"ours / xxd\" stands our speed divided by that of xxd: more"
       " is better.")
 print(f"{'packets':>24} {'ours':>8} {'MB/s':>8} {'MiB used':>8} {'xxd':>8} {'ours / xxd':>10}")

@@ -124,6 +124,7 @@ static void open_stack(struct stack *s, size_t connections, bool class_two, bool
         session->units = 0x0009;
         session->available = DATA_TOKEN | MINOR_TOKEN;
         session->held = is_caller ? DATA_TOKEN | MINOR_TOKEN : 0;
+        count_room(session);
     }
 }
 #endif

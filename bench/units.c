@@ -276,6 +276,31 @@ static inline uint64_t with_fault(uint64_t sum, struct outcome o)
     return sum * 31 + o.fault + 53 * o.at;
 }
 
+/* Whether a packet is one DT of class 0 or of class 2, whose user data is all that follows its header. Such packets are read apart
+   from others, and once. */
+static inline int is_one_data0(const uint8_t *packet, size_t n)
+{
+    return n >= 3 && packet[0] == 2 && packet[1] == 0xF0;
+}
+
+static inline int is_one_data2(const uint8_t *packet, size_t n)
+{
+    return n >= 5 && packet[0] == 4 && packet[1] == 0xF0;
+}
+
+static inline uint64_t with_one_data0(uint64_t sum, const uint8_t *packet, size_t n)
+{
+    struct unit u = {.kind = DT0, .end = packet[2] >> 7, .user = packet + 3, .user_length = n - 3};
+    return with_unit(sum, &u);
+}
+
+static inline uint64_t with_one_data2(uint64_t sum, const uint8_t *packet, size_t n)
+{
+    struct unit u = {.kind = DT2, .destination = reference(packet + 2), .end = packet[4] >> 7, .number = packet[4] & 127,
+                     .user = packet + 5, .user_length = n - 5};
+    return with_unit(sum, &u);
+}
+
 /* The fault of a packet, or GOOD: what `read_units` answers before it yields the units. */
 static inline struct outcome check_packet(const uint8_t *packet, size_t n)
 {
@@ -327,7 +352,8 @@ __attribute__((noinline)) static uint64_t read_twice(const uint8_t *packets, siz
 {
     uint64_t sum = 0;
     for (size_t i = 0; i < count && lengths[i] <= octets; i++) {
-        sum = packet_twice(sum, packets, lengths[i]);
+        sum = is_one_data0(packets, lengths[i]) ? with_one_data0(sum, packets, lengths[i])
+            : is_one_data2(packets, lengths[i]) ? with_one_data2(sum, packets, lengths[i]) : packet_twice(sum, packets, lengths[i]);
         packets += lengths[i];
         octets -= lengths[i];
     }
@@ -339,7 +365,8 @@ __attribute__((noinline)) static uint64_t read_once(const uint8_t *packets, size
 {
     uint64_t sum = 0;
     for (size_t i = 0; i < count && lengths[i] <= octets; i++) {
-        sum = packet_once(sum, packets, lengths[i]);
+        sum = is_one_data0(packets, lengths[i]) ? with_one_data0(sum, packets, lengths[i])
+            : is_one_data2(packets, lengths[i]) ? with_one_data2(sum, packets, lengths[i]) : packet_once(sum, packets, lengths[i]);
         packets += lengths[i];
         octets -= lengths[i];
     }
