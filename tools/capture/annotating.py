@@ -26,7 +26,7 @@ def add_words(made):
 
 def comments_of(report):
     """The comments on a stream: the number of a frame and a text, in rising order of frames."""
-    found = [(each.place[0], each.text) for each in report.ended if each.place and each.place[0]]
+    found = [(each.place[0], each.text) for each in report.ended if each.how != "open" and each.place and each.place[0]]
     if report.why:
         first = next((piece.frame for _, piece in report.stream.by_side()), None)
         return sorted(found + ([(first, f"not judged: {report.why}")] if first else []))
@@ -58,7 +58,10 @@ def written(path, output, comments):
     for frame, text in comments:
         by_frame[frame] = f"{by_frame[frame]}\n{MARK}{text}" if frame in by_frame else MARK + text
     words = [word for frame, text in by_frame.items() for word in ("-a", f"{frame}:{text}")]
-    room, made = tempfile.mkstemp(prefix=".osi-capture-", dir=os.path.dirname(output) or ".")
+    try:
+        room, made = tempfile.mkstemp(prefix=".osi-capture-", dir=os.path.dirname(output) or ".")
+    except OSError as error:
+        raise BadInput(f"{output}: {error.strerror}") from None
     os.close(room)
     try:
         done = subprocess.run(["editcap", "-F", "pcapng", *words, path, made], capture_output=True, text=True, check=False)

@@ -34,8 +34,8 @@ class Direction:
 
     def __init__(self):
         self.next, self.count, self.waiting, self.held = None, 0, [], 0
-        # Whether any segment and the first one (SYN) are there; whether `next` is only what the far side acknowledged first.
-        self.is_here = self.has_first = self.is_presumed = False
+        # Whether any segment and the first one (SYN) are there.
+        self.is_here = self.has_first = False
         # Where the direction ends (FIN), how far it was sent, and the frame that first told of octets that have not passed.
         self.last, self.sent, self.beyond = None, 0, None
         # The frames and times at which it was ended or reset, and how many octets of a frame were captured, if not all.
@@ -45,13 +45,19 @@ class Direction:
         """The place of a sequence number."""
         return self.count + distance(self.next, number)
 
+    def begin(self, segment):
+        """Takes the first segment of the connection."""
+        self.is_here = self.has_first = True
+        self.next = (segment.sequence + 1) % SPACE
+
+    def presume(self, numbers):
+        """Takes the lowest of some sequence numbers as that of the first octet, if there are any."""
+        if numbers:
+            self.next = min(numbers, key=lambda number: distance(numbers[0], number))
+
     def note(self, segment):
         """Notes what a segment says besides its octets."""
         self.is_here = True
-        if segment.is_first and not self.has_first:
-            self.has_first = True
-            if self.count == 0:
-                self.next, self.is_presumed = (segment.sequence + 1) % SPACE, False
         if segment.is_reset:
             self.reset = self.reset or (segment.frame, segment.time)
         if self.next is None and (segment.octets or segment.is_last):
@@ -66,7 +72,7 @@ class Direction:
     def hear(self, number, frame):
         """Notes that octets up to a sequence number were sent."""
         if self.next is None:
-            self.next, self.is_presumed = number % SPACE, True
+            self.next = number % SPACE
         sent = self.place(number)
         if sent > self.sent:
             self.sent = sent
@@ -76,8 +82,6 @@ class Direction:
     def keep(self, segment):
         """Keeps the octets of a segment until they pass, unless they have."""
         start = (segment.sequence + segment.is_first) % SPACE
-        if self.is_presumed and self.count == 0 and distance(self.next, start) < 0:
-            self.next = start
         place = self.place(start)
         if place + len(segment.octets) > self.count:
             heapq.heappush(self.waiting, Chunk(place, segment))
@@ -106,7 +110,7 @@ class Direction:
     def needed(self, number):
         """How many octets have to pass before what acknowledges this sequence number. (The end of a direction has a number, too.)"""
         if self.next is None:
-            self.next, self.is_presumed = number, True
+            self.next = number
         place = self.place(number)
         return place if self.last is None else min(place, self.last)
 

@@ -11,6 +11,8 @@ SIDES = ("left", "right")
 CONNECT_REQUEST, CONNECT_CONFIRM = 0xE0, 0xD0
 # The codes of X.224 of all classes, without their low half (section 13.7 and others).
 CODES = (0x10, 0x20, 0x50, 0x60, 0x70, 0x80, 0xC0, 0xD0, 0xE0, 0xF0)
+# How many segments are looked at together, if those that begin the connection aren't among them.
+EARLY = 32
 # A direction in which nothing was sent counts as one that begins with a packet.
 FRONT = b"\3\0\0\7"
 
@@ -41,25 +43,47 @@ class Gap:
 
 
 class Stream:
-    """A TCP connection: `pieces` in their order, each with the end that sent it. `ends` begin with that which opened it, if known."""
+    """A TCP connection: `pieces` in their order, each with the end that sent it. The first segments are looked at together, since those
+    that begin the connection (SYN) may be late."""
 
     def __init__(self, number, ends):
         self.number, self.ends, self.pieces, self.opener = number, ends, [], None
         self.directions = {end: Direction() for end in ends}
         self.is_over = self.is_other = False
-        self.last = None
+        self.last, self.early = None, []
 
     def take(self, segment):
         """Takes the next segment of the capture."""
         own, far = self.directions.get(segment.source), self.directions.get(segment.target)
         if own is None or far is None or own is far:
             return
-        own.note(segment)
+        self.last = segment.frame, segment.time
+        if self.early is None:
+            self.go_on(segment, own, far)
+            return
+        self.early.append(segment)
         if segment.is_first:
             self.opener = segment.target if segment.is_answer else segment.source
+            own.begin(segment)
+        if len(self.early) >= EARLY or (own.has_first and far.has_first):
+            self.settle()
+
+    def settle(self):
+        """Finds where directions begin whose first segment isn't there, and takes the first segments."""
+        early, self.early = self.early or [], None
+        for end, far in (self.ends, self.ends[::-1]):
+            if not self.directions[end].has_first:
+                sent = [segment.sequence for segment in early if segment.source == end and segment.octets]
+                heard = [segment.acknowledged for segment in early if segment.source == far and segment.acknowledged is not None]
+                self.directions[end].presume(sent + heard if self.directions[far].has_first else sent or heard)
+        for segment in early:
+            self.go_on(segment, self.directions[segment.source], self.directions[segment.target])
+
+    def go_on(self, segment, own, far):
+        """Takes a segment, now that it is known where both directions begin."""
+        own.note(segment)
         if segment.acknowledged is not None:
             far.hear(segment.acknowledged, segment.frame)
-        self.last = segment.frame, segment.time
         if self.is_over or self.is_other:
             return
         if segment.octets:
@@ -101,6 +125,8 @@ class Stream:
 
     def finish(self):
         """After the last segment: lets pass what waited for the end of the other direction alone."""
+        if self.early is not None:
+            self.settle()
         for end, far in (self.ends, self.ends[::-1]):
             chunk, other = self.directions[end].head(), self.directions[far]
             if chunk and other.last is None and not other.waiting and other.needed(chunk.acknowledged) == other.count + 1:

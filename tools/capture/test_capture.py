@@ -374,6 +374,7 @@ class Joining(unittest.TestCase):
         stream = streams.Stream(0, self.ENDS)
         for each in segments:
             stream.take(self.segment(*each))
+        stream.settle()
         return stream
 
     def taken(self, *segments):
@@ -389,7 +390,7 @@ class Joining(unittest.TestCase):
 
     def test_octets_that_passed_are_not_kept(self):
         direction = self.stream((5, b"abcd"), (5, b"ab"), (3, b"xx"), (20, b"z"), (7, b"cd")).directions[self.ENDS[0]]
-        self.assertEqual(([(chunk.start, chunk.octets) for chunk in direction.waiting], direction.held), ([(15, b"z")], 1))
+        self.assertEqual(([(chunk.start, chunk.octets) for chunk in direction.waiting], direction.held), ([(17, b"z")], 1))
 
     def test_what_the_far_end_acknowledges_was_sent(self):
         for acknowledged, lost in ((7, 0), (8, 0), (10, 3)):
@@ -417,6 +418,7 @@ class Joining(unittest.TestCase):
     def test_a_segment_of_another_connection_is_left_out(self):
         stream, stray = streams.Stream(0, (("a", 1), ("c", 2))), self.segment(5, b"ab")
         stream.take(stray)
+        stream.finish()
         self.assertEqual((stream.pieces, stream.directions["a", 1].next), ([], None))
 
     def test_a_gap_holds_back_what_comes_after_it(self):

@@ -9,7 +9,7 @@ from unittest import mock
 
 from ladders import script, tapped, test_judged, transcript
 
-from . import program, tshark, watching as watch
+from . import program, streams, tshark, watching as watch
 from .test_judging import CURED, DISPUTES, ENDED, LAST
 
 # The package for Python over the library that `make lib` built, if it did.
@@ -44,11 +44,19 @@ class Rows:
         return self.row(side, flags=tshark.FIN | tshark.ACK)
 
 
+def without_beginnings(test):
+    """Lets streams go on at once, though the segments that begin the connection aren't there."""
+    patched = mock.patch.object(streams, "EARLY", 1)
+    patched.start()
+    test.addCleanup(patched.stop)
+
+
 class Watching(unittest.TestCase):
     """Streams as tshark prints them, without tshark and without `osi`."""
 
     def setUp(self):
         self.watching = watch.Watching(102, lambda text: test_judged.answer(None, "judge", text))
+        without_beginnings(self)
 
     def printed(self, *rows, is_end=False):
         """What is printed of some more segments, each followed by a look at the streams; not how a stream ended."""
@@ -171,6 +179,7 @@ class ByLibrary(unittest.TestCase):
 
     def setUp(self):
         self.watching = watch.Watching(102)
+        without_beginnings(self)
 
     printed = Watching.printed
 
