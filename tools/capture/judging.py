@@ -3,7 +3,7 @@ import json
 import os
 import sys
 
-from ladders import drawing, judged, script, tapped, transcript, verdicts
+from ladders import drawing, judged, script, tapped, verdicts
 from ladders.program import Progress
 
 from . import listing, middle, outcome, reports, texts, tshark
@@ -41,8 +41,10 @@ def add_words(made):
 def add_streams(made):
     """Adds the options that say which streams are judged."""
     made.add_argument("--port", type=int, default=PORT, help="the port of TPKT, for streams without a CR (102)")
-    made.add_argument("--stream", type=int, metavar="N", action="append", help="judge this stream, by its number in tshark; and others so named")
-    made.add_argument("--host", metavar="ADDRESS", action="append", default=[], help="judge the streams of this address; and of others so named")
+    made.add_argument("--stream", type=int, metavar="N", action="append",
+                      help="judge this stream, by its number in tshark; and others so named")
+    made.add_argument("--host", metavar="ADDRESS", action="append", default=[],
+                      help="judge the streams of this address; and of others so named")
 
 
 def streams_of(name, asked):

@@ -7,8 +7,8 @@ from .streams import SIDES
 # X.224 section 13.5.3, and X.225 section 8.3.5; docs/TROUBLESHOOTING.md says what to do.
 OF_TRANSPORT = {0: "no reason is given", 1: "congestion", 2: "nobody is attached to this address", 3: "the address is unknown",
                 128: "by the session layer", 129: "congestion", 130: "none of the classes is supported", 131: "a reference is used twice",
-                132: "the references don't match", 133: "protocol error", 135: "the references are used up", 136: "the connection is refused on this network connection",
-                138: "a header or parameter has a wrong length"}
+                132: "the references don't match", 133: "protocol error", 135: "the references are used up",
+                136: "the connection is refused on this network connection", 138: "a header or parameter has a wrong length"}
 OF_SESSION = {0: "by the called user", 1: "by the called user: congestion", 2: "by the called user, with data",
               129: "the session selector is unknown", 130: "nobody is attached to the session selector", 131: "congestion",
               132: "no common version of the protocol", 133: "no reason is given", 134: "a restriction of the implementation"}

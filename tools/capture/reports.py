@@ -54,8 +54,7 @@ def limit_of(judged):
     """Why a stream isn't judged to its end; or None."""
     if judged is None or not judged.limit:
         return None
-    gap = judged.gap
-    return {"text": judged.limit, "side": gap.side if gap else None, "octets": gap.octets if gap else None, "frame": gap.frame if gap else None}
+    return {"text": judged.limit, **{name: getattr(judged.gap, name, None) for name in ("side", "octets", "frame")}}
 
 
 def ended_of(ended, begin):

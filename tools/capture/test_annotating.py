@@ -104,7 +104,8 @@ class Captures(Room):
             self.assertIn(said, ran)
 
     def test_the_plugin_does_nothing_in_tshark(self):
-        ran = subprocess.run(["tshark", "-X", f"lua_script:{PLUGIN}", "-r", self.pcap(), "-c", "1"], capture_output=True, text=True, check=True)
+        words = ["tshark", "-X", f"lua_script:{PLUGIN}", "-r", self.pcap(), "-c", "1"]
+        ran = subprocess.run(words, capture_output=True, text=True, check=True)
         self.assertNotIn("lua", ran.stderr.lower())
 
 

@@ -1,6 +1,5 @@
 """Tests of osi-capture, over captures that tshark's own tools make: python3 -m unittest discover -s tools -t tools"""
 import contextlib
-import glob
 import io
 import json
 import os

@@ -48,9 +48,11 @@ class Frames:
         sequence = self.next[side] if sequence is None else sequence
         acknowledged = self.next[far] if acknowledged is None else acknowledged
         acknowledged = acknowledged if flags & ACK else 0
-        head = struct.pack(">HHIIBBHHH", self.ports[side], self.ports[far], sequence % SPACE, acknowledged % SPACE, 5 << 4, flags, 65_535, 0, 0)
+        head = struct.pack(">HHIIBBHHH", self.ports[side], self.ports[far], sequence % SPACE, acknowledged % SPACE, 5 << 4, flags,
+                           65_535, 0, 0)
         if len(self.addresses[side]) == 16:
-            return struct.pack(">IHBB", 6 << 28, len(head) + len(octets), 6, 64) + self.addresses[side] + self.addresses[far] + head + octets
+            first = struct.pack(">IHBB", 6 << 28, len(head) + len(octets), 6, 64)
+            return first + self.addresses[side] + self.addresses[far] + head + octets
         whole = struct.pack(">BBHHHBBH4s4s", 0x45, 0, 20 + len(head) + len(octets), 0, 0x4000, 64, 6, 0, self.addresses[side],
                             self.addresses[far])
         return whole[:10] + struct.pack(">H", pcap.checksum(whole)) + whole[12:] + head + octets

@@ -166,6 +166,50 @@ class Gaps(unittest.TestCase):
         self.assertRegex(report.why, "^the first [0-9]+ octets of right are lost, at frame [0-9]+$")
 
 
+class Turns:
+    """Two ends that give the data token to each other, seen between them: each sends only when it has received the token. Segments have
+    the times at which they pass the tap, and any number of them may be sent again with what its sender has received by then."""
+
+    def __init__(self, chance):
+        self.chance, self.frames, self.now, self.seen = chance, Frames(mtu=chance.choice((1, 3, 20, 1_400))), 0.0, []
+        self.late = {side: chance.random() + 0.1 for side in streams.SIDES}
+        self.frames.begin()
+        half = [data(bytes([code]) + bytes.fromhex("0c050613010016010214020001")) for code in (13, 14)]
+        for side, octets in (("left", CR), ("right", CC), ("left", half[0]), ("right", half[1])):
+            self.turn(side, octets)
+        for place in range(chance.randrange(3, 8)):
+            self.turn(streams.SIDES[place % 2], *[DT] * chance.randrange(3), data(bytes.fromhex("0103100101")))
+
+    def turn(self, side, *packets):
+        """One end sends; the other one has received all of it before its own turn."""
+        first = len(self.frames.frames)
+        self.frames.send(side, *packets)
+        for frame in self.frames.frames[first:]:
+            for late in (0.0, *([self.chance.random() * 3] if self.chance.random() < 0.2 else [])):
+                self.seen.append((self.now + self.late[side] + late, len(self.seen), frame))
+            self.now += self.chance.random() / 4
+        self.now += sum(self.late.values()) + self.chance.random()
+
+    def captured(self, disorder=0, loss=0.0):
+        """The frames as a tap writes them."""
+        frames = self.frames.frames[:3] + [frame for _, _, frame in sorted(self.seen)]
+        order = sorted(range(len(frames)), key=lambda place: place + self.chance.random() * disorder)
+        return [frames[place] for place in order if self.chance.random() >= loss]
+
+
+class Innocents(unittest.TestCase):
+    """No end is blamed for what the network and the tap did."""
+
+    @needs_osi
+    def test_nobody_is_blamed_for_disorder_copies_and_losses(self):
+        for seed in range(16):
+            chance = random.Random(seed)
+            for disorder, loss, wanted in ((0, 0, (0,)), (6, 0, (0,)), (6, 0.1, (0, 3))):
+                frames = Turns(chance).captured(disorder, loss)
+                found = judged(frames)
+                self.assertIn(found.status, wanted, (seed, disorder, loss, found.lines()))
+
+
 class Middles(unittest.TestCase):
     """A stream that began before the capture."""
 

@@ -187,7 +187,8 @@ class ByLibrary(unittest.TestCase):
         rows = Rows().of("restart")
         self.assertEqual(self.printed(*rows[:12]), "")
         told = self.printed(rows[12])
-        self.assertTrue(told.startswith(f"{NAME}: frame 13, 1.500000 seconds: left broke the protocol first, in its packet at octet 143."), told)
+        said = f"{NAME}: frame 13, 1.500000 seconds: left broke the protocol first, in its packet at octet 143."
+        self.assertTrue(told.startswith(said), told)
         self.assertEqual(self.printed(*rows[13:], is_end=True), "")
         self.assertEqual((self.watching.status(), self.watching.watched), (1, {}))
 

@@ -128,7 +128,8 @@ def head(page):
     page.add(f'<text class="head" x="{page.width - TEXT}" y="50">right: the called end</text>')
     for side, place, anchor in (("left", page.left, "end"), ("right", page.width - TEXT, "start")):
         if picture.ends.get(side):
-            page.add(f'<text class="muted" x="{place}" y="65" text-anchor="{anchor}">{escape(cut(picture.ends[side], TEXT_COLUMNS))}</text>')
+            end = escape(cut(picture.ends[side], TEXT_COLUMNS))
+            page.add(f'<text class="muted" x="{place}" y="65" text-anchor="{anchor}">{end}</text>')
     for connection in picture.connections:
         for side in ("left", "right"):
             x = page.x(side, connection)
@@ -246,7 +247,8 @@ def draw_pause(page, row, y):
     if row.pause:
         middle, above, half = (page.edge + page.width) / 2, y - PAUSE + 2, 4 * len(row.pause)
         page.add(f'<g class="plain"><path class="shaft" d="M{page.left + 10} {above}H{middle - half}M{middle + half} {above}'
-                 f'H{page.width - TEXT - 10}"/></g><text class="muted" x="{middle}" y="{above + 4}" text-anchor="middle">{row.pause}</text>')
+                 f'H{page.width - TEXT - 10}"/></g>'
+                 f'<text class="muted" x="{middle}" y="{above + 4}" text-anchor="middle">{row.pause}</text>')
 
 
 def mark_of(page, row, y):

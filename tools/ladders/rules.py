@@ -10,9 +10,9 @@ UNITS = {"Connect": ("a connect request (CN)", "7.1"), "Accept": ("an acceptance
          "MajorConfirm": ("the confirmation of a major point (MAA)", "7.23"), "Restart": ("a restart (RS)", "7.24"),
          "RestartConfirm": ("the answer to a restart (RA)", "7.25")}
 # The same below the session.
-BELOW = {"TSDU": "a TSDU", "TPKT": "octets", "TPDU": "a transport unit", "DT": "a data unit of transport", "DR": "a disconnect request (DR)",
-         "DC": "a disconnect confirm (DC)", "CR": "a connect request of transport (CR)", "CC": "a connect confirm of transport (CC)",
-         "AK": "an acknowledgement (AK)", "ER": "an error report (ER)"}
+BELOW = {"TSDU": "a TSDU", "TPKT": "octets", "TPDU": "a transport unit", "DT": "a data unit of transport (DT)",
+         "DR": "a disconnect request (DR)", "DC": "a disconnect confirm (DC)", "CR": "a connect request of transport (CR)",
+         "CC": "a connect confirm of transport (CC)", "AK": "an acknowledgement (AK)", "ER": "an error report (ER)"}
 SENT = {**{name: text for name, (text, _) in UNITS.items()}, **BELOW}
 
 # Why a session may not send a unit, and the clauses of X.225 beside that of the unit; `{..}` is filled from the state of the side.

@@ -14,12 +14,14 @@ NAMES = ("restart", "restart_cured")
 OPENED = "left 1 broke packet 41 {0}\nleft 1 knew 1 of 1 phase {1}\nleft broke the protocol first, packet 41: {0}\n"
 # What `osi judge` prints of a break, and the sentence for it.
 SENTENCES = (
-    ("Data TokenNotHeld", "Ready held 54 next 1 below 1 lowest 1", "It sent data (DT); it did not hold the data token (X.225, 7.11 and 5.8)."),
+    ("Data TokenNotHeld", "Ready held 54 next 1 below 1 lowest 1",
+     "It sent data (DT); it did not hold the data token (X.225, 7.11 and 5.8)."),
     ("Minor TokenNotHeld", "Ready held 00 next 1 below 1 lowest 1",
      "It sent a minor synchronization point (MIP); it did not hold the tokens for that (X.225, 7.20 and 5.8)."),
     ("Minor TokenNotHeld", "Ready held 01 next 1 below 1 lowest 1",
      "It sent a minor synchronization point (MIP); it did not hold the minor token (X.225, 7.20 and 5.8)."),
-    ("Give TokenNotHeld", "Ready held 54 next 1 below 1 lowest 1", "It sent tokens (GT); it did not hold the tokens for that (X.225, 7.16 and 5.8)."),
+    ("Give TokenNotHeld", "Ready held 54 next 1 below 1 lowest 1",
+     "It sent tokens (GT); it did not hold the tokens for that (X.225, 7.16 and 5.8)."),
     ("Data BadState", "MajorAsked held 55 next 2 below 1 lowest 1",
      "It sent data (DT); a session may not send that in the phase MajorAsked (X.225, 7.11 and Annex A)."),
     ("MinorConfirm BadNumber", "Ready held 00 next 4 below 3 lowest 1",
@@ -29,7 +31,8 @@ SENTENCES = (
      "It sent an acceptance (AC); it puts tokens on a side that was not asked for (X.225, 7.4 and 5.8)."),
     ("Abort NoFault", "Ready held 55 next 4 below 2 lowest 1",
      "It sent an abort (AB); it reports a protocol error, and there had been none (X.225, 7.9)."),
-    ("TSDU UnknownSi", "Ready held 55 next 1 below 1 lowest 1", "It sent a TSDU; it has a unit with an SI that isn't known, or of a functional unit that isn't selected (X.225, 8.2)."),
+    ("TSDU UnknownSi", "Ready held 55 next 1 below 1 lowest 1",
+     "It sent a TSDU; it has a unit with an SI that isn't known, or of a functional unit that isn't selected (X.225, 8.2)."),
     ("AbortAccept NothingToAnswer", "Ready held 55 next 1 below 1 lowest 1",
      "It sent the answer to an abort (AA); there was no abort to answer (X.225, 7.10)."))
 

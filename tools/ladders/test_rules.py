@@ -72,8 +72,8 @@ class Details(unittest.TestCase):
 
     def test_faults_of_a_tsdu(self):
         verdict = told("TSDU", "DuplicateParameter", "left 1 fault 14 DuplicateParameter 21\n")
-        self.assertEqual(verdicts.reason(verdict, "left"), "It sent a TSDU; a parameter in it occurs twice: octet 14 of the TSDU, parameter 21 "
-                                                           "(X.225, 8.2).")
+        said = "It sent a TSDU; a parameter in it occurs twice: octet 14 of the TSDU, parameter 21 (X.225, 8.2)."
+        self.assertEqual(verdicts.reason(verdict, "left"), said)
 
     def test_packets_that_are_cut_off(self):
         self.assertEqual(packets.known_of({"left": b"\3\0\0\x07\2", "right": b""}, "left", 0)["octets"], "1")

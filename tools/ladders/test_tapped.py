@@ -231,7 +231,8 @@ class Networks(Room):
         """Rows whose frames are counted from the first one."""
         found = [re.match(r"(\d+\.\d+ +)(\d+)(?= )", row) for row in rows]
         first = min((int(each[2]) for each in found if each), default=0)
-        return [" ".join((row if not each else f"{each[1]}{int(each[2]) - first}{row[each.end():]}").split()) for row, each in zip(rows, found)]
+        counted = [f"{each[1]}{int(each[2]) - first}{row[each.end():]}" if each else row for row, each in zip(rows, found)]
+        return [" ".join(row.split()) for row in counted]
 
     def with_ends(self, *words):
         """The rows of a picture without that of the addresses."""
