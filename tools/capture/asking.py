@@ -2,13 +2,19 @@
 import argparse
 import errno
 import os
+import shutil
+import stat
 import sys
 import tempfile
 
-from . import streams, tshark
+from . import kinds, streams, tshark
+from .middle import Middle
 from .tshark import BadInput
 
 PORT = 102
+ALONE = "only one direction is here"
+# What came from a pipe, as files that go when the program ends.
+SPOOLED = []
 
 
 class Words(argparse.ArgumentParser):
@@ -37,12 +43,57 @@ def status_of(name, run):
         return 130
 
 
+def local(name):
+    """A file that can be read again: the named one, or a copy of what a pipe or standard input (`-`) has."""
+    if name != "-" and not is_pipe(name):
+        return name
+    copy = tempfile.NamedTemporaryFile(prefix="osi-capture-")
+    SPOOLED.append(copy)
+    try:
+        if name == "-":
+            shutil.copyfileobj(sys.stdin.buffer, copy)
+        else:
+            with open(name, "rb") as pipe:
+                shutil.copyfileobj(pipe, copy)
+    except OSError as error:
+        raise BadInput(f"{shown(name)}: {error.strerror}") from None
+    copy.flush()
+    return copy.name
+
+
+def is_pipe(name):
+    """Whether a name is that of a pipe."""
+    try:
+        return stat.S_ISFIFO(os.stat(name).st_mode)
+    except OSError:
+        return False
+
+
+def shown(name):
+    """The name of a file, as it is shown."""
+    return "standard input" if name == "-" else name
+
+
 def found_in(name, port):
-    """The streams with TPKT of a capture."""
-    found = streams.with_packets(streams.joined(tshark.segments(name)), port)
+    """The streams with TPKT of a capture. `name` may be `-` or a pipe."""
+    path = local(name)
+    every = streams.joined(tshark.segments(path, shown(name)), port)
+    found = [stream for stream in every.values() if carries_packets(stream)]
     if not found:
-        raise BadInput(f"{name}: no TCP stream carries TPKT (--port N names another port than {port})")
+        raise BadInput(f"{shown(name)}: no TCP stream carries TPKT (--port N names another port than {port})")
+    for stream in found:
+        stream.path = path
     return found
+
+
+def carries_packets(stream):
+    """Whether a stream carries TPKT: a side begins with a CR, or it is at the port, and has packets or its beginning looks so."""
+    if stream.is_other or not stream.pieces:
+        return False
+    fronts = [stream.front(end) for end in stream.ends]
+    if any(map(streams.is_connect_request, fronts)):
+        return True
+    return getattr(stream, "is_asked", True) and (any(front[:1] == b"\3" for front in fronts) or Middle(stream).frame is not None)
 
 
 def named(end):
@@ -50,24 +101,56 @@ def named(end):
     return f"{end[0]}:{end[1]}" if "." in end[0] else f"[{end[0]}]:{end[1]}"
 
 
-def found_by(name, port, number):
-    """The streams with TPKT of a capture; only the one with this number, if it is not None."""
+def found_by(name, port, numbers, hosts=()):
+    """The streams with TPKT of a capture; only those with these numbers and of these hosts, if any are named."""
     found = found_in(name, port)
-    wanted = [stream for stream in found if number in (None, stream.number)]
+    missing = set(numbers or ()) - {stream.number for stream in found}
+    if missing:
+        raise BadInput(f"{shown(name)}: stream {min(missing)} carries no TPKT")
+    wanted = [stream for stream in found if (not numbers or stream.number in numbers)
+              and (not hosts or any(end[0] in hosts for end in stream.ends))]
     if not wanted:
-        raise BadInput(f"{name}: stream {number} carries no TPKT")
+        raise BadInput(f"{shown(name)}: no stream of {' or '.join(hosts)} carries TPKT")
     return wanted
 
 
 def chosen(name, port, number):
-    """The stream with a number, or if that is None the only one that can be read whole."""
-    found = found_by(name, port, number)
-    whole = [stream for stream in found if not stream.why_not()]
+    """The stream with a number, or if that is None the only one of which something can be read; from the middle if it began before."""
+    found = found_by(name, port, None if number is None else [number])
+    whole = [stream for stream in found if number is not None or not is_foreign(stream)]
     if not whole:
-        raise BadInput(f"{name}: stream {found[0].number}: {found[0].why_not()}")
+        raise BadInput(f"{shown(name)}: stream {found[0].number}: {why_not(found[0])}")
     if len(whole) > 1:
-        raise BadInput(f"{name}: name one of the streams {', '.join(str(it.number) for it in whole)} by --stream")
-    return whole[0]
+        raise BadInput(f"{shown(name)}: name one of the streams {', '.join(str(it.number) for it in whole)} by --stream")
+    return viewed(whole[0])
+
+
+def viewed(stream):
+    """A stream, from its first packet if it began before the capture."""
+    return stream if not isinstance(stream, streams.Stream) or stream.is_whole() else Middle(stream)
+
+
+def is_foreign(stream):
+    """Whether a stream is of another protocol."""
+    return stream.is_whole() and kinds.of(stream) is not None
+
+
+def why_not(stream):
+    """Why a stream can't be judged at all, or None."""
+    if not isinstance(stream, streams.Stream):
+        return stream.why_not()
+    if stream.is_alone():
+        return ALONE
+    if not stream.is_whole():
+        begun = Middle(stream).frame
+        return f"begins in the middle, at frame {begun}" if begun is not None else "begins in the middle"
+    kind = kinds.of(stream)
+    if kind:
+        return f"{kind}, not a session"
+    gap = stream.gap()
+    if gap and gap.side not in {side for side, _ in stream.by_side()}:
+        return f"the first {gap.many()} of {gap.side} are lost, at frame {gap.frame}"
+    return None
 
 
 def write_all(files):

@@ -1,20 +1,23 @@
 """Judges each TCP stream of a capture that carries TPKT: which side first broke the protocol, by `osi judge`."""
+import json
 import os
 import sys
 
-from ladders import drawing, judged, tapped, transcript, verdicts
+from ladders import drawing, judged, script, tapped, verdicts
 from ladders.program import Progress
 
-from . import listing, streams, texts
-from .asking import PORT, Words, found_by, named, status_of, write_all
+from . import listing, middle, outcome, reports, texts, tshark
+from .asking import PORT, Words, found_by, named, shown as name_shown, status_of, viewed, why_not, write_all, local
 from .streams import SIDES
 from .tshark import BadInput
 
 TEXT = """\
-FILE is a pcap or pcapng, which tshark reads; or a text of hexadecimal digits with both sides, as `osi judge` reads it and
-`osi-capture split` writes it. The status is 0 if all streams were judged and both sides of each kept the protocol, and 1 if not. It is
-2 if nothing was judged, with one line on standard error.
+The status is 0 if every stream was judged to its end and both sides of each kept the protocol, 1 if a side of any broke it, 3 if nobody
+did but not everything could be judged, and 2 if nothing was. FILE is a pcap or pcapng, which tshark
+reads; or a text of hexadecimal digits with both sides, as `osi judge` reads it and `osi-capture split` writes it; or - for one of these
+on standard input.
 """
+KEPT, BROKE, NOTHING, PARTLY = 0, 1, 2, 3
 
 
 def words():
@@ -26,115 +29,238 @@ def words():
 
 def add_words(made):
     """Adds the options: those of scripts/judge and of `osi-capture judge`."""
-    made.add_argument("file", metavar="FILE")
-    made.add_argument("--port", type=int, default=PORT, help="the port of TPKT, for streams without a CR (102)")
-    made.add_argument("--stream", type=int, metavar="N", help="judge this stream alone, by its number in tshark")
+    made.add_argument("files", metavar="FILE", nargs="+")
+    add_streams(made)
     made.add_argument("--show", action="store_true", help="list both directions first, with frames and times")
+    made.add_argument("--upper", action="store_true", help="show what tshark calls the layers above, in the listing and at the end")
+    made.add_argument("--json", action="store_true", help="an object for each stream (docs/judge.schema.json)")
     made.add_argument("--pictures", metavar="DIR", help="draw a ladder of each stream that is judged: DIR/stream-N.svg")
     made.add_argument("--osi", help="the program osi")
 
 
-def streams_of(asked):
-    """The streams that were asked for."""
-    text = texts.read(asked.file)
+def add_streams(made):
+    """Adds the options that say which streams are judged."""
+    made.add_argument("--port", type=int, default=PORT, help="the port of TPKT, for streams without a CR (102)")
+    made.add_argument("--stream", type=int, metavar="N", action="append",
+                      help="judge this stream, by its number in tshark; and others so named")
+    made.add_argument("--host", metavar="ADDRESS", action="append", default=[],
+                      help="judge the streams of this address; and of others so named")
+
+
+def streams_of(name, asked):
+    """The streams of a file that were asked for."""
+    path = local(name)
+    text = texts.read(path)
     if text is not None and not text.is_ordered:
-        raise BadInput(f"{asked.file}: there is no {asked.file}.follow, and its files don't say when octets passed")
+        raise BadInput(f"{name}: there is no {name}.follow, and its files don't say when octets passed")
     if text is not None:
-        return [by_first(text)]
-    return found_by(asked.file, asked.port, asked.stream)
-
-
-def by_first(text):
-    """A text in which left is the side of the first octet, as `osi judge` has it."""
-    if text.parts[0][2] == SIDES[0]:
-        return text
-    return texts.Text([(frame, time, transcript.other(side), octets) for frame, time, side, octets in text.parts])
+        text.number = 0
+        return [text]
+    return found_by(name if path == name else path, asked.port, asked.stream, asked.host)
 
 
 def name_of(stream):
     """A stream by its number, and who called whom."""
     if isinstance(stream, texts.Text):
         return "text"
-    caller = stream.caller() or stream.ends[0]
-    far = next(end for end in stream.ends if end != caller)
-    return f"stream {stream.number} {named(caller)} {named(far)}"
-
-
-def why_not(stream):
-    """Why a stream is not judged, or None."""
-    if not isinstance(stream, texts.Text) and stream.why_not():
-        return stream.why_not()
-    first = next((side for side, _ in stream.by_side()), None)
-    return "the called side sent first" if first == "right" else None
+    left, right = stream.by_end().values()
+    return f"stream {stream.number} {named(left)} {named(right)}"
 
 
 class Judged:
-    """A stream, and the verdict that `osi judge` prints of it."""
+    """A stream, and the verdict that `osi judge` prints of it. `limit` is why it isn't judged to its end, if it isn't."""
 
     def __init__(self, stream, judge):
         self.stream = stream
-        self.pieces = [tapped.Piece(side, piece.octets, piece.frame, piece.time) for side, piece in stream.by_side()]
-        self.verdict = verdicts.printed(judge(tapped.text_of(self.pieces)))
+        self.parts = list(stream.by_side())
+        gap = stream.gap() if hasattr(stream, "gap") else None
+        self.limit = f"judged up to {gap}" if gap else None
+        self.gap = gap
+        self.verdict = verdicts.printed(self.asked(judge))
+
+    @property
+    def pieces(self):
+        """The pieces that are judged, as the ladders have them."""
+        return [tapped.Piece(side, piece.octets, piece.frame, piece.time) for side, piece in self.parts]
+
+    def asked(self, judge):
+        """What `osi judge` prints; of a stream that is longer than it reads, of as much as it reads."""
+        text, longest = tapped.text_of(self.pieces), script.LONGEST
+        if len(text) > longest:
+            self.shorten(longest)
+            text = tapped.text_of(self.pieces)
+        return judge(text)
+
+    def shorten(self, longest):
+        """Leaves out the pieces that don't fit into a text of so many characters."""
+        length = kept = 0
+        for side, piece in self.parts:
+            length += 2 * len(piece.octets) + 2
+            if length > longest:
+                break
+            kept += 1
+        frame = self.parts[kept][1].frame
+        self.limit = f"judged up to frame {frame}: osi judge reads at most {longest:,} characters of digits"
+        self.parts, self.gap = self.parts[:kept], None
 
     def octets(self, side):
-        """What a side sent."""
-        return tapped.octets_of(self.pieces, side)
+        """What a side sent, as far as it is judged."""
+        return b"".join(piece.octets for where, piece in self.parts if where == side)
 
-    def place(self):
-        """The frame and the seconds at which the packet of the first break had passed; or None."""
-        side, found = self.verdict.first, self.verdict.first and self.verdict.break_of(self.verdict.first)
+    def place(self, side=None):
+        """The frame and the seconds at which the packet of a break had passed, or its first octet if it is none; or None."""
+        side = side or self.verdict.first
+        found = side and self.verdict.break_of(side)
         if not found:
             return None
         offset, octets = int(found["offset"]), self.octets(side)
-        head = octets[offset:offset + 4]
-        end = offset + int.from_bytes(head[2:4], "big") if streams.is_packet(head) else len(octets)
-        piece = listing.Passing([piece for where, piece in self.stream.by_side() if where == side]).at(min(end, len(octets)) - 1)
+        end = end_of(octets, offset, found["rule"] in verdicts.rules.OF_PACKETS)
+        piece = listing.Passing([piece for where, piece in self.parts if where == side]).at(end - 1)
         return None if piece.time is None else (piece.frame, piece.time - listing.begin(self.stream))
+
+    def is_kept(self):
+        """Whether both sides kept the protocol, as far as it is judged."""
+        return self.verdict.rows[-1] == "both kept the protocol"
+
+    def status(self):
+        """The status that the stream alone would give."""
+        breaks = [found["rule"] for found in map(self.verdict.break_of, SIDES) if found]
+        if any(rule != "Outside" for rule in breaks):
+            return BROKE
+        return PARTLY if self.limit or not self.is_kept() else KEPT
+
+    def sentence(self):
+        """What the side did that broke the protocol first, in words; or None."""
+        if not self.verdict.first:
+            return None
+        octets = {side: self.octets(side) for side in SIDES}
+        return f"{verdicts.sentence(self.verdict)} {verdicts.reason(self.verdict, self.verdict.first, None, octets)}"
 
     def lines(self):
         """What is printed: what `osi judge` prints, and if a side broke the protocol the same in a sentence."""
         rows = list(self.verdict.rows)
         if self.verdict.first:
             found = self.place()
-            where = f"frame {found[0]}, {found[1]:.6f} seconds: " if found else ""
-            rows.append(f"{where}{verdicts.sentence(self.verdict)} {verdicts.reason(self.verdict, self.verdict.first)}")
-        return rows
+            rows.append((f"frame {found[0]}, {found[1]:.6f} seconds: " if found else "") + self.sentence())
+        return rows + ([self.limit] if self.limit else [])
 
     def picture(self, title, osi, progress):
         """The ladder of the stream, as SVG."""
         listings = {side: "\n".join(listing.shown(osi, self.octets(side))) if self.octets(side) else "" for side in SIDES}
-        return drawing.draw(judged.picture_of(self.pieces, listings, title, judged.runner(osi, progress.running)))
+        made = judged.picture_of(self.pieces, listings, title, judged.runner(osi, progress.running))
+        made.notes += [f"{self.limit[0].upper()}{self.limit[1:]}."] if self.limit else []
+        return drawing.draw(made)
 
 
-def shown(stream, osi):
+def end_of(octets, offset, is_none):
+    """Where the packet at an offset ends; if there is none, the place after its first octet."""
+    head = octets[offset:offset + 4]
+    length = int.from_bytes(head[2:4], "big") if len(head) == 4 and not is_none else 1
+    return min(offset + max(length, 1), len(octets))
+
+
+def shown(stream, osi, upper=None):
     """Both directions in their order: the frame and the seconds of each packet, its side, and its lines."""
-    begin = listing.begin(stream)
+    begin, told = listing.begin(stream), None
+    if isinstance(stream, middle.Middle) and stream.frame is not None:
+        yield f"begins in the middle, at frame {stream.frame}"
     for line in listing.lines(stream, osi):
         is_packet = line.time is not None and not line.text.startswith(" ")
         yield f"{line.frame:6} {line.time - begin:11.6f} {line.side:5} {line.text}" if is_packet else f"{'':18} {line.side:5} {line.text}"
+        if is_packet and upper and line.frame in upper and line.frame != told:
+            told = line.frame
+            yield f"{'':18} {line.side:5}   {upper[told]}"
 
 
-def told(stream, asked, osi, progress):
-    """What is printed of a stream, its picture if one is drawn, and whether both sides kept the protocol."""
-    name, why = name_of(stream), why_not(stream)
-    if why:
-        return [f"{name} not judged: {why}"], None, False
-    rows = [name, *(shown(stream, osi) if asked.show else ())]
-    found = Judged(stream, judged.runner(osi, progress.running))
-    drawn = found.picture(f"{os.path.basename(asked.file)}, {name}", osi, progress) if asked.pictures else None
-    return rows + found.lines(), drawn, found.verdict.rows[-1] == "both kept the protocol"
+class Report:
+    """What is said of a stream: its name, the lines, the verdict if there is one, how it ended, and a picture if one is drawn."""
+
+    def __init__(self, stream, name, is_one):
+        self.stream, self.file = stream, name
+        self.name = name_of(stream) if is_one else f"{name_shown(name)}: {name_of(stream)}"
+        self.why, self.rows, self.judged, self.ended, self.drawn, self.status = None, [], None, [], None, PARTLY
+
+    def lines(self):
+        """What is printed."""
+        if self.why:
+            return [f"{self.name} not judged: {self.why}", *self.rows, *self.last()]
+        return [self.name, *self.rows, *self.judged.lines(), *self.last()]
+
+    def last(self):
+        """The line on how it ended, if anything is known."""
+        return [outcome.line(self.ended, listing.begin(self.stream))] if self.ended else []
+
+
+def told(stream, asked, osi, progress, name):
+    """The report on a stream. What goes wrong with it is said of it alone."""
+    made = Report(stream, name, len(asked.files) == 1)
+    view = viewed(stream)
+    upper = tshark.upper(stream.path, stream.number) if asked.upper and hasattr(stream, "path") else {}
+    try:
+        made.why = why_not(stream)
+        if asked.show:
+            made.rows = list(shown(view, osi, upper))
+        if not made.why:
+            made.judged = Judged(stream, judged.runner(osi, progress.running))
+            made.status = made.judged.status()
+            if asked.pictures:
+                made.drawn = made.judged.picture(f"{os.path.basename(name_shown(name))}, {name_of(stream)}", osi, progress)
+    except BadInput as error:
+        if "can't be run" in str(error):
+            raise
+        made.why = made.why or str(error)
+    made.ended = outcome.all_of(stream, made.judged.parts if made.judged else list(view.by_side()) if is_of_session(made.why) else [])
+    name_upper(made.ended, upper)
+    return made
+
+
+def is_of_session(why):
+    """Whether a stream that isn't judged may be one of sessions all the same."""
+    return not (why and why.endswith("not a session"))
+
+
+def name_upper(ended, upper):
+    """Adds to how a stream ended what tshark calls the layers above."""
+    for each in ended:
+        if each.place and each.unit and each.place[0] in upper:
+            each.text += f" [{upper[each.place[0]]}]"
 
 
 def run(asked, progress):
-    """Judges all streams, writes the pictures and prints; the status."""
-    osi = listing.program(asked.osi)
-    found = [(stream, *told(stream, asked, osi, progress)) for stream in streams_of(asked)]
+    """Judges all streams of all files, prints what is said of each as soon as it is known, and writes its picture; the status."""
+    osi, statuses = listing.program(asked.osi), []
+    for name in asked.files:
+        try:
+            statuses += [one(stream, asked, osi, progress, name) for stream in streams_of(name, asked)]
+        except BadInput as error:
+            if len(asked.files) == 1:
+                raise
+            progress.end()
+            print(f"{os.path.basename(sys.argv[0])}: {error}", file=sys.stderr)
+            statuses.append(None)
+    return status_of_all(statuses)
+
+
+def one(stream, asked, osi, progress, name):
+    """Judges a stream and prints what is said of it; its status, or None if nothing of it was judged."""
+    report = told(stream, asked, osi, progress, name)
     progress.end()
-    if asked.pictures:
-        write_pictures(asked.pictures, {f"stream-{stream.number}.svg": drawn for stream, _, drawn, _ in found if drawn})
-    print("\n".join(row for _, rows, _, _ in found for row in rows))
-    sys.stdout.flush()
-    return 0 if all(kept for *_, kept in found) else 1
+    if report.drawn:
+        write_pictures(asked.pictures, {f"{picture_name(name, asked)}stream-{stream.number}.svg": report.drawn})
+    print(json.dumps(reports.of(report)) if asked.json else "\n".join(report.lines()), flush=True)
+    return report.status if report.judged else None
+
+
+def picture_name(name, asked):
+    """What the pictures of a file are called besides: nothing if there is one file."""
+    return "" if len(asked.files) == 1 else f"{os.path.basename(name)}-"
+
+
+def status_of_all(statuses):
+    """The status of the program, from those of all streams; None is one of which nothing was judged."""
+    if not any(status is not None for status in statuses):
+        return NOTHING
+    return BROKE if BROKE in statuses else PARTLY if set(statuses) != {KEPT} else KEPT
 
 
 def write_pictures(folder, drawn):
@@ -149,7 +275,7 @@ def write_pictures(folder, drawn):
 
 
 def judge(asked):
-    """Does what the words ask for, and shows on a terminal how far it is; the status. `BadInput` if nothing was judged."""
+    """Does what the words ask for, and shows on a terminal how far it is; the status."""
     progress = Progress(sys.stderr, "judge")
     try:
         return run(asked, progress)

@@ -1,15 +1,14 @@
 """Lists a stream or a text by `osi show`, both directions in the order in which they passed, with times."""
-import os
 import re
 import subprocess
 
-from ladders.script import MOST_OCTETS
+from ladders.script import MOST_OCTETS, beside
 
 from .streams import SIDES, packets
 from .tshark import BadInput
 
-TOP = os.path.dirname(os.path.dirname(os.path.dirname(os.path.abspath(__file__))))
 PACKET = re.compile(r"packet (\d+) length (\d+) code ([0-9a-f]{2})")
+FAULT = re.compile(r"fault (\d+) \w+")
 DATA_UNIT = re.compile(r"  DT (?:dst ([0-9a-f]{4}) )?number \d+ eot ([01]) octets (\d+)")
 DATA = re.compile(r"    DT .*?octets (\d+)")
 # User data of another session unit, or extended user data (X.225 section 8).
@@ -34,9 +33,8 @@ class Line:
 
 
 def program(asked):
-    """The program `osi`: the one of the option, else the one of this repository, else the one on the path."""
-    beside = os.path.join(TOP, "osi")
-    return asked or (beside if os.path.isfile(beside) else "osi")
+    """The program `osi`: the one of the option, else the one of this repository or beside this program, else the one on the path."""
+    return asked or beside()
 
 
 def shown(osi, octets):
@@ -89,14 +87,17 @@ class Joining:
 
 
 def lines_of(side, pieces, osi):
-    """The lines of one direction, each packet at the time at which its last octet passed."""
+    """The lines of one direction: each packet at the time at which its last octet passed, and octets that are none at that of the first."""
     octets = b"".join(piece.octets for piece in pieces)
-    passing, joining, packet, piece, found = Passing(pieces), Joining(), b"", None, []
+    passing, joining, packet, end, piece, found = Passing(pieces), Joining(), b"", 0, None, []
     for text in shown(osi, octets):
-        begun = PACKET.fullmatch(text)
+        begun, fault = PACKET.fullmatch(text), FAULT.fullmatch(text)
         if begun:
             start, length = int(begun.group(1)), int(begun.group(2))
-            packet, piece = octets[start:start + length], passing.at(start + length - 1)
+            end = start + length
+            packet, piece = octets[start:end], passing.at(end - 1)
+        elif fault or text.startswith("rest "):
+            piece = passing.at(min(int(fault.group(1)) if fault else end, len(octets) - 1))
         piece = piece or pieces[-1]
         found.append(Line(side, piece, text, joining.take(packet, text)))
     return found

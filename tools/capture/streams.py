@@ -1,11 +1,18 @@
 """Joins TCP segments to the octets of each direction, in the order in which they passed, and finds the streams with TPKT in them.
 
-An octet has passed when all octets before it have passed. So if segments are out of order the later octets wait, and an octet that
-comes twice counts once. Octets that the capture doesn't have leave a gap, and after a gap nothing is known.
+An octet has passed when all octets before it have passed, and when everything has that its segment acknowledges. So if segments are
+out of order the later octets wait, also those of the other direction that the capture has later, and an octet that comes twice counts
+once. Octets that the capture doesn't have leave a gap: then that direction ends before it, and the other one before what acknowledges
+any of them.
 """
-SPACE = 2 ** 32
+from .directions import MOST_WAITING, Direction
+
 SIDES = ("left", "right")
 CONNECT_REQUEST, CONNECT_CONFIRM = 0xE0, 0xD0
+# The codes of X.224 of all classes, without their low half (section 13.7 and others).
+CODES = (0x10, 0x20, 0x50, 0x60, 0x70, 0x80, 0xC0, 0xD0, 0xE0, 0xF0)
+# How many segments are looked at together, if those that begin the connection aren't among them.
+EARLY = 32
 # A direction in which nothing was sent counts as one that begins with a packet.
 FRONT = b"\3\0\0\7"
 
@@ -19,109 +26,171 @@ class Piece:
         self.frame, self.time, self.start, self.octets = frame, time, start, octets
 
 
-def distance(first, second):
-    """How far one sequence number lies ahead of another; negative if it lies before it."""
-    return (second - first + SPACE // 2) % SPACE - SPACE // 2
+class Gap:
+    """Octets that the capture doesn't have: their side, how many, the frame that first shows it, and how many octets of a frame were
+    captured, if that is why."""
 
+    def __init__(self, side, octets, frame, cut):
+        self.side, self.octets, self.frame, self.cut = side, octets, frame, cut
 
-class Direction:
-    """One direction of a TCP connection."""
+    def many(self):
+        """How many octets, and why."""
+        why = f" (frames were cut at {self.cut} octets)" if self.cut else ""
+        return f"{self.octets:,} octet{'s' * (self.octets != 1)}{why}"
 
-    def __init__(self):
-        self.next, self.count, self.waiting, self.has_first = None, 0, {}, False
-        self.heard = self.furthest = None
-
-    def take(self, segment):
-        """The octets that have passed with this segment, or none."""
-        start = (segment.sequence + segment.is_first) % SPACE
-        self.next = start if self.next is None else self.next
-        self.has_first = self.has_first or segment.is_first
-        if segment.missing:
-            self.hear(start + len(segment.octets) + segment.missing)
-        if len(segment.octets) > max(self.known(start), len(self.waiting.get(start, b""))):
-            self.waiting[start] = segment.octets
-        # If it lies ahead, nothing that waits has become the next.
-        passed = b"".join(self.in_order()) if self.known(start) >= 0 else b""
-        piece = Piece(segment.frame, segment.time, self.count, passed)
-        self.count += len(passed)
-        return piece if passed else None
-
-    def hear(self, number):
-        """Notes that octets up to a sequence number were sent."""
-        self.heard = number if self.heard is None else self.heard
-        self.furthest = number if self.furthest is None or distance(self.furthest, number) > 0 else self.furthest
-
-    def in_order(self):
-        """The next octets, as far as they are there."""
-        while True:
-            start = self.next if self.next in self.waiting else self.overlapping()
-            if start is None:
-                return
-            octets = self.waiting.pop(start)[self.known(start):]
-            if octets:
-                self.next = (self.next + len(octets)) % SPACE
-                yield octets
-
-    def overlapping(self):
-        """Where the octets begin that have some which passed, and reach furthest; or None."""
-        found = [start for start in self.waiting if 0 <= self.known(start) <= len(self.waiting[start])]
-        return max(found, key=lambda start: len(self.waiting[start]) - self.known(start), default=None)
-
-    def known(self, start):
-        """How many octets from a sequence number on have passed already; negative if it lies ahead."""
-        return distance(start, self.next)
-
-    def lost(self):
-        """How many octets are missing before those that wait, or else before what the far end has acknowledged, or at the end of a
-        segment that was captured in part. (The end of a direction has a number too, so what is acknowledged may be one more.)"""
-        ahead = [-self.known(start) for start in self.waiting if self.known(start) < 0]
-        if ahead or self.furthest is None:
-            return min(ahead, default=0)
-        return max(distance(self.heard if self.next is None else self.next, self.furthest), 0)
+    def __str__(self):
+        return f"frame {self.frame}, where {self.side} lost {self.many()}"
 
 
 class Stream:
-    """A TCP connection: `pieces` in their order, each with the end that sent it."""
+    """A TCP connection: `pieces` in their order, each with the end that sent it. The first segments are looked at together, since those
+    that begin the connection (SYN) may be late."""
 
     def __init__(self, number, ends):
-        self.number, self.ends, self.pieces = number, ends, []
+        self.number, self.ends, self.pieces, self.opener = number, ends, [], None
         self.directions = {end: Direction() for end in ends}
+        self.is_over = self.is_other = False
+        self.last, self.early = None, []
 
     def take(self, segment):
-        if not {segment.source, segment.target} <= self.directions.keys():
+        """Takes the next segment of the capture."""
+        own, far = self.directions.get(segment.source), self.directions.get(segment.target)
+        if own is None or far is None or own is far:
             return
+        self.last = segment.frame, segment.time
+        if self.early is None:
+            self.go_on(segment, own, far)
+            return
+        self.early.append(segment)
+        if segment.is_first:
+            self.opener = segment.target if segment.is_answer else segment.source
+            own.begin(segment)
+        if len(self.early) >= EARLY or (own.has_first and far.has_first):
+            self.settle()
+
+    def settle(self):
+        """Finds where directions begin whose first segment isn't there, and takes the first segments."""
+        early, self.early = self.early or [], None
+        for end, far in (self.ends, self.ends[::-1]):
+            if not self.directions[end].has_first:
+                sent = [segment.sequence for segment in early if segment.source == end and segment.octets]
+                heard = [segment.acknowledged for segment in early if segment.source == far and segment.acknowledged is not None]
+                self.directions[end].presume(sent + heard if self.directions[far].has_first else sent or heard)
+        for segment in early:
+            self.go_on(segment, self.directions[segment.source], self.directions[segment.target])
+
+    def go_on(self, segment, own, far):
+        """Takes a segment, now that it is known where both directions begin."""
+        own.note(segment)
         if segment.acknowledged is not None:
-            self.directions[segment.target].hear(segment.acknowledged - 1)
-        piece = self.directions[segment.source].take(segment)
-        if piece:
-            self.pieces.append((segment.source, piece))
+            far.hear(segment.acknowledged, segment.frame)
+        if self.is_over or self.is_other:
+            return
+        if segment.octets:
+            own.keep(segment)
+        if own.waiting or far.waiting:
+            self.pass_on()
+        if own.held > MOST_WAITING:
+            self.finish()
+
+    def pass_on(self):
+        """Lets octets pass as long as there are some that may."""
+        first, second = self.ends
+        while self.may_pass(first, second) or self.may_pass(second, first) or self.is_released():
+            pass
+
+    def may_pass(self, end, far):
+        """Lets the next octets of an end pass, if they are there and everything has passed that they acknowledge; whether they did."""
+        direction = self.directions[end]
+        chunk = direction.head() if direction.waiting else None
+        if chunk is None or not self.directions[far].has_passed(chunk.acknowledged):
+            return False
+        self.let_pass(end, chunk)
+        return True
+
+    def let_pass(self, end, chunk):
+        """Lets the next octets of an end pass."""
+        direction = self.directions[end]
+        self.pieces.append((end, Piece(chunk.frame, chunk.time, direction.count, direction.let_pass())))
+
+    def is_released(self):
+        """If the next octets of both ends acknowledge each other, one of them was sent again: the later one, which had passed before.
+        Lets it pass; whether there was one."""
+        heads = [(self.directions[end].head(), end) for end in self.ends]
+        if any(chunk is None for chunk, _ in heads):
+            return False
+        chunk, end = max(heads, key=lambda each: each[0].frame)
+        self.let_pass(end, chunk)
+        return True
+
+    def finish(self):
+        """After the last segment: lets pass what waited for the end of the other direction alone."""
+        if self.early is not None:
+            self.settle()
+        for end, far in (self.ends, self.ends[::-1]):
+            chunk, other = self.directions[end].head(), self.directions[far]
+            if chunk and other.last is None and not other.waiting and other.needed(chunk.acknowledged) == other.count + 1:
+                other.last = other.count
+                self.pass_on()
+        self.is_over = True
 
     def octets(self, end):
+        """What an end sent, as far as it passed."""
         return b"".join(piece.octets for source, piece in self.pieces if source == end)
 
+    def front(self, end):
+        """The first octets that an end sent: some at least, if it sent any."""
+        found = b""
+        for source, piece in self.pieces:
+            if source == end:
+                found += piece.octets
+                if len(found) > 64:
+                    break
+        return found
+
     def caller(self):
-        """The end whose first packet is a CR, or None."""
-        for end in self.ends:
-            if is_connect_request(self.octets(end)):
-                return end
-        return None
+        """The end that opened the connection, or else the one whose first packet is a CR, or None."""
+        if self.opener is not None:
+            return self.opener
+        return next((end for end in self.ends if is_connect_request(self.front(end))), None)
+
+    def left(self):
+        """The end that is left: the caller. If it isn't known, the one with the higher port."""
+        return self.caller() or max(self.ends, key=lambda end: end[1])
+
+    def by_end(self):
+        """Both sides, each with its end."""
+        left = self.left()
+        return {SIDES[0]: left, SIDES[1]: next(end for end in self.ends if end != left)}
 
     def ports(self):
         return {port for _, port in self.ends}
 
-    def why_not(self):
-        """Why the stream can't be read, or None."""
-        lost = sum(direction.lost() for direction in self.directions.values())
-        if lost:
-            return f"lost segments: {lost} octets or more are not in the capture"
-        whole = all(self.directions[end].has_first or is_packet(self.octets(end) or FRONT) for end in self.ends)
-        return None if self.caller() is not None and whole else "begins in the middle"
+    def gap(self):
+        """The first gap, or None."""
+        found = []
+        for side, end in self.by_end().items():
+            direction = self.directions[end]
+            lost = direction.lost()
+            if lost:
+                found.append(Gap(side, lost, direction.first_after(), direction.cut))
+        return min(found, key=lambda gap: gap.frame, default=None)
+
+    def is_alone(self):
+        """Whether only one direction is here: of the other one there is no segment."""
+        return not all(direction.is_here for direction in self.directions.values())
+
+    def is_whole(self):
+        """Whether the stream is here from its beginning."""
+        if self.opener is not None:
+            return all(self.directions[end].has_first or is_packet(self.front(end) or FRONT) for end in self.ends)
+        return self.caller() is not None and all(is_packet(self.front(end) or FRONT) for end in self.ends)
 
     def by_side(self):
         """The pieces, each with its side: left is the caller."""
-        caller = self.caller()
+        left = self.left()
         for source, piece in self.pieces:
-            yield SIDES[source != caller], piece
+            yield SIDES[source != left], piece
 
 
 def is_packet(octets):
@@ -139,23 +208,56 @@ def is_connect_confirm(octets):
     return is_connect_request(octets, CONNECT_CONFIRM)
 
 
-def joined(segments):
+class Joining:
+    """The streams of a capture by number. Octets of streams that carry no TPKT aren't kept."""
+
+    def __init__(self, port):
+        self.port, self.streams, self.last = port, {}, None
+
+    def take(self, segment):
+        """Takes the next segment of the capture; its stream."""
+        stream = self.streams.get(segment.stream)
+        if stream is None:
+            ends = segment.source, segment.target
+            stream = self.streams[segment.stream] = Stream(segment.stream, ends)
+            stream.is_asked = self.port in (ends[0][1], ends[1][1])
+        stream.take(segment)
+        if not stream.is_asked and stream.pieces and not stream.is_other:
+            self.look(stream)
+        self.last = segment.time
+        return stream
+
+    @staticmethod
+    def look(stream):
+        """Looks at the first octets of a stream at another port: it is kept if they may be a CR."""
+        fronts = [stream.front(end) for end in stream.ends]
+        if any(map(is_connect_request, fronts)):
+            stream.is_asked = True
+        elif all(front and not may_be_request(front) for front in fronts) or max(map(len, fronts)) > 6:
+            stream.is_other = True
+            stream.pieces.clear()
+
+    def finish(self):
+        """Ends all streams; these streams."""
+        for stream in self.streams.values():
+            stream.finish()
+        return self.streams
+
+
+def may_be_request(octets):
+    """Whether a CR in a TPKT packet may begin with octets."""
+    return is_connect_request(octets) if len(octets) > 5 else octets[:1] == b"\3"
+
+
+def joined(segments, port=102):
     """The streams of a capture by number."""
-    streams = {}
+    joining = Joining(port)
     for segment in segments:
-        ends = segment.source, segment.target
-        streams.setdefault(segment.stream, Stream(segment.stream, ends)).take(segment)
-    return streams
-
-
-def with_packets(streams, port):
-    """The streams that carry TPKT: those that begin with a CR, and those at the port in which a direction looks like packets."""
-    found = []
-    for stream in streams.values():
-        sent = [octets for octets in map(stream.octets, stream.ends) if octets]
-        if stream.caller() is not None or (port in stream.ports() and sent and any(octets[0] == 3 for octets in sent)):
-            found.append(stream)
-    return found
+        joining.take(segment)
+    joining.finish()
+    for stream in joining.streams.values():
+        stream.until = joining.last
+    return joining.streams
 
 
 def packets(octets):

@@ -1,6 +1,5 @@
 """Tests of osi-capture, over captures that tshark's own tools make: python3 -m unittest discover -s tools -t tools"""
 import contextlib
-import glob
 import io
 import json
 import os
@@ -135,15 +134,15 @@ class Captures(unittest.TestCase):
     def test_segments_out_of_order_and_twice_count_once(self):
         self.assertEqual(self.sides(self.slices((1, 4), (7, 8), (5, 6), (5, 8))), self.wanted())
 
-    def test_a_lost_segment_is_named_and_nothing_is_written(self):
+    def test_a_lost_segment_is_named_and_what_passed_before_it_is_written(self):
         cut = self.without(5)
-        self.assertIn("left out: lost segments: ", call("list", cut)[1])
-        self.assertIn("lost segments", self.refused("split", cut, "-o", self.path("out")))
+        self.assertIn("left 146 octets right 129 octets, up to frame 5, where left lost 38 octets", call("list", cut)[1])
+        self.assertEqual([len(side) for side in self.sides(cut)], [146, 129])
 
     def test_what_the_far_end_acknowledged_and_what_was_cut_off_is_lost(self):
-        self.run_tool("editcap", "-s", "70", self.capture(), self.path("cut.pcapng"))
-        for cut in (self.without(7), self.path("cut.pcapng")):
-            self.assertIn("left out: lost segments: ", call("list", cut)[1])
+        self.run_tool("editcap", "-s", "70", self.capture(), self.path("short.pcapng"))
+        self.assertIn("left 184 octets right 155 octets, up to frame 7, where left lost 25 octets", call("list", self.without(7))[1])
+        self.assertRegex(call("list", self.path("short.pcapng"))[1], r"where left lost [0-9]+ octets \(frames were cut at 70 octets\)")
 
     def test_a_file_that_ends_within_a_packet_is_read_up_to_there(self):
         with open(self.capture(), "rb") as whole, open(self.path("short.pcapng"), "wb") as short:
@@ -163,7 +162,7 @@ class Captures(unittest.TestCase):
         self.assertEqual(self.sides(self.path("icmp.pcap")), self.wanted())
 
     def test_a_stream_that_begins_in_the_middle_is_named(self):
-        self.assertIn("left out: begins in the middle", call("list", self.without(1, 2))[1])
+        self.assertIn("octets, begins in the middle, at frame 1", call("list", self.without(1, 2))[1])
 
     def test_other_streams_are_not_listed(self):
         text = self.capture([("O", b"GET / HTTP/1.0\r\n\r\n"), ("I", b"HTTP/1.0 200 OK\r\n\r\n")], "http.pcapng", "41000,80")
@@ -334,7 +333,7 @@ class Streams(unittest.TestCase):
         self.addCleanup(patched.stop)
 
     @staticmethod
-    def segments(_):
+    def segments(*_):
         left, right = ("192.0.2.1", 40000), ("192.0.2.2", 102)
         sequences = {"O": 1, "I": 1}
         for number, (direction, octets) in enumerate(association()):
@@ -361,16 +360,25 @@ class Streams(unittest.TestCase):
 class Joining(unittest.TestCase):
     """Sequence numbers."""
 
+    ENDS = ("a", 1), ("b", 2)
+
     def segment(self, sequence, octets, is_first=False):
         made = object.__new__(tshark.Segment)
-        made.frame, made.time, made.stream, made.source, made.target = 1, 0.0, 0, ("a", 1), ("b", 2)
+        made.frame, made.time, made.stream, (made.source, made.target) = 1, 0.0, 0, self.ENDS
         made.sequence, made.is_first, made.octets = sequence % 2 ** 32, is_first, octets
         return made
 
+    def stream(self, *segments):
+        """A stream that took these segments of one end."""
+        stream = streams.Stream(0, self.ENDS)
+        for each in segments:
+            stream.take(self.segment(*each))
+        stream.settle()
+        return stream
+
     def taken(self, *segments):
-        direction = streams.Direction()
-        pieces = [direction.take(self.segment(*each)) for each in segments]
-        return b"".join(piece.octets for piece in pieces if piece), direction.lost()
+        stream = self.stream(*segments)
+        return stream.octets(self.ENDS[0]), stream.directions[self.ENDS[0]].lost()
 
     def test_numbers_begin_anew_after_the_last(self):
         last = 2 ** 32 - 2
@@ -380,43 +388,46 @@ class Joining(unittest.TestCase):
         self.assertEqual(self.taken((5, b"abcd"), (7, b"cdef"), (6, b"bc"), (11, b"g")), (b"abcdefg", 0))
 
     def test_octets_that_passed_are_not_kept(self):
-        direction = streams.Direction()
-        for each in ((5, b"abcd"), (5, b"ab"), (3, b"xx"), (20, b"z"), (7, b"cd")):
-            direction.take(self.segment(*each))
-        self.assertEqual(direction.waiting, {20: b"z"})
+        direction = self.stream((5, b"abcd"), (5, b"ab"), (3, b"xx"), (20, b"z"), (7, b"cd")).directions[self.ENDS[0]]
+        self.assertEqual(([(chunk.start, chunk.octets) for chunk in direction.waiting], direction.held), ([(17, b"z")], 1))
 
     def test_what_the_far_end_acknowledges_was_sent(self):
-        ends = ("a", 1), ("b", 2)
-        for acknowledged, lost in ((7, 0), (8, 0), (10, 2)):
-            stream = streams.Stream(0, ends)
-            stream.take(self.segment(5, b"ab"))
+        for acknowledged, lost in ((7, 0), (8, 0), (10, 3)):
+            stream = self.stream((5, b"ab"))
             answer = self.segment(90, b"")
-            answer.source, answer.target, answer.acknowledged = *reversed(ends), acknowledged
+            answer.source, answer.target, answer.acknowledged = *reversed(self.ENDS), acknowledged
             stream.take(answer)
-            self.assertEqual(stream.directions[ends[0]].lost(), lost, acknowledged)
+            self.assertEqual(stream.directions[self.ENDS[0]].lost(), lost, acknowledged)
 
     def test_a_direction_that_is_not_there_at_all_is_lost(self):
-        stream = streams.Stream(0, (("a", 1), ("b", 2)))
+        stream = self.stream()
         for sequence, acknowledged in ((5, 90), (7, 90), (9, 104)):
             segment = self.segment(sequence, b"ab")
             segment.acknowledged = acknowledged
             stream.take(segment)
         self.assertEqual([direction.lost() for direction in stream.directions.values()], [0, 14])
+        self.assertEqual((stream.octets(self.ENDS[0]), stream.is_alone()), (b"abab", True))
 
     def test_a_segment_that_was_captured_in_part_is_lost(self):
-        direction, segment = streams.Direction(), self.segment(5, b"ab")
-        segment.missing = 3
-        direction.take(segment)
-        self.assertEqual(direction.lost(), 3)
+        stream, segment = self.stream(), self.segment(5, b"ab")
+        segment.missing, segment.captured = 3, 56
+        stream.take(segment)
+        self.assertEqual(stream.directions[self.ENDS[0]].lost(), 3)
 
     def test_a_segment_of_another_connection_is_left_out(self):
         stream, stray = streams.Stream(0, (("a", 1), ("c", 2))), self.segment(5, b"ab")
         stream.take(stray)
+        stream.finish()
         self.assertEqual((stream.pieces, stream.directions["a", 1].next), ([], None))
 
     def test_a_gap_holds_back_what_comes_after_it(self):
         self.assertEqual(self.taken((5, b"ab"), (9, b"ef")), (b"ab", 2))
         self.assertEqual(self.taken((5, b"ab"), (9, b"ef"), (7, b"cd")), (b"abcdef", 0))
+
+    def test_much_that_waits_ends_the_stream(self):
+        with mock.patch.object(streams, "MOST_WAITING", 10):
+            stream = self.stream((5, b"ab"), (9, b"efghijklmnop"), (7, b"cd"))
+        self.assertEqual((stream.octets(self.ENDS[0]), stream.is_over), (b"ab", True))
 
 
 if __name__ == "__main__":

@@ -1,18 +1,42 @@
 """Tests of scripts/judge and of `osi-capture judge`, over what `osi` printed of examples/disputes; with captures if tshark is installed."""
 import contextlib
 import io
+import json
 import os
 import shutil
 import tempfile
 import unittest
 from unittest import mock
 
-from ladders import script, tapped, test_judged, verdicts
+from ladders import script, tapped, test_judged, transcript, verdicts
 
 from . import judging, listing, program, streams, tshark
 
 DISPUTES = test_judged.DISPUTES
-LAST = ("frame 16, 0.005600 seconds: left broke the protocol first, in its packet 143. It sent data (DT); it did not hold the data token.")
+LAST = ("frame 16, 0.005600 seconds: left broke the protocol first, in its packet at octet 143. It sent data (DT); it did not hold the "
+        "data token (X.225, 7.11 and 5.8).")
+ENDED = "ended: right aborted by its session layer, protocol error: AB 17=05 (frame 17, 0.005810 seconds)"
+CURED = "ended: released: left asked for it (FN), right agreed (DN) (frame 22, 0.009100 seconds)"
+with open(os.path.join(script.TOP, "docs", "judge.schema.json"), encoding="utf-8") as schema_file:
+    SCHEMA = json.load(schema_file)
+KINDS = {"integer": int, "number": (int, float), "string": str, "null": type(None), "array": list, "object": dict}
+
+
+def wrongs(told, schema=None, name=""):
+    """What docs/judge.schema.json refuses of a value, as far as that schema says anything: the names of what is wrong."""
+    schema = SCHEMA if schema is None else schema
+    schema = SCHEMA["$defs"][schema["$ref"].rpartition("/")[2]] if "$ref" in schema else schema
+    if "anyOf" in schema:
+        return [] if any(not wrongs(told, each, name) for each in schema["anyOf"]) else [name]
+    kinds = schema.get("type", list(KINDS))
+    if not any(isinstance(told, KINDS[kind]) for kind in ([kinds] if isinstance(kinds, str) else kinds)):
+        return [name]
+    if told not in schema.get("enum", [told]):
+        return [name]
+    if isinstance(told, dict):
+        strange = set(told) - set(schema.get("properties", told)) | set(schema.get("required", ())) - set(told)
+        return sorted(strange) + [each for key in told for each in wrongs(told[key], schema.get("properties", {}).get(key, {}), key)]
+    return [each for one in told for each in wrongs(one, schema.get("items", {}), name)] if isinstance(told, list) else []
 
 
 def call(*words, main=judging.main):
@@ -22,6 +46,12 @@ def call(*words, main=judging.main):
     with contextlib.redirect_stdout(out), contextlib.redirect_stderr(err), shown, mock.patch.object(script, "run", test_judged.answer):
         status = main(list(words))
     return status, out.getvalue(), err.getvalue()
+
+
+def judging_of(*words):
+    """The status of scripts/judge, and what it wrote on standard output."""
+    with contextlib.redirect_stdout(io.StringIO()) as out:
+        return judging.main(list(words)), out.getvalue()
 
 
 def verdict_of(name):
@@ -57,10 +87,10 @@ class Texts(Room):
         return os.path.join(DISPUTES, name + ".follow")
 
     def test_the_verdict_is_told_with_its_frame_and_time(self):
-        self.assertEqual(call(self.follow()), (1, "\n".join(["text", *verdict_of("restart"), LAST, ""]), ""))
+        self.assertEqual(call(self.follow()), (1, "\n".join(["text", *verdict_of("restart"), LAST, ENDED, ""]), ""))
 
     def test_the_status_is_0_if_both_kept_the_protocol(self):
-        self.assertEqual(call(self.follow("restart_cured")), (0, "\n".join(["text", *verdict_of("restart_cured"), ""]), ""))
+        self.assertEqual(call(self.follow("restart_cured")), (0, "\n".join(["text", *verdict_of("restart_cured"), CURED, ""]), ""))
 
     def test_osi_capture_judges_as_scripts_judge_does(self):
         for words in ([self.follow()], [self.follow("restart_cured")], [self.follow(), "--show", "--port", "4102"]):
@@ -79,20 +109,59 @@ class Texts(Room):
         rows = call(self.follow(), "--show")[1].splitlines()
         self.assertIn("    16    0.005600 left  packet 143 length 19 code f0", rows)
         self.assertEqual(rows[2], "                   left    CR credit 0 dst 0000 src 0001 class 0 options 0 size 0a")
-        self.assertEqual(rows[-len(verdict_of("restart")) - 1:], [*verdict_of("restart"), LAST])
+        self.assertEqual(rows[-len(verdict_of("restart")) - 2:], [*verdict_of("restart"), LAST, ENDED])
 
-    def test_left_is_the_side_of_the_first_octet(self):
-        with open(self.follow(), encoding="ascii") as file:
-            rows = [row if row.startswith("#") else row[1:] if row.startswith("\t") else "\t" + row for row in file.read().splitlines()]
-        with open(self.path("turned"), "w", encoding="ascii") as file:
-            file.write("\n".join(rows) + "\n")
-        self.assertEqual(call(self.path("turned")), call(self.follow()))
+    def test_lines_without_a_tab_are_of_the_caller_also_if_they_are_not_first(self):
+        with open(self.path("late"), "w", encoding="ascii") as file:
+            file.write("\t0300000e09d00001000100c0010a\n0300000e09e00000000100c0010a\n")
+        asked = []
+
+        def judge(_, word, text, tick=None):
+            asked.append(text)
+            return "right packets 1 octets 14 rest 0\nright broke the protocol first, packet 0: CC UnknownReference\n"
+        with mock.patch.object(script, "run", judge), contextlib.redirect_stdout(io.StringIO()):
+            self.assertEqual(judging.main([self.path("late")]), 1)
+        self.assertEqual([text[:3] for text in asked], ["\t03"])
+
+    def test_the_files_of_sides_with_their_order_are_judged(self):
+        parts = tapped.read(test_judged.stored("restart")[0])
+        for side in streams.SIDES:
+            with open(self.path(f"run.{side}.hex"), "w", encoding="ascii") as file:
+                file.write("".join(part.octets.hex() + "\n" for part in parts if part.side == side))
+        with open(self.path("run.order"), "w", encoding="ascii") as file:
+            file.write("".join(f"{part.side} {len(part.octets)}\n" for part in parts))
+        rows = call(self.path("run"))[1].splitlines()
+        self.assertEqual(rows[1:-2], verdict_of("restart"))
+        with open(self.path("run.order"), "a", encoding="ascii") as file:
+            file.write("left 3\n")
+        self.assertIn("not as many octets", self.refused(self.path("run")))
+
+    def test_a_file_of_one_side_is_not_judged(self):
+        with open(self.path("run.left.hex"), "w", encoding="ascii") as file:
+            file.write("0300000e09e00000000100c0010a\n")
+        for name in ("run", "run.left.hex"):
+            self.assertEqual(call(self.path(name)), (2, "text not judged: only one direction is here\n", ""))
+
+    def test_what_is_told_in_json_is_what_the_schema_says(self):
+        for name, status, verdict in (("restart", 1, "broke"), ("restart_cured", 0, "kept")):
+            found, out, _ = call(self.follow(name), "--json")
+            told = json.loads(out)
+            self.assertEqual((found, told["verdict"], wrongs(told)), (status, verdict, []))
+        self.assertEqual(wrongs({**told, "verdict": "maybe", "more": 1}), ["more", "verdict"])
+
+    def test_several_files_are_judged_each_by_itself(self):
+        status, out, err = call(self.follow(), self.path("nothing"), self.follow("restart_cured"))
+        self.assertEqual((status, out.count("the protocol"), err.count("no such file")), (1, 3, 1))
+
+    def test_standard_input_is_judged(self):
+        with open(self.follow(), "rb") as file, mock.patch.object(judging.sys, "stdin", mock.Mock(buffer=file)):
+            self.assertEqual(call("-"), (1, "\n".join(["text", *verdict_of("restart"), LAST, ENDED, ""]), ""))
 
     def test_a_picture_is_written(self):
         self.assertEqual(call(self.follow(), "--pictures", self.path("new"))[0], 1)
         self.assertEqual(os.listdir(self.path("new")), ["stream-0.svg"])
         with open(self.path("new/stream-0.svg"), encoding="utf-8") as file:
-            self.assertIn("the data token was with right since left's packet 126", file.read())
+            self.assertIn("the data token was with right since left's packet at octet 126", file.read())
 
     def test_what_can_not_be_read_is_refused(self):
         self.assertIn("no such file", self.refused(self.path("nothing")))
@@ -124,7 +193,7 @@ class Streams(Room):
         super().setUp()
         self.sequences = {}
         self.found = [self.segment(*each) for each in enumerate(tapped.read(test_judged.stored("restart")[0]))]
-        patched = mock.patch.object(tshark, "segments", lambda path: iter(self.found))
+        patched = mock.patch.object(tshark, "segments", lambda path, name=None: iter(self.found))
         patched.start()
         self.addCleanup(patched.stop)
 
@@ -135,31 +204,37 @@ class Streams(Room):
         made.source, made.target = (self.LEFT, self.RIGHT) if piece.side == "left" else (self.RIGHT, self.LEFT)
         made.sequence = self.sequences.get((stream, piece.side), 1)
         self.sequences[stream, piece.side] = made.sequence + len(piece.octets)
-        made.octets = piece.octets
+        made.octets, made.acknowledged = piece.octets, self.sequences.get((stream, transcript.other(piece.side)), 1)
         return made
 
     def test_a_stream_is_judged_and_named(self):
         status, out, err = call("run.pcap")
         self.assertEqual((status, err), (1, ""))
         self.assertEqual(out.splitlines()[0], "stream 4 192.0.2.1:40000 192.0.2.2:102")
-        self.assertEqual(out.splitlines()[1:-1], verdict_of("restart"))
+        self.assertEqual(out.splitlines()[1:-2], verdict_of("restart"))
         self.assertIn("frame 13, 1.500000 seconds: left broke the protocol first", out)
 
-    def test_a_stream_that_lost_segments_is_named_and_not_judged(self):
+    def test_a_stream_that_lost_segments_is_judged_up_to_there(self):
         del self.found[5]
-        self.assertRegex(call("run.pcap")[1], r"^stream 4 \S+ \S+ not judged: lost segments: 14 octets or more are not in the capture\n$")
+        asked = []
+        kept = "left packets 1 octets 1 rest 0\nboth kept the protocol\n"
+        with mock.patch.object(judging.judged, "runner", lambda osi, tick: lambda text: asked.append(text) or kept):
+            status, out = judging_of("run.pcap")
+        self.assertEqual(len(asked[0].splitlines()), 5)
+        self.assertEqual((status, out.splitlines()[3]), (3, "judged up to frame 7, where left lost 14 octets"))
 
     def test_a_stream_that_begins_in_the_middle_is_named_and_not_judged(self):
         del self.found[:2]
         status, out, _ = call("run.pcap", "--pictures", self.path("pictures"))
-        self.assertEqual((status, out.partition(" not ")[2], os.listdir(self.room.name)), (1, "judged: begins in the middle\n", []))
+        self.assertEqual((status, out.splitlines()[0].partition(" not ")[2], os.listdir(self.room.name)),
+                         (2, "judged: begins in the middle, at frame 3", []))
 
     def test_each_stream_is_judged_by_itself(self):
         cured = tapped.read(test_judged.stored("restart_cured")[0])
         self.found += [self.segment(100 + place, piece, 5) for place, piece in enumerate(cured)]
         rows = call("run.pcap", "--pictures", self.path("pictures"))[1].splitlines()
         self.assertEqual([row.split()[1] for row in rows if row.startswith("stream ")], ["4", "5"])
-        self.assertEqual(rows[-1], "both kept the protocol")
+        self.assertEqual(rows[-2], "both kept the protocol")
         self.assertEqual(sorted(os.listdir(self.path("pictures"))), ["stream-4.svg", "stream-5.svg"])
         self.assertEqual(call("run.pcap", "--stream", "5")[0], 0)
         self.assertIn("stream 6 carries no TPKT", self.refused("run.pcap", "--stream", "6"))
@@ -169,7 +244,7 @@ class Streams(Room):
         self.sequences.clear()
         self.found = [self.segment(place, piece, 7) for place, piece in enumerate(pieces)]
         stream = streams.joined(iter(self.found))[7]
-        self.assertEqual(judging.why_not(stream), "begins in the middle")
+        self.assertEqual(judging.why_not(stream), "begins in the middle, at frame 1")
         self.sequences.clear()
         begun = [self.segment(place, tapped.Piece(side, b""), 7) for place, side in enumerate(("left", "right"))]
         for each in begun:
@@ -193,13 +268,13 @@ class Captures(Room):
     def test_it_is_judged(self):
         status, out, err = call(self.path("run.pcap"))
         self.assertEqual(call("judge", self.path("run.pcap"), main=program.main), (status, out, err))
-        self.assertEqual((status, out.splitlines()[1:-1], err), (1, verdict_of("restart"), ""))
-        self.assertEqual(out.splitlines()[-1], LAST)
+        self.assertEqual((status, out.splitlines()[1:-2], err), (1, verdict_of("restart"), ""))
+        self.assertEqual(out.splitlines()[-2], LAST)
 
     def test_a_lost_segment_is_named(self):
         script_of = ["editcap", self.path("run.pcap"), self.path("cut.pcap"), "9"]
         self.assertEqual(judging.listing.subprocess.run(script_of, capture_output=True, check=False).returncode, 0)
-        self.assertIn("not judged: lost segments", call(self.path("cut.pcap"))[1])
+        self.assertIn("up to frame 9, where left lost 14 octets", call("list", self.path("cut.pcap"), main=program.main)[1])
 
     def test_a_file_that_is_no_capture_is_refused(self):
         with open(self.path("bad.pcap"), "wb") as file:
@@ -212,7 +287,7 @@ class Lines(unittest.TestCase):
 
     def test_a_verdict_without_a_break_has_no_sentence_more(self):
         found = object.__new__(judging.Judged)
-        found.verdict = verdicts.read("not judged: the connection is not of class 0\n")[0]
+        found.verdict, found.limit = verdicts.read("not judged: the connection is not of class 0\n")[0], None
         self.assertEqual(found.lines(), ["not judged: the connection is not of class 0"])
 
 

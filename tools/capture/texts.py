@@ -8,6 +8,8 @@ import re
 
 from ladders import tapped
 
+from . import kinds
+
 from .streams import SIDES, Piece, is_connect_confirm
 from .tshark import BadInput
 
@@ -27,6 +29,13 @@ class Text:
             yield side, Piece(frame, time, counts[side], octets)
             counts[side] += len(octets)
 
+    def why_not(self):
+        """Why the text can't be judged, or None."""
+        if len({side for _, _, side, _ in self.parts}) < 2:
+            return "only one direction is here"
+        kind = kinds.of(self)
+        return kind and f"{kind}, not a session"
+
 
 def text_of(name):
     try:
@@ -44,16 +53,47 @@ def parts_of(text, name):
         raise BadInput(f"{name}: {error}") from None
 
 
+# What the files of the sides are called: as `split` writes them, and as the examples have them.
+ENDS = ("", ".hex")
+ORDER = re.compile(r"(left|right) (\d+)")
+
+
+def files_of(name):
+    """The files of NAME that are there, by side."""
+    found = {side: next((f"{name}.{side}{end}" for end in ENDS if os.path.exists(f"{name}.{side}{end}")), None) for side in SIDES}
+    return {side: path for side, path in found.items() if path}
+
+
 def of_sides(name):
-    """Both sides of NAME: of NAME.follow, or of NAME.left and NAME.right in the order of their times if there is none."""
-    follow = f"{name}.follow"
+    """Both sides of NAME: of NAME.follow; or of NAME.left and NAME.right, or of NAME.left.hex and NAME.right.hex, in the order of
+    NAME.order if it is there, or else of their times."""
+    follow, order = f"{name}.follow", f"{name}.order"
     if os.path.exists(follow):
         return Text(parts_of(text_of(follow), follow))
-    parts = [(frame, time, side, octets) for side in SIDES
-             for frame, time, _, octets in parts_of(text_of(f"{name}.{side}"), f"{name}.{side}")]
+    files = files_of(name)
+    if not files:
+        text_of(f"{name}.left")
+    parts = [(frame, time, side, octets) for side, path in files.items() for frame, time, _, octets in parts_of(text_of(path), path)]
+    if os.path.exists(order):
+        return Text(in_order({side: b"".join(part[3] for part in parts if part[2] == side) for side in SIDES}, text_of(order), order))
     if all(time is not None for _, time, _, _ in parts):
         return Text(sorted(parts, key=lambda part: (part[1], part[0])))
     return Text(parts, len({side for _, _, side, _ in parts}) == 1)
+
+
+def in_order(octets, order, name):
+    """The parts of both sides, as a file says that they passed: a side and how many octets on each line."""
+    parts, used = [], dict.fromkeys(SIDES, 0)
+    for row in filter(None, (row.partition("#")[0].strip() for row in order.split("\n"))):
+        found = ORDER.fullmatch(row)
+        if not found:
+            raise BadInput(f"{name}: this is no side and number of octets: {row[:40]!r}")
+        side, count = found[1], int(found[2])
+        parts.append((None, None, side, octets[side][used[side]:used[side] + count]))
+        used[side] += count
+    if any(used[side] != len(octets[side]) for side in SIDES):
+        raise BadInput(f"{name}: it has not as many octets as the files of the sides")
+    return [part for part in parts if part[3]]
 
 
 def side_of(name, parts):
@@ -73,7 +113,7 @@ def is_text(path):
 
 def read(name):
     """Reads a text with one side or both, or the files of NAME that `split` wrote. None if the name is no text."""
-    if not os.path.exists(name) and any(os.path.exists(f"{name}.{end}") for end in ("follow", "left")):
+    if not os.path.exists(name) and (os.path.exists(f"{name}.follow") or files_of(name)):
         return of_sides(name)
     if not os.path.isfile(name) or not is_text(name):
         return None

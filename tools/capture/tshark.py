@@ -6,58 +6,91 @@ import sys
 
 from ladders.transcript import BadInput
 
+# What is asked of each segment.
 FIELDS = ("frame.number", "frame.time_epoch", "tcp.stream", "ip.src", "ipv6.src", "tcp.srcport", "ip.dst", "ipv6.dst", "tcp.dstport",
-          "tcp.seq_raw", "tcp.flags.syn", "tcp.payload")
-# What is asked of a whole capture besides: what a segment acknowledges, and how many octets it had on its way.
-FATE = ("tcp.ack_raw", "tcp.flags.ack", "tcp.flags.reset", "tcp.len")
+          "tcp.seq_raw", "tcp.ack_raw", "tcp.flags", "tcp.len", "frame.cap_len", "tcp.payload")
 # An ICMP message about a segment quotes it, and is none.
 TCP = "tcp and not icmp and not icmpv6"
-YES = ("1", "True")
+# Nothing above TCP is dissected, which takes most of tshark's time, and of packets within packets the innermost counts.
+PLAIN = ("-d", "tcp.port==1-65535,data", "-o", "tcp.desegment_tcp_streams:FALSE", "-T", "fields", "-E", "separator=/t",
+         "-E", "occurrence=l", *(word for field in FIELDS for word in ("-e", field)))
 CUT_SHORT = "cut short in the middle of a packet"
+FIN, SYN, RESET, ACK = 0x01, 0x02, 0x04, 0x10
 
 
 class Segment:
-    """A TCP segment: when it passed, its stream, both addresses, its first sequence number, and its octets; what it acknowledges, if that
-    is known, and how many of its octets the capture doesn't have."""
+    """A TCP segment: when it passed, its stream, both addresses, its first sequence number, its flags and its octets; what it
+    acknowledges, if that is known, and how many of its octets the capture doesn't have, though the frame was longer than captured."""
 
-    acknowledged, missing = None, 0
+    acknowledged, missing, captured = None, 0, 0
+    is_first = is_last = is_reset = is_answer = False
 
     def __init__(self, values):
-        named = dict(zip(FIELDS, values))
-        self.frame, self.time, self.stream = int(named["frame.number"]), float(named["frame.time_epoch"]), int(named["tcp.stream"])
-        self.source = named["ip.src"] or named["ipv6.src"], int(named["tcp.srcport"])
-        self.target = named["ip.dst"] or named["ipv6.dst"], int(named["tcp.dstport"])
-        self.sequence, self.is_first = int(named["tcp.seq_raw"]), named["tcp.flags.syn"] in YES
-        self.octets = bytes.fromhex(named["tcp.payload"].replace(":", ""))
-
-    def tell(self, number, has_number, is_reset, length):
-        """Takes what tshark says of FATE. What a reset acknowledges need not have been sent."""
-        self.acknowledged = int(number) if has_number in YES and is_reset not in YES else None
+        (frame, time, stream, source, source_6, source_port, target, target_6, target_port, sequence, number, flags, length, captured,
+         octets) = values
+        self.frame, self.time, self.stream = int(frame), float(time), int(stream)
+        self.source, self.target = (source or source_6, int(source_port)), (target or target_6, int(target_port))
+        self.sequence = int(sequence)
+        self.octets = bytes.fromhex(octets.replace(":", ""))
+        self.tell(int(flags, 0), number)
         self.missing = max(int(length or 0) - len(self.octets), 0)
+        self.captured = int(captured or 0)
+
+    def tell(self, flags, number):
+        """Takes the flags, and what is acknowledged. What a reset acknowledges need not have been sent."""
+        if flags & (FIN | SYN | RESET):
+            self.is_first, self.is_last, self.is_reset = bool(flags & SYN), bool(flags & FIN), bool(flags & RESET)
+            self.is_answer = flags & (SYN | ACK) == SYN | ACK
+        self.acknowledged = int(number) if flags & (ACK | RESET) == ACK and number else None
 
 
-def segments(path):
-    """The TCP segments of a capture, one by one; of a capture that ends within a packet those before it, which is said."""
+def is_there():
+    """Whether tshark is installed."""
+    return shutil.which("tshark") is not None
+
+
+def checked(path):
+    """The path of a file that is there, if tshark is; else `BadInput`."""
     if not os.path.isfile(path):
         raise BadInput(f"{path}: {'it is no file' if os.path.exists(path) else 'there is no such file'}")
-    if not shutil.which("tshark"):
+    if not is_there():
         raise BadInput("there is no tshark, which reads captures (Debian has it in the package tshark)")
-    # Of packets within packets, the innermost.
-    words = ["tshark", "-n", "-r", path, "-Y", TCP, "-T", "fields", "-E", "separator=/t", "-E", "occurrence=l",
-             "-o", "tcp.desegment_tcp_streams:FALSE"]
-    words += [word for field in FIELDS + FATE for word in ("-e", field)]
-    with subprocess.Popen(words, stdout=subprocess.PIPE, stderr=subprocess.PIPE, text=True, errors="replace") as run:
-        for line in run.stdout:
-            values = line.rstrip("\n").split("\t")
-            if len(values) == len(FIELDS + FATE) and values[9]:
-                made = Segment(values[:len(FIELDS)])
-                made.tell(*values[len(FIELDS):])
-                yield made
+    return path
+
+
+def segments(path, name=None):
+    """The TCP segments of a capture, one by one; of a capture that ends within a packet those before it, which is said."""
+    words = ["tshark", "-n", "-r", checked(path), "-Y", TCP, *PLAIN]
+    with subprocess.Popen(words, stdout=subprocess.PIPE, stderr=subprocess.PIPE, text=True, encoding="ascii", errors="replace") as run:
+        yield from read(run.stdout)
         said = run.stderr.read()
     if run.returncode != 0 and CUT_SHORT in said:
-        print(f"{os.path.basename(sys.argv[0])}: {path} ends within a packet; it is read up to there", file=sys.stderr)
+        print(f"{os.path.basename(sys.argv[0])}: {name or path} ends within a packet; it is read up to there", file=sys.stderr)
     elif run.returncode != 0:
-        raise BadInput(f"{path}: {reason(said, path)}")
+        raise BadInput(f"{name or path}: {reason(said, path)}")
+
+
+def read(lines):
+    """The segments of lines as tshark prints them."""
+    for line in lines:
+        made = of_line(line)
+        if made is not None:
+            yield made
+
+
+def of_line(line):
+    """The segment of a line, or None."""
+    values = line.rstrip("\n").split("\t")
+    return Segment(values) if len(values) == len(FIELDS) and values[9] and values[2] else None
+
+
+def upper(path, stream):
+    """What tshark's own column says of each frame of a TCP stream, by the number of the frame: the layers above the session."""
+    words = ["tshark", "-n", "-r", checked(path), "-Y", f"tcp.stream == {stream} and tcp.len > 0", "-T", "tabs", "-o",
+             'gui.column.format:"No.","%m","Info","%i"']
+    done = subprocess.run(words, stdout=subprocess.PIPE, stderr=subprocess.DEVNULL, text=True, errors="replace", check=False)
+    rows = (row.strip().partition("\t") for row in done.stdout.splitlines())
+    return {int(number): info.strip() for number, _, info in rows if number.strip().isdigit()}
 
 
 def reason(said, path):

@@ -7,7 +7,7 @@ from .picture import cut, wrapped
 
 TEXT, LETTER, LINE_HEIGHT, TOP = 270, 7.25, 15, 76
 TEXT_COLUMNS, BAND, GAP, MIDDLE = 36, 8, 14, 250
-SECONDS = "seconds"
+PAUSE = 22
 LETTERS = (("data", "d"), ("minor", "m"), ("major", "M"), ("release", "r"))
 PLACES = (0.3, 0.45, 0.6, 0.18, 0.74, 0.86)
 
@@ -19,7 +19,7 @@ class Page:
         self.picture = picture
         self.step = 4 * BAND + GAP
         count, times = max(len(picture.connections), 1), picture.columns_of_times()
-        self.edge = int(LETTER * max(times, len(SECONDS)) + 16) if times else 0
+        self.edge = int(LETTER * max(times, len(picture.head_of_times())) + 16) if times else 0
         self.left = self.edge + TEXT
         self.width = self.edge + max(1000, 2 * TEXT + 16 + 2 * count * self.step + MIDDLE)
         self.place = {number: place for place, number in enumerate(picture.connections)}
@@ -34,6 +34,7 @@ class Page:
             rows = wrapped(row.text, TEXT_COLUMNS, 3)
             notes = wrapped(row.note, TEXT_COLUMNS + 4, 2) if row.note else []
             self.texts[row.index] = rows, notes
+            place += PAUSE if row.pause else 0
             self.at[row.index] = place + 11
             place += 8 + LINE_HEIGHT * len(rows) + 13 * len(notes)
         self.top, self.bottom = TOP - 6, place + 6
@@ -122,9 +123,13 @@ def head(page):
     page.add(f'<rect class="paper" width="{page.width}" height="{page.height}"/>')
     page.add(f'<text class="head" x="{middle}" y="24" text-anchor="middle">{escape(cut(picture.title, 112))}</text>')
     if page.edge:
-        page.add(f'<text class="muted" x="{page.edge}" y="50" text-anchor="end">{SECONDS}</text>')
+        page.add(f'<text class="muted" x="{page.edge}" y="50" text-anchor="end">{picture.head_of_times()}</text>')
     page.add(f'<text class="head" x="{page.left}" y="50" text-anchor="end">left: the caller</text>')
     page.add(f'<text class="head" x="{page.width - TEXT}" y="50">right: the called end</text>')
+    for side, place, anchor in (("left", page.left, "end"), ("right", page.width - TEXT, "start")):
+        if picture.ends.get(side):
+            end = escape(cut(picture.ends[side], TEXT_COLUMNS))
+            page.add(f'<text class="muted" x="{place}" y="65" text-anchor="{anchor}">{end}</text>')
     for connection in picture.connections:
         for side in ("left", "right"):
             x = page.x(side, connection)
@@ -223,16 +228,27 @@ def draw_row(page, row):
     else:
         x, anchor = (page.edge + page.width) / 2, "middle"
     kind = "refused" if row.mark in ("refused", "stop") else "muted" if row.muted else "plain"
-    spans = [f'<text class="muted" x="{page.edge}" y="{y + 4}" text-anchor="end">{row.time}</text>'] if row.time else []
+    times = page.picture.when(row)
+    spans = [f'<text class="muted" x="{page.edge}" y="{y + 4}" text-anchor="end" xml:space="preserve">{times}</text>'] if times else []
     spans += [f'<text class="{kind}" x="{x}" y="{y + 4 + LINE_HEIGHT * place}" text-anchor="{anchor}">'
               f'{escape(text)}</text>' for place, text in enumerate(rows)]
     below = y + 4 + LINE_HEIGHT * (len(rows) - 1)
     spans += [f'<text class="note" x="{x}" y="{below + 13 * place}" text-anchor="{anchor}">{escape(text)}</text>'
               for place, text in enumerate(notes, 1)]
+    draw_pause(page, row, y)
     half = 4 * len(row.text)
     under = "" if row.side else f'<rect class="under" x="{x - half}" y="{y - 8}" width="{2 * half}" height="16"/>'
     page.add(f'<g class="line" id="line{row.index + 1}"><title>{escape(row.whole)}</title>' + under
              + "".join(spans) + mark_of(page, row, y) + "</g>")
+
+
+def draw_pause(page, row, y):
+    """Draws the mark of a long pause above a row: a dotted line with the seconds."""
+    if row.pause:
+        middle, above, half = (page.edge + page.width) / 2, y - PAUSE + 2, 4 * len(row.pause)
+        page.add(f'<g class="plain"><path class="shaft" d="M{page.left + 10} {above}H{middle - half}M{middle + half} {above}'
+                 f'H{page.width - TEXT - 10}"/></g>'
+                 f'<text class="muted" x="{middle}" y="{above + 4}" text-anchor="middle">{row.pause}</text>')
 
 
 def mark_of(page, row, y):

@@ -1,10 +1,10 @@
 """The picture of a capture of both sides: its packets in the order in which they passed, the state of each side, and the verdict."""
 import time
 
-from . import script, verdicts
+from . import choosing, script, verdicts
 from .history import TOKENS, Band
 from .picture import TIMES_KEY, Picture, Row
-from .tapped import Piece, arrow_of, read, row_of, steps_of, text_of, times_of
+from .tapped import Piece, arrow_of, note_upper, octets_of, plain_data, read, row_of, steps_of, text_of, times_of
 from .transcript import SIDES, BadInput, other
 
 KEY = ("● a packet as it passed the tap; the number before it is its offset in its direction · × the packet that broke the protocol",
@@ -71,23 +71,39 @@ def broken_step(steps, verdict, side=None):
     return offsets.index(place) if place in offsets else None
 
 
-def picture_of(pieces, listings, title, judge=None, told=None):
-    """The picture of a capture. `judge` gives what `osi judge` prints for a text; or `told` has the verdicts."""
-    steps = steps_of(pieces, listings)
-    if not steps:
+def picture_of(pieces, listings, title, judge=None, told=None, first="1", last=str(10 ** 12), upper=None):
+    """The picture of a capture from one place to another. `judge` gives what `osi judge` prints for a text; or `told` has the verdicts.
+    `upper` is what tshark calls the layers above, by frame."""
+    every = steps_of(pieces, listings)
+    if not every:
         raise BadInput("there is no packet in the capture")
-    verdict, times = given(steps, told) if told else ask(pieces, steps, judge), times_of(pieces, steps)
-    made = Picture(title, describe(steps, verdict))
+    verdict = given(every, told) if told else ask(pieces, every, judge)
+    broken = broken_step(every, verdict)
+    bands_of(every)
+    wrong = {broken_step(every, verdict, side) for side in SIDES if verdict.break_of(side)}
+    packet = None if broken is None else every[broken]
+    steps, notes = choosing.shown(every, first, last, lambda step: alike(step, [every[at] for at in wrong if at is not None]), packet)
+    times = times_of(pieces, steps)
+    made = Picture(title, describe(every, verdict))
     made.key, made.connections = KEY + (TIMES_KEY if any(times) else ()), [1]
-    made.of, made.rows_of_each = "packet", 2
+    made.is_chosen = True
     made.spans = {(side, 1): (0, end_of(steps, side)) for side in SIDES}
+    add_rows(made, steps, verdict, times, upper)
+    made.verdict = verdicts.box(verdict, packet, {side: octets_of(pieces, side) for side in SIDES})
     made.bands = bands_of(steps)
-    add_rows(made, steps, verdict, times)
-    broken = broken_step(steps, verdict)
-    made.verdict = verdicts.box(verdict, None if broken is None else steps[broken])
     made.is_wrong = verdict.first is not None
-    made.notes = notes_of(steps)
+    made.notes = notes_of(every) + notes
     return made
+
+
+def alike(step, wrong):
+    """What a packet with nothing but data has in common with others after which both sides stood as after it; None for any other, and
+    for those that broke the protocol."""
+    data = plain_data(step)
+    if data is None or step in wrong:
+        return None
+    states = [step.verdict and step.verdict.state(side) for side in SIDES]
+    return (*data, *(state and state.text(True) for state in states))
 
 
 def told(pieces, listings, judge):
@@ -105,7 +121,7 @@ def describe(steps, verdict):
             f"in the order in which they passed. {' '.join(verdicts.box(verdict)[:2])}")
 
 
-def add_rows(made, steps, verdict, times):
+def add_rows(made, steps, verdict, times, upper=None):
     """Adds for each packet its row and its arrow, and a row with the state of the other side if that has changed."""
     broken = {broken_step(steps, verdict, side) for side in SIDES if verdict.break_of(side)}
     has_points = {side: any(state and state.numbers["next"] for state in states(steps, side)) for side in SIDES}
@@ -115,6 +131,7 @@ def add_rows(made, steps, verdict, times):
         mark = "refused" if is_wrong else "call" if step.packet.octets else "carried"
         row = row_of(step, index, times[place], 1, mark)
         made.rows.append(row)
+        row.pause = choosing.pause(steps[place - 1] if place else None, step)
         if is_wrong:
             row.note = "this broke the protocol" if made_wrong(verdict, step.side) else "this left the profile"
             over.add(step.side)
@@ -125,10 +142,11 @@ def add_rows(made, steps, verdict, times):
                 continue
             shown[side] = told
             if side == step.side:
-                row.note = told
+                row.note = f"{row.note}; {told}" if step.others and row.note else told
             else:
                 made.rows.append(Row(index + 1, told, told, side, 1, "standing"))
                 made.rows[-1].muted = True
+        note_upper(row, step, upper)
         if step.packet.octets:
             made.arrows.append(arrow_of(step, index, made.rows[-1].index, times[place], 1))
             made.arrows[-1].wrong = is_wrong
@@ -165,7 +183,7 @@ def bands_of(steps):
             for name, bit, _ in TOKENS:
                 held = bool(state and not over and state.held & bit)
                 if held and (side, name) not in is_open:
-                    since = f"{step.side}'s packet {step.start}" if place and steps[place - 1].verdict else None
+                    since = f"{step.side}'s packet at octet {step.start}" if place and steps[place - 1].verdict else None
                     is_open[side, name] = Band(side, 1, name, row, since)
                     found.append(is_open[side, name])
                 elif not held and (side, name) in is_open:
@@ -182,7 +200,7 @@ def notes_of(steps):
         return []
     if not asked:
         return ["How each side stood is not shown: one judgement took too long to be asked for after each packet, or only one was given."]
-    return [f"How each side stood is shown from packet {steps[asked[0]].start} of {steps[asked[0]].side} to packet "
+    return [f"How each side stood is shown from octet {steps[asked[0]].start} of {steps[asked[0]].side} to octet "
             f"{steps[asked[-1]].start} of {steps[asked[-1]].side}: of {len(steps)} packets, the {len(asked)} around the verdict."]
 
 

@@ -9,13 +9,15 @@ UNITS = {"connect": "CN", "accept": "AC", "refuse": "RF", "data": "DT", "give": 
 
 
 class Row:
-    """A row of the picture: the whole line, the text that is drawn at its side, a note below it, its mark, and its time as text."""
+    """A row of the picture: the whole line, the text that is drawn at its side, a note below it, its mark, its time and its frame as
+    text, and the pause before it, if it was long."""
 
-    __slots__ = ("index", "whole", "text", "note", "side", "connection", "mark", "point", "muted", "time")
+    __slots__ = ("index", "whole", "text", "note", "side", "connection", "mark", "point", "muted", "time", "frame", "pause")
 
     def __init__(self, index, whole, text, side, connection, mark):
         self.index, self.whole, self.text, self.side = index, whole, text, side
-        self.connection, self.mark, self.note, self.point, self.muted, self.time = connection, mark, None, None, False, None
+        self.connection, self.mark, self.note, self.point, self.muted = connection, mark, None, None, False
+        self.time = self.frame = self.pause = None
 
 
 class Arrow:
@@ -38,25 +40,46 @@ KEY = ("● an accepted call · ○ an indication that a user received · × a r
        "that this end holds.",
        "An arrow begins when its octets are written and ends when they are used. Dashed: an acknowledgement.",
        "A bar at the tip of an arrow: it causes no indication. × at the tip: it is cut there, inside a packet.")
-TIMES_KEY = ("The first column: the seconds from the first octets to the last of the packet. The rows are not to scale.",)
+TIMES_KEY = ("The first column: the seconds from the first octets to the last of the packet, and its frame. The rows are not to scale.",)
 CAPTURE_KEY = ("An arrow is a packet: it begins at the line that names it and ends at the last line of its contents.",)
 
 
 class Picture:
     """All that is drawn. `spans` has for each end of a connection the lines from and to which it is there; `verdict` has the lines of
-    a box, and `is_wrong` tells whether it is a bad one. A row is one of a line, or of a packet, which may have two."""
+    a box, and `is_wrong` tells whether it is a bad one. `ends` has the addresses of the sides, if they are known. A picture of packets
+    `is_chosen`: it has only the rows that are shown."""
 
     key, has_tokens, verdict, is_wrong = KEY, True, (), False
-    of, rows_of_each = "line", 1
+    ends, is_chosen = {}, False
 
     def __init__(self, title, description):
         self.title, self.description = title, description
         self.rows, self.arrows, self.bands, self.connections, self.notes = [], [], [], [], []
-        self.spans = {}
+        self.spans, self._columns = {}, None
 
     def columns_of_times(self):
-        """How many columns the times take; 0 if there are none."""
-        return max((len(row.time) for row in self.rows if row.time), default=0)
+        """How many columns the times and frames take; 0 if there are none."""
+        return max((len(self.when(row)) for row in self.rows if row.time), default=0)
+
+    def columns_of_frames(self):
+        """How many columns the frames take; 0 if there are none."""
+        return max((max(len(row.frame), len("frame")) for row in self.rows if row.frame), default=0)
+
+    def when(self, row):
+        """The time of a row and its frame."""
+        width = self.columns
+        return f"{row.time} {row.frame or '':>{width}}" if row.time and width else row.time or ""
+
+    @property
+    def columns(self):
+        """The columns of the frames, counted once."""
+        if self._columns is None:
+            self._columns = self.columns_of_frames()
+        return self._columns
+
+    def head_of_times(self):
+        """What stands above the times."""
+        return "seconds frame" if self.columns else "seconds"
 
 
 MARKS = {"connect": "call", "call": "call", "shown": "shown", "carried": "carried", "standing": "standing",

@@ -6,7 +6,7 @@ import tempfile
 
 from capture import asking
 
-from . import captures, drawing, history, judged, picture, reading, script, tapped, terminal, transcript, verdicts, wire
+from . import captures, choosing, drawing, history, judged, picture, reading, script, tapped, terminal, transcript, verdicts, wire
 from .transcript import BadInput
 
 ABOUT = """Draws a ladder of a run of two ends, as SVG: of what `osi pair` printed, of a script, for which it runs `osi pair`, or of a
@@ -39,9 +39,10 @@ def words():
                         "nothing")
     parser.add_argument("--connection", type=int, action="append", metavar="N",
                         help="show this connection (and others so named)")
-    parser.add_argument("--from", dest="first", type=int, default=1, metavar="LINE",
-                        help="the first line to show; of a capture of both sides the first packet")
-    parser.add_argument("--to", dest="last", type=int, default=10 ** 9, metavar="LINE", help="the last line or packet to show")
+    parser.add_argument("--from", dest="first", default="1", metavar="PLACE", help="the first line to show; of a capture of both sides the "
+                        "first packet, or frame=N, left=OCTET, right=OCTET or seconds=TIME")
+    parser.add_argument("--to", dest="last", default=str(10 ** 9), metavar="PLACE", help="the last line or packet to show, or such a place")
+    parser.add_argument("--upper", action="store_true", help="of a pcap or pcapng, what tshark calls the layers above")
     parser.add_argument("--text", action="store_true", help="draw in the columns of a terminal")
     parser.add_argument("--columns", type=int, default=100, metavar="N", help="so many columns (100; at least 60)")
     parser.add_argument("--title", help="what the picture is of")
@@ -100,7 +101,7 @@ def picture_of_run(text, options, progress):
     if script.is_script(text):
         written = script.read(text)
         said = script.title_of(text)
-        text = script.run(options.osi, "pair", text, progress.running("osi pair"))
+        text = played(text, options, progress)
     elif options.script:
         asked_for = script_text(options.script)
         written, said = script.read(asked_for), script.title_of(asked_for)
@@ -114,6 +115,18 @@ def picture_of_run(text, options, progress):
     story = history.History(lines, followed, asked).run()
     title = readable(options.title or said or named(options.file, "a run of two ends"))
     return picture.of_run(lines, followed, story, title, options.connection)
+
+
+def played(text, options, progress):
+    """What `osi pair` prints for a script; `BadInput` if it refuses one of its lines."""
+    printed = script.run(options.osi, "pair", text, progress.running("osi pair"))
+    last = printed.rstrip("\n").rpartition("\n")[2]
+    if transcript.STOP.fullmatch(last):
+        _, number, why = last.split(" ")
+        row = text.split("\n")[int(number) - 1]
+        raise BadInput(f"osi pair refuses line {number} of the script, so there is no picture: {row[:80]!r}"
+                       + ("" if why == "refused" else f" ({why})"))
+    return printed
 
 
 def named(name, other):
@@ -140,7 +153,8 @@ def picture_of_captures(options, progress):
     pieces, listings = reading.in_time(texts), {}
     title = readable(options.title or "two captures")
     if pieces:
-        return tapped.picture_of(pieces, listings_of(pieces, options.osi, {}, progress), title)
+        listings = listings_of(pieces, options.osi, {}, progress)
+        return tapped.picture_of(pieces, listings, title, None, options.first, options.last)
     for side, text in texts.items():
         listings[side] = text if captures.is_listing(text) else script.run(
             options.osi, "show", text, progress.running("osi show"))
@@ -164,41 +178,52 @@ def named_listings(options):
     return {"left": options.left, "right": options.right}
 
 
-def pieces_of(name, options):
-    """The pieces of a capture, and the title in its file, if it has one; or None and a text that is no capture."""
-    pieces = reading.by_name(name, options.port, options.stream)
-    if pieces is not None:
-        return pieces, None
+def source_of(name, options):
+    """A capture, and the title in its file, if it has one; or None and a text that is no capture."""
+    source = reading.by_name(name, options.port, options.stream, options.upper)
+    if source is not None:
+        return source, None
     if options.stream is not None:
         raise BadInput("--stream is for a pcap or pcapng")
     text = read_text(name)
-    return (tapped.read(text), title_of_capture(text)) if options.judge or reading.is_capture(text) else (None, text)
+    is_capture = options.judge or reading.is_capture(text)
+    return (reading.Source(tapped.read(text)), title_of_capture(text)) if is_capture else (None, text)
 
 
 def picture_of_file(options, progress):
     """The picture of a transcript, a script, or a capture of both sides."""
-    pieces, text = pieces_of(options.file, options)
-    if pieces is None:
+    source, text = source_of(options.file, options)
+    if source is None:
         if options.left:
             raise BadInput("the file is no capture of both sides, whose listings --left and --right are")
         return picture_of_run(text, options, progress)
     if options.script:
         raise BadInput("--script goes with a transcript, and this is a capture")
-    pieces = reading.by_caller(pieces)
+    pieces = source.pieces if source.ends else reading.by_caller(source.pieces)
     title = readable(options.title or text or named(options.file, "a capture of both sides"))
-    return tapped.picture_of(pieces, listings_of(pieces, options.osi, named_listings(options), progress), title, options.connection)
+    listings = listings_of(pieces, options.osi, named_listings(options), progress)
+    return finished(tapped.picture_of(pieces, listings, title, options.connection, options.first, options.last, source.upper), source)
+
+
+def finished(made, source):
+    """A picture with the addresses and the notes of its capture."""
+    made.ends = {side: readable(end) for side, end in source.ends.items()}
+    made.notes += source.notes
+    for row in made.rows:
+        row.note = row.note and readable(row.note)
+    return made
 
 
 def judged_capture(options, progress):
     """The picture of a capture of both sides with its verdict; or, with --states, what `osi judge` says after each packet."""
-    pieces, said = pieces_of(options.judge, options)
+    source, said = source_of(options.judge, options)
+    pieces, judge = source.pieces, judged.runner(options.osi, progress.running)
     told = verdicts.read(read_text(options.verdicts)) if options.verdicts else None
     listings = listings_of(pieces, options.osi, named_listings(options), progress)
-    judge = judged.runner(options.osi, progress.running)
     if options.states:
         return judged.told(pieces, listings, judge)
     title = readable(options.title or said or named(options.judge, "a capture of both sides"))
-    return judged.picture_of(pieces, listings, title, judge, told)
+    return finished(judged.picture_of(pieces, listings, title, judge, told, options.first, options.last, source.upper), source)
 
 
 def title_of_capture(text):
@@ -251,8 +276,9 @@ def check(options):
         raise BadInput("two captures are drawn without --script and --connection")
     if (options.verdicts or options.states) and not options.judge:
         raise BadInput("--verdicts and --states go with --judge")
-    if not 1 <= options.first <= options.last:
-        raise BadInput("--from and --to are lines from 1 on, in this order")
+    first, last = choosing.Place(options.first), choosing.Place(options.last)
+    if first.kind == last.kind and not first.number <= last.number or first.kind is None and first.number < 1:
+        raise BadInput("--from and --to are lines from 1 on, or other places, in this order")
 
 
 def make(options, progress):
@@ -261,12 +287,20 @@ def make(options, progress):
     made = picture_asked_for(options, progress)
     if isinstance(made, str):
         return made
-    if made.rows and made.rows_of_each * (options.first - 1) > made.rows[-1].index:
-        raise BadInput(f"there is no {made.of} {options.first}")
-    span = made.rows_of_each * (options.first - 1), made.rows_of_each * options.last - 1
+    span = (0, 10 ** 12) if made.is_chosen else span_of(made, options)
     if options.text:
         return terminal.draw(made, *span, columns=options.columns, progress=progress)
     return drawing.draw(made, *span, progress=progress)
+
+
+def span_of(made, options):
+    """The first and the last row to show of a picture of a run."""
+    first, last = choosing.Place(options.first), choosing.Place(options.last)
+    if first.kind or last.kind:
+        raise BadInput("a place of a run is the number of a line: frames, octets and times are those of a capture of both sides")
+    if made.rows and first.number - 1 > made.rows[-1].index:
+        raise BadInput(f"there is no line {first.number}")
+    return first.number - 1, last.number - 1
 
 
 def main(arguments=None):

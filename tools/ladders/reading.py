@@ -2,7 +2,7 @@
 import os
 import re
 
-from capture import asking, streams, texts
+from capture import asking, middle, streams, texts, tshark
 
 from . import captures, tapped
 from .transcript import SIDES, BadInput
@@ -22,21 +22,44 @@ def is_network(name):
         return re.fullmatch(rb"[\t\n\r -~]*", file.read(4096)) is None
 
 
-def by_name(name, port, stream):
-    """The pieces of a capture of a network, or of the files NAME.left, NAME.right and NAME.follow. None if the name is that of a text."""
+class Source:
+    """The pieces of a capture; the addresses of its sides and notes on where it begins and ends, if it is one of a network; and what
+    tshark calls the layers above, by frame."""
+
+    def __init__(self, pieces, ends=None, notes=(), upper=None):
+        self.pieces, self.ends, self.notes, self.upper = pieces, ends or {}, list(notes), upper
+
+
+def pieces_of(stream):
+    """The pieces of a stream or a text, as the ladders have them."""
+    return [tapped.Piece(side, piece.octets, piece.frame, piece.time) for side, piece in stream.by_side()]
+
+
+def by_name(name, port, stream, has_upper=False):
+    """A capture of a network, or the files NAME.left, NAME.right and NAME.follow. None if the name is that of a text."""
     if name in (None, "-"):
         return None
     if is_network(name):
-        chosen = asking.chosen(name, port, stream)
-        return [tapped.Piece(side, piece.octets, piece.frame, piece.time) for side, piece in chosen.by_side()]
+        return of_network(asking.chosen(name, port, stream), has_upper)
     found = None if os.path.exists(name) else texts.read(name)
     if found and not found.is_ordered:
         raise BadInput(f"{name}: there is no {name}.follow, and the files don't say when octets passed (name them by --left and --right)")
-    return found and [tapped.Piece(side, piece.octets, piece.frame, piece.time) for side, piece in found.by_side()]
+    return found and Source(pieces_of(found))
+
+
+def of_network(view, has_upper):
+    """What a picture needs of a stream of a network."""
+    stream = getattr(view, "stream", view)
+    notes = [f"The stream begins in the middle, at frame {view.frame}."] if isinstance(view, middle.Middle) else []
+    gap = stream.gap()
+    notes += [f"Shown up to {gap}."] if gap else []
+    upper = tshark.upper(stream.path, stream.number) if has_upper else None
+    return Source(pieces_of(view), {side: asking.named(end) for side, end in stream.by_end().items()}, notes, upper)
 
 
 def by_caller(pieces):
-    """The pieces with the caller at the left: the side that alone begins with a CR, or the other one of that which begins with a CC."""
+    """The pieces of a text with the caller at the left: the side that alone begins with a CR, or the other one of that which begins with
+    a CC."""
     left, right = (tapped.octets_of(pieces, side) for side in SIDES)
     is_turned = streams.is_connect_request(right) and not streams.is_connect_request(left)
     return turned(pieces) if is_turned or (streams.is_connect_confirm(left) and not right) else pieces

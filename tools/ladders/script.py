@@ -83,12 +83,17 @@ def title_of(text):
     return first[1:].strip() or None if first.startswith("#") else None
 
 
+def beside():
+    """The program `osi` of this repository, or the one that was installed beside this program, or the one on the path."""
+    places = os.path.join(TOP, "osi"), os.path.join(os.path.dirname(os.path.realpath(TOP)), "bin", "osi")
+    return next((place for place in places if os.path.isfile(place) and os.access(place, os.X_OK)), "osi")
+
+
 def run(program, word, text, tick=lambda seconds: None):
     """Runs the program `osi` on a text, and gives what it prints; `BadInput` if it prints nothing."""
     if len(text) > LONGEST:
         raise BadInput(f"this is {len(text):,} characters of hexadecimal digits and lines, and osi {word} reads at most {LONGEST:,}")
-    beside = os.path.join(TOP, "osi")
-    command = [program or (beside if os.path.isfile(beside) else "osi"), word]
+    command = [program or beside(), word]
     try:
         started = subprocess.Popen(command, stdin=subprocess.PIPE, stdout=subprocess.PIPE, stderr=subprocess.PIPE,
                                    encoding="utf-8", errors="replace")

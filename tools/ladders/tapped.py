@@ -1,7 +1,7 @@
 """The picture of a capture of both sides: its packets in the order in which they passed, with the time of each if that is known."""
 import re
 
-from . import captures, verdicts
+from . import captures, choosing, verdicts
 from .history import TOKENS
 from .picture import TIMES_KEY, Arrow, Picture, Row
 from .transcript import SIDES, BadInput
@@ -66,12 +66,13 @@ def octets_of(pieces, side):
 
 class Step:
     """A packet, or the octets at the end of a side that are none; when it had passed; and if it has a part of a data, the place of the
-    part and the number of parts. A judged capture has the verdict on everything up to it, if that is known."""
+    part and the number of parts. A judged capture has the verdict on everything up to it, if that is known. `others` are equal packets
+    after it, which have no row."""
 
     def __init__(self, packet, start, passed, piece=None):
         self.packet, self.side, self.start, self.passed, self.piece = packet, packet.side, start, passed, piece
         self.part = self.verdict = None
-        self.bands = []
+        self.bands, self.others = [], []
 
     @property
     def tokens(self):
@@ -109,7 +110,8 @@ def steps_of(pieces, listings):
 
 
 def steps_of_side(side, packets, ends, pieces):
-    """The packets of a side: for each the place of the piece with its last octet, where it ends, and the step."""
+    """The packets of a side: for each the place of the piece with its last octet, where it ends, and the step. Octets that are no packet
+    are where the first of them is."""
     whole, start, place = (ends[-1][0] if ends else 0), 0, 0
     for packet in packets:
         length = packet.octets or whole - start
@@ -117,10 +119,11 @@ def steps_of_side(side, packets, ends, pieces):
             continue
         if start + length > whole or not packet.lines[0].startswith(("rest", f"packet {start} ", f"fault {start} ")):
             raise BadInput(f"the listing of {side} is not that of the capture: {packet.lines[0]}")
-        while ends[place][0] < start + length:
+        end = start + length if packet.octets else start + 1
+        while ends[place][0] < end:
             place += 1
         at = ends[place][1]
-        yield at, start + length, Step(packet, start, (side, start + length), pieces[at])
+        yield at, end, Step(packet, start, (side, start + (length if packet.octets else min(length, 4))), pieces[at])
         start += length
 
 
@@ -149,6 +152,17 @@ def times_of(pieces, steps):
     """The seconds of each packet after the first octets, as text; None where the time is not known."""
     begin = next((piece.time for piece in pieces if piece.time is not None), None)
     return [None if step.piece is None or step.piece.time is None else f"{step.piece.time - begin:.6f}" for step in steps]
+
+
+def plain_data(step):
+    """What a packet with nothing but data has in common with others like it; None for any other packet."""
+    named = described(step).partition(": ")[2]
+    return (step.side, step.connection, named) if re.fullmatch(r"DT \d+ octets", named) else None
+
+
+def again(step, text):
+    """A text with how often such a packet came, if that is more than once."""
+    return re.sub(r"\bDT\b", f"DT x {1 + len(step.others):,},", text, count=1) if step.others else text
 
 
 def described(step):
@@ -199,8 +213,10 @@ def sides_of(setting):
 
 def row_of(step, index, time, connection, mark):
     """The row of a packet."""
-    row = Row(index, "; ".join(line.strip() for line in step.packet.lines), described(step), step.side, connection, mark)
-    row.time = time
+    row = Row(index, "; ".join(line.strip() for line in step.packet.lines), again(step, described(step)), step.side, connection, mark)
+    row.time, row.frame = time, str(step.piece.frame) if step.piece and step.piece.frame is not None else None
+    if step.others and step.others[-1].piece.frame is not None:
+        row.note = f"up to frame {step.others[-1].piece.frame}"
     return row
 
 
@@ -210,34 +226,46 @@ def arrow_of(step, index, end, time, connection):
         [row.split()[0] for row in step.packet.lines[1:2]]
     label = with_part(" ".join(name for name in names if name != "GT" or len(names) == 1) or "packet", step)
     when = f", frame {step.piece.frame}, {time} seconds" if time else ""
-    arrow = Arrow(step.side, connection, index, end, 0, 1, f"{label} {step.packet.octets}",
-                  f"{step.side}: packet {step.start}, {label}, {step.packet.octets} octets{when}")
+    label = again(step, label).rstrip(",")
+    arrow = Arrow(step.side, connection, index, end, 0, 1, f"{label} {step.packet.octets}" if not step.others else label,
+                  f"{step.side}: packet at octet {step.start}, {label}, {step.packet.octets} octets{when}")
     arrow.minor, arrow.carry = set(names) == {"AK"}, index
     return arrow
 
 
-def picture_of(pieces, listings, title, chosen=None):
-    """The picture of a capture; `chosen` are the connections that are shown, or None for all."""
-    steps = steps_of(pieces, listings)
-    if not steps:
+def picture_of(pieces, listings, title, chosen=None, first="1", last=str(10 ** 12), upper=None):
+    """The picture of a capture from one place to another; `chosen` are the connections that are shown, or None for all, and `upper` what
+    tshark calls the layers above, by frame."""
+    every = steps_of(pieces, listings)
+    if not every:
         raise BadInput("there is no packet in the capture")
-    present = {step.connection for step in steps} - {None}
+    present = {step.connection for step in every} - {None}
     for number in set(chosen or ()) - present:
         raise BadInput(f"there is no connection {number}")
-    shown = sorted(chosen or present)
+    numbers = sorted(chosen or present)
+    steps, notes = choosing.shown(every, first, last, plain_data)
     times = times_of(pieces, steps)
-    made = Picture(title, describe(steps, times, shown))
+    made = Picture(title, describe(every, times_of(pieces, every), numbers))
     made.key = KEY + (TIMES_KEY if any(times) else ())
-    made.of, made.has_tokens, made.connections = "packet", False, shown or [1]
+    made.is_chosen, made.has_tokens, made.connections = True, False, numbers or [1]
     spans = spans_of(steps)
     made.spans = {(side, number): spans.get(number, (0, None)) for number in made.connections for side in SIDES}
     for index, (step, time) in enumerate(zip(steps, times)):
-        if not chosen or step.connection in shown:
+        if not chosen or step.connection in numbers:
             add_packet(made, step, index, time)
+            made.rows[-1].pause = choosing.pause(steps[index - 1] if index else None, step)
+            note_upper(made.rows[-1], step, upper)
     if len(present) > 1:
         name_connections(made.rows)
-    made.notes = notes_of(times, len(present) - len(shown))
+    made.notes = notes_of(times_of(pieces, every), len(present) - len(numbers)) + notes
     return made
+
+
+def note_upper(row, step, upper):
+    """Adds what tshark calls the layers above to the note of a row, if that was asked for."""
+    told = (upper or {}).get(step.piece.frame) if step.piece else None
+    if told:
+        row.note = f"{row.note}; {told}" if row.note else told
 
 
 def add_packet(made, step, index, time):

@@ -10,6 +10,7 @@ LEAST = 60
 def draw(picture, first=0, last=10 ** 12, columns=100, progress=None):
     """The rows, each of at most so many columns; the sides and the tokens are aligned."""
     columns, times = max(columns, LEAST), picture.columns_of_times()
+    times = times and max(times, len(picture.head_of_times()))
     room = columns - times - bool(times)
     side = (room - 2 * 8 - 6) * 4 // 11
     middle = room - 2 * side - 2 * 8
@@ -22,11 +23,16 @@ def draw(picture, first=0, last=10 ** 12, columns=100, progress=None):
         return f"{cut(text or '', times):>{times}} {row}" if times else row
     letters = "".join(LETTERS.values()) if picture.has_tokens else ""
     out = [cut(picture.title, columns),
-           timed("seconds", row_text("left: the caller", letters, " ", "", " ", letters, "right: the called end", side, middle))]
+           timed(picture.head_of_times(),
+                 row_text("left: the caller", letters, " ", "", " ", letters, "right: the called end", side, middle))]
+    if picture.ends:
+        out.append(timed("", row_text(picture.ends["left"], "", " ", "", " ", "", picture.ends["right"], side, middle)))
     for row in picture.rows:
         tokens = held(row)
         if first <= row.index <= last:
-            out.append(timed(row.time, one_row(row, arrows.get(row.index, []), tokens, side, middle)))
+            if row.pause:
+                out.append(timed("", f" {row.pause} ".center(room, "~")))
+            out.append(timed(picture.when(row), one_row(row, arrows.get(row.index, []), tokens, side, middle)))
         if progress:
             progress(row.index, picture.rows[-1].index + 1)
     out += box(picture.verdict, columns)

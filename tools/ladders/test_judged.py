@@ -14,24 +14,27 @@ NAMES = ("restart", "restart_cured")
 OPENED = "left 1 broke packet 41 {0}\nleft 1 knew 1 of 1 phase {1}\nleft broke the protocol first, packet 41: {0}\n"
 # What `osi judge` prints of a break, and the sentence for it.
 SENTENCES = (
-    ("Data TokenNotHeld", "Ready held 54 next 1 below 1 lowest 1", "It sent data (DT); it did not hold the data token."),
+    ("Data TokenNotHeld", "Ready held 54 next 1 below 1 lowest 1",
+     "It sent data (DT); it did not hold the data token (X.225, 7.11 and 5.8)."),
     ("Minor TokenNotHeld", "Ready held 00 next 1 below 1 lowest 1",
-     "It sent a minor synchronization point (MIP); it did not hold the tokens for that."),
+     "It sent a minor synchronization point (MIP); it did not hold the tokens for that (X.225, 7.20 and 5.8)."),
     ("Minor TokenNotHeld", "Ready held 01 next 1 below 1 lowest 1",
-     "It sent a minor synchronization point (MIP); it did not hold the minor token."),
-    ("Give TokenNotHeld", "Ready held 54 next 1 below 1 lowest 1", "It sent tokens (GT); it did not hold the tokens for that."),
+     "It sent a minor synchronization point (MIP); it did not hold the minor token (X.225, 7.20 and 5.8)."),
+    ("Give TokenNotHeld", "Ready held 54 next 1 below 1 lowest 1",
+     "It sent tokens (GT); it did not hold the tokens for that (X.225, 7.16 and 5.8)."),
     ("Data BadState", "MajorAsked held 55 next 2 below 1 lowest 1",
-     "It sent data (DT); a session may not send that in the phase MajorAsked."),
+     "It sent data (DT); a session may not send that in the phase MajorAsked (X.225, 7.11 and Annex A)."),
     ("MinorConfirm BadNumber", "Ready held 00 next 4 below 3 lowest 1",
      "It sent the confirmation of a minor point (MIA); its number is not one that is allowed: the next number was 4, all below 3 were "
-     "confirmed, and a restart may go back to 1."),
+     "confirmed, and a restart may go back to 1 (X.225, 7.21 and 5.9)."),
     ("Accept BadTokens", "Answering held 00 next 0 below 0 lowest 0",
-     "It sent an acceptance (AC); it puts tokens on a side that was not asked for."),
+     "It sent an acceptance (AC); it puts tokens on a side that was not asked for (X.225, 7.4 and 5.8)."),
     ("Abort NoFault", "Ready held 55 next 4 below 2 lowest 1",
-     "It sent an abort (AB); it reports a protocol error, and there had been none."),
-    ("TSDU UnknownSi", "Ready held 55 next 1 below 1 lowest 1", "It sent a TSDU that can't be read: UnknownSi."),
+     "It sent an abort (AB); it reports a protocol error, and there had been none (X.225, 7.9)."),
+    ("TSDU UnknownSi", "Ready held 55 next 1 below 1 lowest 1",
+     "It sent a TSDU; it has a unit with an SI that isn't known, or of a functional unit that isn't selected (X.225, 8.2)."),
     ("AbortAccept NothingToAnswer", "Ready held 55 next 1 below 1 lowest 1",
-     "It sent the answer to an abort (AA); there was nothing to answer."))
+     "It sent the answer to an abort (AA); there was no abort to answer (X.225, 7.10)."))
 
 
 def stored(name):
@@ -98,8 +101,8 @@ class Pictures(unittest.TestCase):
 
     def test_the_box_has_the_verdict_in_a_sentence(self):
         self.assertEqual(list(drawn("restart").verdict), [
-            "Left broke the protocol first, in its packet 143.",
-            "It sent data (DT); the data token was with right since left's packet 126.",
+            "Left broke the protocol first, in its packet at octet 143.",
+            "It sent data (DT); the data token was with right since left's packet at octet 126 (X.225, 7.11 and 5.8).",
             "The session that comes nearest had taken 3 of the 3 TSDUs of right that had passed, and was in the phase Ready.",
             "osi judge: left broke the protocol first, packet 143: Data TokenNotHeld"])
         self.assertEqual(list(drawn("restart_cured").verdict), ["Both sides kept the protocol.", "osi judge: both kept the protocol"])
@@ -146,7 +149,7 @@ class Pictures(unittest.TestCase):
         text = terminal.draw(drawn("restart"))
         self.assertIn("143: DT 8 octets", text)
         self.assertRegex(text, r"x -+ DT 19 -+>")
-        self.assertIn("| Left broke the protocol first, in its packet 143.", text)
+        self.assertIn("| Left broke the protocol first, in its packet at octet 143.", text)
 
     def test_one_verdict_alone_is_drawn_without_states(self):
         text, listings, told = stored("restart")
@@ -172,7 +175,7 @@ class Pictures(unittest.TestCase):
                              "left broke the protocol first, packet 14: TPKT BadVersion\n")
         made = judged.picture_of(tapped.read(text), listings, "", told=told)
         self.assertEqual([row.text for row in made.rows if row.mark == "refused"], ["fault 14 BadVersion"])
-        self.assertEqual(made.verdict[1], "It sent octets that can't be read: BadVersion.")
+        self.assertEqual(made.verdict[1], "No packet begins there: its first octet (hexadecimal 04) is not 3 (RFC 1006, section 6).")
 
 
 class Reading(unittest.TestCase):
@@ -181,7 +184,7 @@ class Reading(unittest.TestCase):
     def sides(self, text):
         return [(piece.side, piece.octets.hex()) for piece in tapped.read(text)]
 
-    def test_lines_that_begin_with_a_tab_are_of_the_called_side(self):
+    def test_lines_without_a_tab_are_of_the_caller(self):
         self.assertEqual(self.sides("# a\n\t0a 0b # c\n0c\n"), [("right", "0a0b"), ("left", "0c")])
         self.assertEqual(self.sides("0a\n\n\t0c\n"), [("left", "0a"), ("right", "0c")])
 
@@ -205,7 +208,7 @@ class Reading(unittest.TestCase):
         for last, wanted in (("not judged: the connection is not of class 0", "Not judged: the connection is not of class 0."),
                              ("both kept the protocol", "Both sides kept the protocol."),
                              ("left leaves the profile first, packet 41: TSDU Outside",
-                              "Left was the first to leave the profile, in its packet 41.")):
+                              "Left was the first to leave the profile, in its packet at octet 41.")):
             text = "left 1 leaves packet 41 TSDU Outside\n" * last.startswith("left") + last + "\n"
             self.assertEqual(verdicts.box(verdicts.read(text)[0])[0], wanted)
 
@@ -222,7 +225,7 @@ class Reading(unittest.TestCase):
         text = ("left 1 broke packet 68 Data Ended\nleft 1 knew 2 of 2 phase Aborting held 00 next 0 below 0 lowest 0\n"
                 "right 1 broke packet 41 Minor TokenNotHeld\nright 1 knew 1 of 1 phase Ready held 00 next 1 below 1 lowest 1\n"
                 "right broke the protocol first, packet 41: Minor TokenNotHeld\n")
-        self.assertIn("Later left broke the protocol too, in its packet 68: Data Ended.", verdicts.box(verdicts.read(text)[0]))
+        self.assertIn("Later left broke the protocol too, in its packet at octet 68: Data Ended.", verdicts.box(verdicts.read(text)[0]))
 
 
 class Asking(unittest.TestCase):
@@ -260,7 +263,7 @@ class Asking(unittest.TestCase):
         seconds = iter(range(100))
         with mock.patch.object(judged, "LONGEST", 4), mock.patch.object(judged.time, "monotonic", lambda: next(seconds)):
             made = judged.picture_of(tapped.read(text), listings, "", lambda given: answer(None, "judge", given))
-        self.assertIn("from packet 126 of left to packet 75 of right: of 15 packets, the 3 around the verdict", made.notes[0])
+        self.assertIn("from octet 126 of left to octet 75 of right: of 15 packets, the 3 around the verdict", made.notes[0])
         self.assertIn("it did not hold the data token", made.verdict[1])
 
     def test_a_part_of_the_packets(self):

@@ -8,6 +8,7 @@ import tempfile
 import time
 import unittest
 import xml.etree.ElementTree as tree
+from unittest import mock
 
 from . import captures, drawing, history, picture, program, script, terminal, transcript, wire
 
@@ -277,6 +278,19 @@ class Program(unittest.TestCase):
                 status, out, _ = call(good, "--title", title, *words)
                 self.assertEqual((status, "a\ufffdb" in out, title in out), (0, True, False))
         tree.fromstring(call(good, "--title", "<a & b>\x01")[1])
+
+    def test_a_script_that_osi_pair_refuses_draws_nothing_and_says_why(self):
+        with mock.patch.object(script, "run", lambda *words: "left connect ok 1\nline 3 refused\n"):
+            said = self.refused(self.script_of("ends 0 0 10 4\nconnect 00b9 1 aaaa -\nleft 1 dance\n"))
+        self.assertIn("osi pair refuses line 3 of the script, so there is no picture: 'left 1 dance'", said)
+
+    def script_of(self, text):
+        """The name of a file with a script."""
+        room = tempfile.TemporaryDirectory()
+        self.addCleanup(room.cleanup)
+        with open(os.path.join(room.name, "run.script"), "w", encoding="ascii") as file:
+            file.write(text)
+        return file.name
 
     def test_a_program_that_prints_no_text_is_refused(self):
         with tempfile.TemporaryDirectory() as folder:

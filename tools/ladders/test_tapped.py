@@ -52,14 +52,14 @@ class Pictures(unittest.TestCase):
         self.assertEqual([row.side for row in made.rows], [piece.side for piece in tapped.read(text_of(RESTART + ".follow"))])
         self.assertEqual([row.time for row in made.rows], TIMES)
         self.assertEqual([(arrow.start, arrow.end) for arrow in made.arrows], [(place, place) for place in range(len(TIMES))])
-        self.assertIn("packet 143, DT, 19 octets, frame 16, 0.005600 seconds", made.arrows[12].whole)
+        self.assertIn("packet at octet 143, DT, 19 octets, frame 16, 0.005600 seconds", made.arrows[12].whole)
         self.assertEqual((made.verdict, made.bands, made.notes), ((), [], []))
 
     def test_times_stand_below_each_other_in_front_of_everything(self):
         root = tree.fromstring(drawing.draw(drawn()))
         groups = [group for group in root.iter(SVG + "g") if group.get("class") == "line"]
         times = [group.find(SVG + "text") for group in groups]
-        self.assertEqual([each.text for each in times], TIMES)
+        self.assertEqual([each.text.split() for each in times], [[time, str(frame)] for frame, time in enumerate(TIMES, 4)])
         edge = {float(each.get("x")) for each in times}.pop()
         self.assertTrue(all(each.get("text-anchor") == "end" and float(each.get("x")) == edge for each in times))
         for each in root.iter(SVG + "text"):
@@ -73,7 +73,7 @@ class Pictures(unittest.TestCase):
             rows = terminal.draw(drawn(), columns=columns).splitlines()
             self.assertEqual([row.split()[0] for row in rows[1:]], ["seconds", *TIMES])
             self.assertTrue(all(len(row) <= columns for row in rows[1:]), columns)
-        self.assertRegex(rows[14], r"^0\.005600 +143: DT 8 octets +\* -+ DT 19 -+> \|$")
+        self.assertRegex(rows[14], r"^0\.005600    16 +143: DT 8 octets +\* -+ DT 19 -+> \|$")
 
     def test_a_verdict_comes_with_times(self):
         rows = call(*files("restart"), "--text")[1].splitlines()
@@ -226,17 +226,31 @@ class Networks(Room):
             self.assertEqual(capture.main(["join", os.path.join(DISPUTES, name), "-o", made]), 0)
         return made
 
+    @staticmethod
+    def numbered(rows):
+        """Rows whose frames are counted from the first one."""
+        found = [re.match(r"(\d+\.\d+ +)(\d+)(?= )", row) for row in rows]
+        first = min((int(each[2]) for each in found if each), default=0)
+        counted = [f"{each[1]}{int(each[2]) - first}{row[each.end():]}" if each else row for row, each in zip(rows, found)]
+        return [" ".join(row.split()) for row in counted]
+
+    def with_ends(self, *words):
+        """The rows of a picture without that of the addresses."""
+        rows = self.numbered(self.rows(*words))
+        self.assertRegex(rows.pop(1), r"^192\.0\.2\.1:4000[01] 192\.0\.2\.2:102$")
+        return rows
+
     def test_it_is_drawn_as_the_text_is(self):
         wanted = call(*files("restart"), "--text")[1].splitlines()[1:]
-        self.assertEqual(self.rows(self.pcap()), self.rows(RESTART + ".follow"))
-        self.assertEqual(self.rows("--judge", self.pcap()), wanted)
+        self.assertEqual(self.with_ends(self.pcap()), self.numbered(self.rows(RESTART + ".follow")))
+        self.assertEqual(self.with_ends("--judge", self.pcap()), self.numbered(wanted))
 
     def test_of_several_streams_one_has_to_be_named(self):
         both = self.path("both.pcapng")
         script.subprocess.run(["mergecap", "-w", both, self.pcap(), self.pcap("restart_cured", 40_001)], check=True)
         self.assertIn("name one of the streams 0, 1 by --stream", self.refused(both))
-        self.assertEqual(self.rows(both, "--stream", "0"), self.rows(RESTART + ".follow"))
-        self.assertEqual(self.rows(both, "--stream", "1"), self.rows(os.path.join(DISPUTES, "restart_cured.follow")))
+        self.assertEqual(self.with_ends(both, "--stream", "0"), self.numbered(self.rows(RESTART + ".follow")))
+        self.assertEqual(self.with_ends(both, "--stream", "1"), self.numbered(self.rows(os.path.join(DISPUTES, "restart_cured.follow"))))
         self.assertIn("stream 9 carries no TPKT", self.refused(both, "--stream", "9"))
 
     def test_a_file_that_is_no_capture_is_refused(self):

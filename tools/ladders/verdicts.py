@@ -1,6 +1,7 @@
 """Reads what `osi judge` prints, and tells it in sentences."""
 import re
 
+from . import packets, rules
 from .history import TOKENS
 from .transcript import SIDES, BadInput, other
 
@@ -20,26 +21,6 @@ LINES = {name: re.compile(text) for name, text in (
 LAST = re.compile(r"both kept the protocol|not judged: (?P<why>.+)"
                   r"|(?P<first>left|right) (?P<did>broke the protocol|leaves the profile) first, "
                   r"packet (?P<offset>\d+): (?P<what>\w+) (?P<rule>\w+)")
-# What a side sent, by the call that sends such a unit.
-SENT = {"Connect": "a connect request (CN)", "Accept": "an acceptance (AC)", "Refuse": "a refusal (RF)", "Data": "data (DT)",
-        "Give": "tokens (GT)", "Please": "a request for tokens (PT)", "Minor": "a minor synchronization point (MIP)",
-        "MinorConfirm": "the confirmation of a minor point (MIA)", "Major": "a major synchronization point (MAP)",
-        "MajorConfirm": "the confirmation of a major point (MAA)", "Restart": "a restart (RS)",
-        "RestartConfirm": "the answer to a restart (RA)", "Release": "a request for the release (FN)",
-        "ReleaseAccept": "the agreement to a release (DN)", "ReleaseRefuse": "the refusal of a release (NF)",
-        "Abort": "an abort (AB)", "AbortAccept": "the answer to an abort (AA)", "TSDU": "a TSDU", "TPKT": "octets",
-        "TPDU": "a transport unit", "DT": "a data unit of transport", "DR": "a disconnect request (DR)"}
-# Why that was wrong; `{..}` is filled from the state of the side.
-REASONS = {"BadState": "a session may not send that in the phase {phase}", "Ended": "its connection had ended",
-           "NotSelected": "that needs a functional unit or a token that isn't selected", "Empty": "it has nothing in it",
-           "TokenAlreadyHeld": "it held these tokens itself", "TooLong": "that is longer than the agreed size, or than X.225 allows",
-           "BadNumber": "its number is not one that is allowed: the next number was {next}, all below {below} were confirmed, and a "
-                        "restart may go back to {lowest}",
-           "SerialsUsedUp": "the numbers are used up", "BadTokens": "it puts tokens on a side that was not asked for",
-           "BadEnclosure": "a part of the data is out of its place", "NoFault": "it reports a protocol error, and there had been none",
-           "NothingToAnswer": "there was nothing to answer", "WrongForm": "class 0 has no such unit",
-           "UnexpectedUnit": "a unit of this kind has no place there", "TsduTooLong": "it makes a TSDU longer than 1,048,576 octets",
-           "Outside": "X.225 allows that, and the sessions of this product leave it out"}
 # The tokens that a call needs; Give needs those that it gives.
 NEEDS = {"Data": ("data",), "Minor": ("data", "minor"), "Major": ("data", "minor", "major"),
          "Release": tuple(name for name, _, _ in TOKENS)}
@@ -130,20 +111,42 @@ def sentence(verdict):
     if verdict.first is None:
         return "Both sides kept the protocol." if verdict.last["why"] is None else f"Not judged: {verdict.last['why']}."
     did = "broke the protocol first" if verdict.last["did"].startswith("broke") else "was the first to leave the profile"
-    return f"{verdict.first} {did}, in its packet {verdict.last['offset']}."
+    return f"{verdict.first} {did}, {place_of(verdict.last)}."
 
 
-def reason(verdict, side, packet=None):
-    """What a side sent that it may not send, and why it may not. `packet` is what is known of the packet, if anything is."""
+def place_of(found):
+    """Where a break is: the offset of its packet, or of octets that are none."""
+    return f"{'at its' if found['rule'] in rules.OF_PACKETS else 'in its packet at'} octet {found['offset']}"
+
+
+def reason(verdict, side, packet=None, octets=None):
+    """What a side sent that it may not send, why it may not, and the clause that says so. `packet` is what is known of the packet, if
+    anything is; `octets` what both sides sent."""
     found = verdict.break_of(side)
-    sent = SENT.get(found["what"], found["what"])
+    clause = rules.clause_of(found["what"], found["rule"])
+    quoted = f" ({clause})" if clause else ""
+    if found["rule"] in rules.OF_PACKETS:
+        text = rules.why(found["what"], found["rule"], known_of(verdict, side, octets))
+        return f"{text[0].upper()}{text[1:]}{quoted}."
+    sent = rules.SENT.get(found["what"], found["what"])
     if found["rule"] == "TokenNotHeld":
-        return f"It sent {sent}; {tokens_missed(verdict, side, found['what'], packet)}."
-    if found["rule"] not in REASONS:
-        return f"It sent {sent} that can't be read: {found['rule']}."
-    state = verdict.state(side)
-    known = {"phase": state.phase, **state.numbers} if state else {"phase": "that it was in", "next": "?", "below": "?", "lowest": "?"}
-    return f"It sent {sent}; {REASONS[found['rule']].format(**known)}."
+        return f"It sent {sent}; {tokens_missed(verdict, side, found['what'], packet)}{quoted}."
+    return f"It sent {sent}; {rules.why(found['what'], found['rule'], known_of(verdict, side, octets))}{where(verdict, side)}{quoted}."
+
+
+def known_of(verdict, side, octets):
+    """What is known of the state of a side at its break, and of the packet."""
+    state, found = verdict.state(side), verdict.break_of(side)
+    known = {"phase": state.phase, **state.numbers} if state else {}
+    return {**known, **packets.known_of(octets, side, int(found["offset"]))} if octets else known
+
+
+def where(verdict, side):
+    """Where in a TSDU a fault is, if that is told."""
+    found = verdict.fields(side, "fault")
+    if not found or verdict.break_of(side)["what"] != "TSDU":
+        return ""
+    return f": octet {found['at']} of the TSDU" + (f", parameter {found['code']}" if found["code"] else "")
 
 
 def tokens_missed(verdict, side, what, packet):
@@ -174,14 +177,14 @@ def excuse(verdict, side):
             f"and was in the phase {knew['phase']}.")
 
 
-def box(verdict, packet=None):
+def box(verdict, packet=None, octets=None):
     """The lines of the box below a picture, the most important first."""
     rows = [sentence(verdict)]
     if verdict.first:
-        rows += [text for text in (reason(verdict, verdict.first, packet), excuse(verdict, verdict.first)) if text]
+        rows += [text for text in (reason(verdict, verdict.first, packet, octets), excuse(verdict, verdict.first)) if text]
     for side in SIDES:
         later = verdict.break_of(side)
         if later and verdict.first not in (None, side):
-            rows.append(f"Later {side} broke the protocol too, in its packet {later['offset']}: {later['what']} {later['rule']}.")
+            rows.append(f"Later {side} broke the protocol too, {place_of(later)}: {later['what']} {later['rule']}.")
     rows[0] = rows[0][0].upper() + rows[0][1:]
     return rows + [f"osi judge: {verdict.rows[-1]}"]

@@ -1,0 +1,83 @@
+"""Other protocols in TPKT packets, or at the port of TPKT, which carry no session: how each is known by its first octets."""
+from .streams import CODES, SIDES, is_packet, packets
+
+# The units of X.225 by their SI (sections 8.3.1 and following), of all functional units.
+SESSION = {1, 2, 5, 7, 8, 9, 10, 11, 12, 13, 14, 15, 16, 21, 22, 25, 26, 29, 33, 34, 41, 42, 45, 48, 49, 50, 53, 57, 58, 61, 62}
+# What the first TSDU of an application begins with that has no session below it.
+BEGINS = ((b"\x32", "S7comm"), (b"\x72", "S7comm-plus"), (b"\x7f\x65", "RDP (T.125)"), (b"\x21\x80", "RDP (T.125)"),
+           (b"\x16\x03", "TLS"))
+DATA, REQUESTS = 0xF0, (0xE0, 0xD0)
+MOST = 65_536
+
+
+def of(stream):
+    """The name of the protocol of a stream from its beginning, if it is none with sessions; or None."""
+    fronts = fronts_of(stream)
+    left, right = (fronts[side] for side in SIDES)
+    return below_transport(left, right) or of_requests(left, right) or of_first_data(left, right)
+
+
+def fronts_of(stream):
+    """The first octets of each side: at most some packets."""
+    fronts = dict.fromkeys(SIDES, b"")
+    for side, piece in stream.by_side():
+        if len(fronts[side]) < MOST:
+            fronts[side] += piece.octets
+        elif all(len(front) >= MOST for front in fronts.values()):
+            break
+    return fronts
+
+
+def units(octets):
+    """The transport units of the first packets, and at last what is no packet."""
+    for start, length in packets(octets):
+        yield octets[start + 4:start + length] if is_packet(octets[start:start + 4]) else None
+
+
+def below_transport(left, right):
+    """A protocol that uses TPKT without X.224, or no TPKT at all."""
+    for octets in (left, right):
+        unit = octets[4:]
+        if is_packet(octets) and len(unit) > 1 and unit[1] & 0xF0 not in CODES:
+            if unit[0] == 8 and unit[1] < 4:
+                return "Q.931 (H.225)"
+            return "MEGACO" if unit.startswith((b"MEGACO/", b"!/")) else "TPKT without X.224"
+    return None
+
+
+def of_requests(left, right):
+    """RDP writes text and a request of its own into the CR, and its answer into the CC (MS-RDPBCGR section 2.2.1)."""
+    for octets in (left, right):
+        unit = next(units(octets), None)
+        if unit and len(unit) > 6 and unit[1] & 0xF0 in REQUESTS:
+            more = unit[7:1 + unit[0]]
+            if b"Cookie: " in more or b"mstshash=" in more or is_negotiation(more[-8:]):
+                return "RDP"
+    return None
+
+
+def is_negotiation(octets):
+    """Whether octets are a request, an answer or a failure of RDP's negotiation."""
+    return len(octets) == 8 and octets[0] in (1, 2, 3) and octets[2:4] == b"\x08\0" and octets[5:] == bytes(3)
+
+
+def of_first_data(left, right):
+    """The protocol by the first octets above transport of both sides."""
+    begins = [first_data(octets) for octets in (left, right)]
+    first = next(filter(None, begins), b"")
+    known = next((name for begin, name in BEGINS if first.startswith(begin)), None)
+    if known or not first or any(begin and begin[0] in SESSION for begin in begins):
+        return known
+    return f"a protocol whose data begins with {first[:2].hex()}"
+
+
+def first_data(octets):
+    """The first octets above transport, or what follows the packets in place of one; none if there are none."""
+    at = 0
+    for unit in units(octets):
+        if unit is None:
+            return octets[at:at + 2] if at else b""
+        at += 4 + len(unit)
+        if len(unit) > 2 and unit[1] & 0xF0 == DATA and len(unit) > 1 + unit[0]:
+            return unit[1 + unit[0]:][:2]
+    return b""

@@ -1,0 +1,246 @@
+"""Captures that tests write: frames of a TCP connection, in files of several forms. Tests that tshark and the tools read each form."""
+import gzip
+import os
+import shutil
+import struct
+import tempfile
+import unittest
+
+from . import pcap, streams, tshark
+
+ETHERNET, RAW_IP, SLL = 1, 101, 113
+FIN, SYN, RESET, PUSH, ACK = 0x01, 0x02, 0x04, 0x08, 0x10
+PORTS = {"left": 40_000, "right": 102}
+FIRST = {"left": 1_000, "right": 5_000}
+IPV4 = {"left": bytes((192, 0, 2, 1)), "right": bytes((192, 0, 2, 2))}
+IPV6 = {side: bytes.fromhex("20010db8") + bytes(11) + bytes([last]) for side, last in (("left", 1), ("right", 2))}
+SPACE = 2 ** 32
+
+
+def packet(unit):
+    """A transport unit in a TPKT packet."""
+    return struct.pack(">BBH", 3, 0, len(unit) + 4) + unit
+
+
+def data(tsdu):
+    """A TSDU in a DT of class 0."""
+    return packet(b"\x02\xf0\x80" + tsdu)
+
+
+CR, CC = bytes.fromhex("0300000e09e00000000100c0010a"), bytes.fromhex("0300000e09d00001000100c0010a")
+CN, AC = (data(bytes([code]) + bytes.fromhex("0c0506130100160102140200 02")) for code in (13, 14))
+TOKENS = bytes.fromhex("0100")
+DT = data(TOKENS + TOKENS + b"read")
+FN, DN, AB, AA = (data(bytes.fromhex(each)) for each in ("0900", "0a00", "1903110103", "1a00"))
+MIP = data(TOKENS + bytes.fromhex("31032a0132"))
+
+
+class Frames:
+    """The frames of a TCP connection, with the numbers that both ends count. `mtu` cuts what is sent into segments."""
+
+    def __init__(self, first=None, ports=None, addresses=None, mtu=1_400):
+        self.next, self.ports, self.addresses, self.mtu = dict(first or FIRST), dict(ports or PORTS), addresses or IPV4, mtu
+        self.frames = []
+
+    def segment(self, side, octets=b"", flags=ACK, sequence=None, acknowledged=None):
+        """A datagram with a segment, whose numbers may be named; the frame isn't kept."""
+        far = "right" if side == "left" else "left"
+        sequence = self.next[side] if sequence is None else sequence
+        acknowledged = self.next[far] if acknowledged is None else acknowledged
+        acknowledged = acknowledged if flags & ACK else 0
+        head = struct.pack(">HHIIBBHHH", self.ports[side], self.ports[far], sequence % SPACE, acknowledged % SPACE, 5 << 4, flags,
+                           65_535, 0, 0)
+        if len(self.addresses[side]) == 16:
+            first = struct.pack(">IHBB", 6 << 28, len(head) + len(octets), 6, 64)
+            return first + self.addresses[side] + self.addresses[far] + head + octets
+        whole = struct.pack(">BBHHHBBH4s4s", 0x45, 0, 20 + len(head) + len(octets), 0, 0x4000, 64, 6, 0, self.addresses[side],
+                            self.addresses[far])
+        return whole[:10] + struct.pack(">H", pcap.checksum(whole)) + whole[12:] + head + octets
+
+    def put(self, side, octets=b"", flags=ACK, **more):
+        """Adds a frame, and counts its octets."""
+        self.frames.append(self.segment(side, octets, flags, **more))
+        self.next[side] = (self.next[side] + len(octets) + bool(flags & (SYN | FIN))) % SPACE
+        return self
+
+    def begin(self):
+        """The three segments with which TCP begins."""
+        return self.put("left", flags=SYN).put("right", flags=SYN | ACK).put("left")
+
+    def send(self, side, *packets):
+        """Sends packets, each in segments of its own."""
+        for octets in packets:
+            for start in range(0, len(octets), self.mtu):
+                self.put(side, octets[start:start + self.mtu], PUSH | ACK)
+        return self
+
+    def open(self):
+        """Begins, and opens a session with duplex."""
+        return self.begin().send("left", CR).send("right", CC).send("left", CN).send("right", AC)
+
+    def talk(self, times=1):
+        """A request and an answer, some times."""
+        for _ in range(times):
+            self.send("left", DT).send("right", DT)
+        return self
+
+    def close(self):
+        """Releases the session, and closes TCP."""
+        return self.send("left", FN).send("right", DN).put("left", flags=FIN | ACK).put("right", flags=FIN | ACK).put("left")
+
+
+def segment_of(number, frame, cut=None):
+    """The segment of a datagram, as tshark tells it of a frame with this number; `cut` is how many octets of it are captured."""
+    is_6 = frame[0] >> 4 == 6
+    at = 40 if is_6 else 20
+    source, target = (".".join(map(str, part)) for part in ((frame[8:24], frame[24:40]) if is_6 else (frame[12:16], frame[16:20])))
+    ports, sequence, acknowledged = struct.unpack(">HH", frame[at:at + 4]), *struct.unpack(">II", frame[at + 4:at + 12])
+    octets = frame[at + 20:cut]
+    return tshark.Segment([str(number), f"{1_000 + number / 1_000:.6f}", "0", source, "", str(ports[0]), target, "", str(ports[1]),
+                           str(sequence), str(acknowledged), hex(frame[at + 13]), str(len(frame) - at - 20), str(cut or len(frame)),
+                           octets.hex()])
+
+
+def stream_of(frames, cut=None):
+    """The stream of frames, without tshark."""
+    return streams.joined(segment_of(number, frame, cut) for number, frame in enumerate(frames, 1))[0]
+
+
+def linked(datagram, link=ETHERNET, tags=()):
+    """A datagram in a frame of its link."""
+    kind = struct.pack(">H", 0x86DD if datagram[0] >> 4 == 6 else 0x0800)
+    if link == RAW_IP:
+        return datagram
+    if link == SLL:
+        return struct.pack(">HHH8s", 0, 1, 6, bytes(8)) + kind + datagram
+    return bytes(12) + b"".join(struct.pack(">HH", code, number) for code, number in tags) + kind + datagram
+
+
+def pcap_of(frames, link=RAW_IP, order=">", is_nano=False, cut=None, times=None):
+    """A pcap of frames, a millisecond apart; `cut` is how many octets of each are captured."""
+    made = [struct.pack(order + "IHHiIII", 0xA1B23C4D if is_nano else 0xA1B2C3D4, 2, 4, 0, 0, cut or 262_144, link)]
+    for place, frame in enumerate(frames):
+        seconds, rest = divmod(times[place] if times else 1_000_000_000 + place * 1_000, 1_000_000)
+        made.append(struct.pack(order + "IIII", seconds, rest * (1_000 if is_nano else 1), min(len(frame), cut or len(frame)), len(frame)))
+        made.append(frame[:cut])
+    return b"".join(made)
+
+
+def pcapng_of(*sections, link=RAW_IP):
+    """A pcapng with a section for each list of frames, as files that are merged have them; a millisecond between two frames."""
+    made, place = [], 0
+    for frames in sections:
+        made += [block(0x0A0D0D0A, struct.pack("<IHHq", 0x1A2B3C4D, 1, 0, -1)), block(1, struct.pack("<HHI", link, 0, 0))]
+        for frame in frames:
+            time = 1_000_000_000_000_000 + place * 1_000
+            made.append(block(6, struct.pack("<IIIII", 0, time >> 32, time % SPACE, len(frame), len(frame)) + frame))
+            place += 1
+    return b"".join(made)
+
+
+def block(kind, body):
+    """A block of a pcapng."""
+    body += bytes(-len(body) % 4)
+    return struct.pack("<II", kind, 12 + len(body)) + body + struct.pack("<I", 12 + len(body))
+
+
+class Room(unittest.TestCase):
+    """A folder for what tests write."""
+
+    def setUp(self):
+        self.room = tempfile.TemporaryDirectory()
+        self.addCleanup(self.room.cleanup)
+
+    def path(self, name):
+        return os.path.join(self.room.name, name)
+
+    def write(self, content, name="run.pcap"):
+        """The path of a file with this content."""
+        with open(self.path(name), "wb") as file:
+            file.write(content)
+        return self.path(name)
+
+    def streams(self, content, port=102):
+        """The streams of a capture."""
+        return streams.joined(tshark.segments(self.write(content)), port)
+
+    def passed(self, content, number=0):
+        """What passed in a stream: the side and the octets of each piece."""
+        return [(side, piece.octets) for side, piece in self.streams(content)[number].by_side()]
+
+
+def whole():
+    """A connection from its beginning to its end, with what passes in it."""
+    frames = Frames().open().talk().close().frames
+    return frames, [("left", CR), ("right", CC), ("left", CN), ("right", AC), ("left", DT), ("right", DT), ("left", FN), ("right", DN)]
+
+
+@unittest.skipUnless(shutil.which("tshark"), "tshark is not installed")
+class Forms(Room):
+    """Each form in which captures come."""
+
+    def same(self, content, wanted=None):
+        self.assertEqual(self.passed(content), wanted or whole()[1])
+
+    def test_frames_of_ethernet_with_and_without_tags(self):
+        for tags in ((), ((0x8100, 7),), ((0x88A8, 7), (0x8100, 8))):
+            self.same(pcap_of([linked(frame, ETHERNET, tags) for frame in whole()[0]], ETHERNET))
+
+    def test_frames_of_linux_cooked_capture(self):
+        self.same(pcap_of([linked(frame, SLL) for frame in whole()[0]], SLL))
+
+    def test_datagrams_without_a_link(self):
+        self.same(pcap_of(whole()[0]))
+
+    def test_files_of_either_order_of_octets_and_with_nanoseconds(self):
+        for order in "<>":
+            for is_nano in (False, True):
+                self.same(pcap_of(whole()[0], order=order, is_nano=is_nano))
+
+    def test_files_that_are_compressed(self):
+        self.same(gzip.compress(pcap_of(whole()[0])))
+
+    def test_sections_of_a_merged_pcapng(self):
+        frames = whole()[0]
+        self.same(pcapng_of(frames[:7], frames[7:]))
+
+    def test_ipv6(self):
+        self.same(pcap_of(Frames(addresses=IPV6).open().talk().close().frames))
+
+    def test_numbers_that_begin_anew(self):
+        self.same(pcap_of(Frames(first={"left": SPACE - 20, "right": SPACE - 3}).open().talk().close().frames))
+
+    def test_a_file_that_ends_within_a_packet(self):
+        frames = whole()[0]
+        content = pcap_of(frames[:8])
+        self.assertEqual(self.passed(content[:-5]), whole()[1][:4])
+
+    def test_segments_of_one_octet(self):
+        for first in (FIRST, {"left": SPACE - 9, "right": SPACE - 30}):
+            found = self.passed(pcap_of(Frames(first, mtu=1).open().talk().close().frames))
+            joined = []
+            for side, octets in found:
+                if joined and joined[-1][0] == side:
+                    joined[-1] = side, joined[-1][1] + octets
+                else:
+                    joined.append((side, octets))
+            self.assertEqual(joined, whole()[1])
+
+    def test_frames_that_come_twice(self):
+        frames = whole()[0]
+        self.same(pcap_of([each for frame in frames for each in (frame, frame)]))
+        self.same(pcap_of(frames[:8] + frames[3:]))
+
+    def test_streams_that_pass_at_the_same_time(self):
+        one, other = Frames().open().talk().close().frames, Frames(ports={"left": 41_000, "right": 102}).open().talk().close().frames
+        mixed = [frame for pair in zip(one, other) for frame in pair]
+        self.assertEqual([self.passed(pcap_of(mixed), number) for number in (0, 1)], [whole()[1]] * 2)
+
+    def test_ports_that_are_used_again(self):
+        again = Frames(first={"left": 900_000, "right": 700_000}).open().close().frames
+        found = self.streams(pcap_of(whole()[0] + again))
+        self.assertEqual([len(stream.pieces) for stream in found.values()], [8, 6])
+
+
+if __name__ == "__main__":
+    unittest.main()
