@@ -36,7 +36,7 @@ SECONDS ?= 60
 MESSAGES ?= 200000
 
 all:
-	scripts/proving osi_tool run -- --help
+	scripts/proving osi_tool run --cpu=x86-64 -- --help
 	scripts/sources > crates/osi_tool/out/sources
 
 test:

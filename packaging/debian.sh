@@ -1,5 +1,8 @@
 # What scripts/dist makes of an installation for Debian, as its policy and lintian want packages: read by scripts/dist.
-debian=$version-1
+# The version as Debian orders it, without and with the number of the packaging, and the number alone.
+of_debian=$(scripts/version --debian)
+debian=$of_debian-1
+number=$(scripts/version --number)
 maintainer=$(packaging/maintainer) || true
 homepage=$(scripts/version --address)
 libdir=/usr/lib/x86_64-linux-gnu
@@ -60,7 +63,7 @@ take() {
 symbols() {
     printf 'libosi-session.so.%s libosi-session%s #MINVER#\n* Build-Depends-Package: libosi-session-dev\n' "$abi" "$abi"
     nm -D --defined-only "$room/libosi-session$abi$libdir/libosi-session.so.$version" | awk '{ print $3 }' | sed 's/@@/@/' | sort |
-        sed -n "/^LIBOSI_SESSION_$abi\(@.*\)\?$/! s/^\(.*\)$/ \1 $version/p; 1i\\ LIBOSI_SESSION_$abi@LIBOSI_SESSION_$abi $version"
+        sed -n "/^LIBOSI_SESSION_$abi\(@.*\)\?$/! s/^\(.*\)$/ \1 $of_debian/p; 1i\\ LIBOSI_SESSION_$abi@LIBOSI_SESSION_$abi $of_debian"
 }
 
 # The crate as Debian's packages of crates have it: a folder of a local registry, whose files cargo takes as they are.
@@ -93,7 +96,7 @@ make_packages() {
     take "libosi-session$abi" "$libdir/libosi-session.so.$abi" "$libdir/libosi-session.so.$version"
     take libosi-session-dev /usr/include /usr/share/man/man3 "$libdir"
     mkdir -p "$room/libosi-session$abi/DEBIAN"
-    echo "libosi-session $abi libosi-session$abi (>= $version)" >"$room/libosi-session$abi/DEBIAN/shlibs"
+    echo "libosi-session $abi libosi-session$abi (>= $of_debian)" >"$room/libosi-session$abi/DEBIAN/shlibs"
     symbols >"$room/libosi-session$abi/DEBIAN/symbols"
     echo "activate-noawait ldconfig" >"$room/libosi-session$abi/DEBIAN/triggers"
     local long="An end of a byte connection takes the octets that came and returns those that are to be sent. It speaks X.225 version 2 over
@@ -101,21 +104,21 @@ the transport classes 0 and 2 of X.224 in TPKT packets (RFC 1006), opens no sock
     control osi amd64 "libc6 (>= $(libc_of "$room/osi/usr/bin/osi")), python3 (>= 3.9)" net "Recommends: tshark" \
         "lister of captures of the OSI session protocol" \
         "It lists captures of X.225 version 2 over the transport classes 0 and 2 of X.224 in TPKT packets (RFC 1006), also those that tshark
-reads. It says which side of a capture first broke the protocol, runs scripts of two ends, and draws what they did. It wants a processor of x86-64-v2 (SSE4.2)."
+reads. It says which side of a capture first broke the protocol, runs scripts of two ends, and draws what they did."
     control "libosi-session$abi" amd64 "libc6 (>= $(libc_of "$room/libosi-session$abi$libdir/libosi-session.so.$version"))" libs \
         "Multi-Arch: same" "OSI session layer, one end (shared library)" "$long"
     control libosi-session-dev amd64 "libosi-session$abi (= $debian)" libdevel "Multi-Arch: same" \
         "OSI session layer, one end (development files)" "$long This package has the headers for C and C++ and the static library."
     take_python
-    control python3-osi-session all "python3 (>= 3.9), libosi-session$abi (>= $version)" python "" \
+    control python3-osi-session all "python3 (>= 3.9), libosi-session$abi (>= $of_debian)" python "" \
         "OSI session layer, one end (package for Python 3)" "$long This package calls the library, and goes over TCP by asyncio."
     [ -e "$out/osi-session-$version.crate" ] || return 0
     take_crate
     local name provides=""
-    for name in "${version%%.*}" "${version%.*}" "$version"; do
+    for name in "${number%%.*}" "${number%.*}" "$number"; do
         provides="$provides${provides:+, }librust-osi-session-$name-dev (= $debian)"
     done
-    control librust-osi-session-dev all "libosi-session-dev (>= $version)" rust "Provides: $provides" \
+    control librust-osi-session-dev all "libosi-session-dev (>= $of_debian)" rust "Provides: $provides" \
         "OSI session layer, one end (crate for Rust)" \
         "$long This package has the sources of the crate osi-session, which links the library."
 }

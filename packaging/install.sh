@@ -21,8 +21,6 @@ case ${1-} in
             rm -f "$root/$file"
             cp -P "$file" "$root/$file"
         done
-        grep -q ' sse4_2 ' /proc/cpuinfo 2>/dev/null ||
-            echo "install: the program bin/osi wants a processor of x86-64-v2 (SSE4.2); the library takes this one" >&2
         cat <<END
 installed below $root
   the program:      PATH=$root/bin:\$PATH
