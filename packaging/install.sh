@@ -4,11 +4,16 @@
 #   PREFIX=$HOME/osi ./install.sh     program, library, headers, manual and bindings, below PREFIX (/usr/local)
 #   PREFIX=.. ./install.sh --remove   takes them away
 #
-# DESTDIR goes in front of PREFIX, as for `make install`.
+# DESTDIR goes in front of PREFIX. Relative ones start at the current folder.
 set -eu
-prefix=${PREFIX:-/usr/local}
-case $prefix in /*) ;; *) prefix=$PWD/$prefix ;; esac
-root=${DESTDIR:-}$prefix
+from_root() {
+    case $1 in
+        /* | "") printf '%s\n' "$1" ;;
+        *) printf '%s\n' "$PWD/$1" ;;
+    esac
+}
+prefix=$(from_root "${PREFIX:-/usr/local}")
+root=$(from_root "${DESTDIR:-}")$prefix
 cd "$(dirname "$0")"
 
 # All files and links of the four folders.
@@ -25,6 +30,8 @@ case ${1-} in
 installed below $root
   the program:      PATH=$root/bin:\$PATH
   the library:      export PKG_CONFIG_PATH=$root/lib/pkgconfig
+                    a program that links the shared one finds it by ldconfig, if $root/lib is among the loader's folders,
+                    or by -Wl,-rpath,$root/lib, or by LD_LIBRARY_PATH=$root/lib
   a first program:  cc -std=c99 examples/hello.c \$(pkg-config --cflags osi-session) $root/lib/libosi-session.a -o hello
 END
         ;;
