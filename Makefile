@@ -9,11 +9,11 @@
 # make install PREFIX=.. LIBDIR=.. DESTDIR=..: puts what was built, program or library or both, where the system finds it,
 # and says where; make uninstall takes it away (scripts/install). Neither proves or builds anything.
 # make dist: builds the program and the library, and makes archives and packages in dist/, of them and of the sources
-# (scripts/dist; over what was built). make check-dist: the same, and installs them into empty roots and runs them there
-# (scripts/check_dist).
-# make release: what make dist makes, and releases/VERSION/SHA256SUMS, which says what each file is (scripts/release). make
-# check-release: builds the sources of a release anew, and compares octet for octet (scripts/check_release); in an archive of
-# sources make check-release SUMS=../SHA256SUMS.
+# (scripts/dist; over what was built). make check-dist: the same, and installs them into empty roots and runs them there, with
+# debootstrap and as root also into Debian 11, 12 and 13 (scripts/check_dist).
+# make release: what make dist makes, and releases/VERSION/SHA256SUMS, which says what each file is (scripts/release); then the
+# sources get the next version, with -dev. make check-release: builds the sources of the last release anew, and compares octet for
+# octet (scripts/check_release); in an archive of sources make check-release SUMS=../SHA256SUMS.
 # make gateways: builds the program and the library, and builds and runs the programs of examples/gateway, and the tests and
 # clients of bindings/ (scripts/gateways does so with what was built before).
 # make trials: builds the same and runs what is proved against hostile octets, failing allocations and breaks
@@ -36,7 +36,7 @@ SECONDS ?= 60
 MESSAGES ?= 200000
 
 all:
-	scripts/proving osi_tool run -- --help
+	scripts/proving osi_tool run --cpu=x86-64 -- --help
 	scripts/sources > crates/osi_tool/out/sources
 
 test:

@@ -50,10 +50,10 @@
 
 /* The version of this header. The soname of the library has the first number, and the second too while
  * the first is 0, so a program loads only a library that fits the header it was compiled with. */
-#define OSI_VERSION "0.1.0"
+#define OSI_VERSION "0.1.1-dev"
 
 /* The same as a number, for #if: 10,000 times the first, plus 100 times the second, plus the third. */
-#define OSI_VERSION_NUM 100
+#define OSI_VERSION_NUM 101
 
 /* Marks a function whose answer you have to look at, because even a correct program's call may be refused
  * or find no indication. GCC and Clang warn about a call that ignores it. */

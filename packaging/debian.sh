@@ -1,5 +1,8 @@
 # What scripts/dist makes of an installation for Debian, as its policy and lintian want packages: read by scripts/dist.
-debian=$version-1
+# The version as Debian orders it, without and with the number of the packaging, and the number alone.
+of_debian=$(scripts/version --debian)
+debian=$of_debian-1
+number=$(scripts/version --number)
 maintainer=$(packaging/maintainer) || true
 homepage=$(scripts/version --address)
 libdir=/usr/lib/x86_64-linux-gnu
@@ -34,7 +37,9 @@ control() {
     local size=$(($(find "$top/usr" -type f -printf '%s\n' | awk '{ sum += $1 } END { print sum + 0 }') / 1024 + 1))
     {
         printf 'Package: %s\nSource: osi\nVersion: %s\nArchitecture: %s\nMaintainer: %s\n' "$1" "$debian" "$2" "$maintainer"
-        printf 'Installed-Size: %s\nDepends: %s\nSection: %s\nPriority: optional\n' "$size" "$3" "$4"
+        printf 'Installed-Size: %s\n' "$size"
+        [ -z "$3" ] || printf 'Depends: %s\n' "$3"
+        printf 'Section: %s\nPriority: optional\n' "$4"
         [ -z "$homepage" ] || printf 'Homepage: %s\n' "$homepage"
         [ -z "$5" ] || printf '%s\n' "$5"
         printf 'Description: %s\n' "$6"
@@ -60,7 +65,45 @@ take() {
 symbols() {
     printf 'libosi-session.so.%s libosi-session%s #MINVER#\n* Build-Depends-Package: libosi-session-dev\n' "$abi" "$abi"
     nm -D --defined-only "$room/libosi-session$abi$libdir/libosi-session.so.$version" | awk '{ print $3 }' | sed 's/@@/@/' | sort |
-        sed -n "/^LIBOSI_SESSION_$abi\(@.*\)\?$/! s/^\(.*\)$/ \1 $version/p; 1i\\ LIBOSI_SESSION_$abi@LIBOSI_SESSION_$abi $version"
+        sed -n "/^LIBOSI_SESSION_$abi\(@.*\)\?$/! s/^\(.*\)$/ \1 $of_debian/p; 1i\\ LIBOSI_SESSION_$abi@LIBOSI_SESSION_$abi $of_debian"
+}
+
+# What Python compiles of a package is compiled when that is installed, and removed with it: for the folders that follow the name, or
+# else for the modules of the system. (If the files are installed into a folder, DPKG_ROOT names that, and nothing is compiled.)
+compiled() {
+    local name=$1
+    shift
+    mkdir -p "$room/$name/DEBIAN"
+    cat >"$room/$name/DEBIAN/postinst" <<END
+#!/bin/sh
+set -e
+if [ -z "\${DPKG_ROOT-}" ] && command -v py3compile >/dev/null; then
+    py3compile -p $name $*
+fi
+END
+    cat >"$room/$name/DEBIAN/prerm" <<END
+#!/bin/sh
+set -e
+if [ -z "\${DPKG_ROOT-}" ] && command -v py3clean >/dev/null; then
+    py3clean -p $name
+fi
+END
+    chmod 755 "$room/$name/DEBIAN/postinst" "$room/$name/DEBIAN/prerm"
+}
+
+# Pages, examples, and the functions for C as HTML.
+take_pages() {
+    local folder=$room/osi-session-doc/usr/share/doc/osi-session-doc
+    mkdir -p "$folder"
+    packaging/render debian "$folder"
+    if command -v doxygen >/dev/null; then
+        packaging/doxygen.sh "$folder/html"
+    else
+        echo "dist: there is no doxygen, which makes HTML of osi.h" >&2
+    fi
+    find "$folder" -type f -name '*.py' -exec sed -i '1s|^#!/usr/bin/env python3|#!/usr/bin/python3|' {} +
+    find "$folder" -type f ! -perm /111 -exec chmod 644 {} +
+    find "$folder" -type f -perm /111 -exec chmod 755 {} +
 }
 
 # The crate as Debian's packages of crates have it: a folder of a local registry, whose files cargo takes as they are.
@@ -68,7 +111,7 @@ take_crate() {
     local folder=$room/librust-osi-session-dev/usr/share/cargo/registry/osi-session-$version
     mkdir -p "$folder"
     tar -xzf "$out/osi-session-$version.crate" --strip-components=1 -C "$folder"
-    rm -f "$folder/Cargo.toml.orig" "$folder/LICENSE-MIT" "$folder/LICENSE-APACHE" "$folder/Cargo.lock"
+    rm -f "$folder/Cargo.toml.orig" "$folder/LICENSE-MIT" "$folder/LICENSE-APACHE" "$folder/NOTICES.md" "$folder/Cargo.lock"
     local checksum
     checksum=$(sha256sum "$out/osi-session-$version.crate" | cut -d ' ' -f 1)
     printf '{"package":"%s","files":{}}\n' "$checksum" >"$folder/.cargo-checksum.json"
@@ -93,29 +136,35 @@ make_packages() {
     take "libosi-session$abi" "$libdir/libosi-session.so.$abi" "$libdir/libosi-session.so.$version"
     take libosi-session-dev /usr/include /usr/share/man/man3 "$libdir"
     mkdir -p "$room/libosi-session$abi/DEBIAN"
-    echo "libosi-session $abi libosi-session$abi (>= $version)" >"$room/libosi-session$abi/DEBIAN/shlibs"
+    echo "libosi-session $abi libosi-session$abi (>= $of_debian)" >"$room/libosi-session$abi/DEBIAN/shlibs"
     symbols >"$room/libosi-session$abi/DEBIAN/symbols"
     echo "activate-noawait ldconfig" >"$room/libosi-session$abi/DEBIAN/triggers"
     local long="An end of a byte connection takes the octets that came and returns those that are to be sent. It speaks X.225 version 2 over
 the transport classes 0 and 2 of X.224 in TPKT packets (RFC 1006), opens no socket, and is proved."
-    control osi amd64 "libc6 (>= $(libc_of "$room/osi/usr/bin/osi")), python3 (>= 3.9)" net "Recommends: tshark" \
+    compiled osi /usr/share/osi
+    control osi amd64 "libc6 (>= $(libc_of "$room/osi/usr/bin/osi")), python3 (>= 3.9)" net $'Recommends: tshark\nSuggests: osi-session-doc' \
         "lister of captures of the OSI session protocol" \
         "It lists captures of X.225 version 2 over the transport classes 0 and 2 of X.224 in TPKT packets (RFC 1006), also those that tshark
-reads. It says which side of a capture first broke the protocol, runs scripts of two ends, and draws what they did. It wants a processor of x86-64-v2 (SSE4.2)."
+reads. It says which side of a capture first broke the protocol, runs scripts of two ends, and draws what they did."
     control "libosi-session$abi" amd64 "libc6 (>= $(libc_of "$room/libosi-session$abi$libdir/libosi-session.so.$version"))" libs \
         "Multi-Arch: same" "OSI session layer, one end (shared library)" "$long"
-    control libosi-session-dev amd64 "libosi-session$abi (= $debian)" libdevel "Multi-Arch: same" \
+    control libosi-session-dev amd64 "libosi-session$abi (= $debian)" libdevel $'Multi-Arch: same\nSuggests: osi-session-doc' \
         "OSI session layer, one end (development files)" "$long This package has the headers for C and C++ and the static library."
+    take_pages
+    control osi-session-doc all "" doc "Multi-Arch: foreign" "OSI session layer, one end (pages and examples)" \
+        "$long This package has the guide, pages on the program osi and on judging captures, examples in C, C++, Python and Rust, and the
+functions for C as HTML."
     take_python
-    control python3-osi-session all "python3 (>= 3.9), libosi-session$abi (>= $version)" python "" \
+    compiled python3-osi-session
+    control python3-osi-session all "python3 (>= 3.9), libosi-session$abi (>= $of_debian)" python "" \
         "OSI session layer, one end (package for Python 3)" "$long This package calls the library, and goes over TCP by asyncio."
     [ -e "$out/osi-session-$version.crate" ] || return 0
     take_crate
     local name provides=""
-    for name in "${version%%.*}" "${version%.*}" "$version"; do
+    for name in "${number%%.*}" "${number%.*}" "$number"; do
         provides="$provides${provides:+, }librust-osi-session-$name-dev (= $debian)"
     done
-    control librust-osi-session-dev all "libosi-session-dev (>= $version)" rust "Provides: $provides" \
+    control librust-osi-session-dev all "libosi-session-dev (>= $of_debian)" rust "Provides: $provides" \
         "OSI session layer, one end (crate for Rust)" \
         "$long This package has the sources of the crate osi-session, which links the library."
 }

@@ -4,11 +4,16 @@
 #   PREFIX=$HOME/osi ./install.sh     program, library, headers, manual and bindings, below PREFIX (/usr/local)
 #   PREFIX=.. ./install.sh --remove   takes them away
 #
-# DESTDIR goes in front of PREFIX, as for `make install`.
+# DESTDIR goes in front of PREFIX. Relative ones start at the current folder.
 set -eu
-prefix=${PREFIX:-/usr/local}
-case $prefix in /*) ;; *) prefix=$PWD/$prefix ;; esac
-root=${DESTDIR:-}$prefix
+from_root() {
+    case $1 in
+        /* | "") printf '%s\n' "$1" ;;
+        *) printf '%s\n' "$PWD/$1" ;;
+    esac
+}
+prefix=$(from_root "${PREFIX:-/usr/local}")
+root=$(from_root "${DESTDIR:-}")$prefix
 cd "$(dirname "$0")"
 
 # All files and links of the four folders.
@@ -21,12 +26,12 @@ case ${1-} in
             rm -f "$root/$file"
             cp -P "$file" "$root/$file"
         done
-        grep -q ' sse4_2 ' /proc/cpuinfo 2>/dev/null ||
-            echo "install: the program bin/osi wants a processor of x86-64-v2 (SSE4.2); the library takes this one" >&2
         cat <<END
 installed below $root
   the program:      PATH=$root/bin:\$PATH
   the library:      export PKG_CONFIG_PATH=$root/lib/pkgconfig
+                    a program that links the shared one finds it by ldconfig, if $root/lib is among the loader's folders,
+                    or by -Wl,-rpath,$root/lib, or by LD_LIBRARY_PATH=$root/lib
   a first program:  cc -std=c99 examples/hello.c \$(pkg-config --cflags osi-session) $root/lib/libosi-session.a -o hello
 END
         ;;

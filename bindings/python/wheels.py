@@ -149,7 +149,7 @@ def build_sdist(sdist_directory, config_settings=None):
     with tarfile.open(fileobj=packed, mode="w", format=tarfile.PAX_FORMAT) as archive:
         for path, octets in _sources():
             entry = tarfile.TarInfo(f"{name}/{path}")
-            entry.size, entry.mtime, entry.mode = len(octets), _time(), 0o644
+            entry.size, entry.mtime, entry.mode = len(octets), _time(), 0o755 if octets.startswith(b"#!") else 0o644
             archive.addfile(entry, io.BytesIO(octets))
     with open(os.path.join(sdist_directory, f"{name}.tar.gz"), "wb") as file:
         file.write(gzip.compress(packed.getvalue(), 9, mtime=_time()))

@@ -34,8 +34,9 @@ fn by_pkg_config() -> Option<PathBuf> {
     within(Path::new(folder.trim()))
 }
 
-/// A version as its three numbers.
+/// A version as its three numbers, without the `-dev` of the time before its release.
 fn numbers(text: &str) -> Option<Vec<u32>> {
+    let text = text.strip_suffix("-dev").unwrap_or(text);
     let found: Option<Vec<u32>> = text.split('.').map(|part| part.parse().ok()).collect();
     found.filter(|numbers| numbers.len() == 3)
 }
@@ -100,10 +101,10 @@ fn main() {
         Some(folder) => within(Path::new(&folder)),
         None => by_pkg_config(),
     };
-    let Some(place) = found else {
+    let place = found.unwrap_or_else(|| {
         eprintln!("{HELP}");
-        exit(1);
-    };
+        exit(1)
+    });
     let place = place.canonicalize().unwrap_or(place);
     let shared = env::var_os("OSI_SESSION_SHARED").is_some() || !place.join(STATIC).is_file();
     let library = place.join(if shared { SHARED } else { STATIC });

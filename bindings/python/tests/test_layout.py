@@ -162,7 +162,8 @@ class Names(unittest.TestCase):
                 self.assertEqual(told, names.get(number, "unknown"), f"{function}({number})")
 
     def test_the_version(self):
-        self.assertEqual(osi_session.library_version(), osi_session.__version__)
+        # Before a release both have its number, and say so in the form that is usual in their language.
+        self.assertEqual(osi_session.library_version().replace("-dev", ".dev0"), osi_session.__version__)
 
     def test_in_osi_hpp(self):
         wanted = {name.replace("_with_size", "") for name in functions()} | numbers()

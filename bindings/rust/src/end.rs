@@ -466,11 +466,10 @@ impl End {
             let shown = shown.assume_init();
             (shown, lent(shown.user_data))
         };
-        let indication = Indication::of(&shown, user_data);
-        let Some(indication) = indication else {
-            panic!("the library shows an indication {} that is not known here", shown.tag)
-        };
-        Some((Reference(shown.reference), indication))
+        match Indication::of(&shown, user_data) {
+            Some(indication) => Some((Reference(shown.reference), indication)),
+            None => panic!("the library shows an indication {} that is not known here", shown.tag),
+        }
     }
 
     /// The phase of a connection; `None` for a reference that was never given.

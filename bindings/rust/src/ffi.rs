@@ -1,7 +1,7 @@
 //! The declarations of `include/osi.h`, with the same layout. The tests compare each struct and each number
 //! with what the C compiler says of them.
 
-use std::ffi::{c_char, c_void};
+use std::os::raw::{c_char, c_void};
 
 /// A slot that holds one end, or none.
 #[repr(C)]

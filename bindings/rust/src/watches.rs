@@ -6,6 +6,7 @@ use crate::judges::{kind_of, rule_of, said_of, side_of};
 use crate::{NotFed, Rule, Said, TapSide, VerdictKind};
 use std::fmt;
 use std::marker::PhantomData;
+use std::str;
 
 /// A verdict on a side of a byte connection.
 #[derive(Clone, Copy, Debug, PartialEq, Eq, Hash)]
