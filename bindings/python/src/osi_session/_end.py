@@ -5,8 +5,9 @@ import ctypes
 import logging
 import threading
 import weakref
+from collections import deque
 from ctypes import byref, c_uint16, c_uint64, sizeof
-from typing import Any, Callable, Iterator, List, NoReturn, Optional, Tuple, Type, TypeVar
+from typing import Any, Callable, Deque, Iterator, List, NoReturn, Optional, Tuple, Type, TypeVar
 
 from ._codes import Code, Direction, Phase, Reason, Refusal, SessionError, Tokens, Trace, Units
 from ._library import (
@@ -85,6 +86,9 @@ class End:
         self._slot = Slot()
         self._lock = threading.Lock()
         self._on_line: Optional[OnLine] = None
+        # The octets of feed_all that are not fed yet, and how many of the first are.
+        self._unfed: Deque[bytes] = deque()
+        self._used = 0
         passed = TermsOfC(
             _within("classes", terms.classes, 8), _within("size", terms.size, 8), _within("window", terms.window, 8)
         )
@@ -297,27 +301,49 @@ class End:
             self._tell(Direction.RECEIVED)
         return Fed(fed.used, fed.waits)
 
+    def _feed_first(self) -> Fed:
+        """Feeds what ``feed_all`` was given first and is not fed yet."""
+        octets = self._unfed[0]
+        fed = self._feed(_address(octets) + self._used, len(octets) - self._used)
+        self._used += fed.used
+        if self._used == len(octets):
+            self._unfed.popleft()
+            self._used = 0
+        return fed
+
     def feed(self, piece: bytes) -> Fed:
         """Feeds octets that you received from the peer, in their order, cut in any way. It stops after a packet
-        that causes an indication, and uses nothing while one is pending; ``feed_all`` is the loop around it.
-        Once the end has ended, it uses everything. SLOT_EMPTY."""
+        that causes an indication, and uses nothing while one is pending; ``feed_all`` is the loop around it. Octets
+        that ``feed_all`` keeps are fed before. Once the end has ended, it uses everything. SLOT_EMPTY."""
         octets = _octets(piece)
+        while self._unfed:
+            if self._feed_first().waits:
+                return Fed(0, True)
         return self._feed(_address(octets), len(octets))
+
+    def unfed(self) -> int:
+        """How many octets ``feed_all`` was given that are not fed yet, because its loop has not come to its end."""
+        return sum(map(len, self._unfed)) - self._used
 
     def feed_all(self, piece: bytes) -> Iterator[Indication]:
         """Feeds all of a piece, and yields each indication, pending ones first. You may call the end between
-        them. Iterate to the end, because the rest of the piece is fed only as you go on. SLOT_EMPTY, if
-        octets are left and the end was closed."""
+        them. The octets are fed as you go on. If you leave the loop early, by an exception or by ``break``, the end
+        keeps those that are not fed, and the next ``feed_all`` begins with them; ``feed_all(b"")`` goes on with
+        these alone. SLOT_EMPTY, if octets are left and the end was closed."""
         octets = _octets(piece)
-        at, used = _address(octets), 0
+        if octets:
+            self._unfed.append(octets)
+        return self._indications()
+
+    def _indications(self) -> Iterator[Indication]:
         while True:
             indication = self.next_indication()
             while indication is not None:
                 yield indication
                 indication = self.next_indication()
-            if used == len(octets):
+            if not self._unfed:
                 return
-            used += self._feed(at + used, len(octets) - used).used
+            self._feed_first()
 
     def outgoing(self, most: Optional[int] = None) -> bytes:
         """A copy of the octets to send to the peer, in their order, or of at most ``most`` of them, from the
