@@ -10,6 +10,9 @@ typedef struct {
     osi_end *slot;
     /* Whether a trace has lines to be told. */
     bool traces;
+    /* The pieces that are not fed yet, as a list, and how many octets of the first are. NULL before the first piece. */
+    PyObject *unfed;
+    size_t used;
 } Calls;
 
 enum { RECEIVED, SENT };
@@ -307,17 +310,62 @@ static bool fed(PyObject *self, const uint8_t *at, size_t length, osi_fed *said)
     return told(self, RECEIVED);
 }
 
+/* How many pieces are not fed yet. */
+static Py_ssize_t pieces_of(PyObject *self)
+{
+    PyObject *unfed = ((Calls *)self)->unfed;
+    return unfed == NULL ? 0 : PyList_Size(unfed);
+}
+
+/* Feeds the first of them. */
+static bool fed_first(PyObject *self, osi_fed *said)
+{
+    Calls *end = (Calls *)self;
+    PyObject *piece = PyList_GetItem(end->unfed, 0);
+    const size_t length = (size_t)PyBytes_Size(piece);
+    bool is_fed;
+    Py_INCREF(piece);
+    is_fed = fed(self, (const uint8_t *)PyBytes_AsString(piece) + end->used, length - end->used, said);
+    Py_DECREF(piece);
+    if (!is_fed)
+        return false;
+    end->used += said->used;
+    if (end->used < length)
+        return true;
+    end->used = 0;
+    return PyList_SetSlice(end->unfed, 0, 1, NULL) == 0;
+}
+
+static PyObject *fed_value(const osi_fed *said)
+{
+    PyObject *made = new_value(package.fed);
+    return kept_if(made, made != NULL && set(made, names.used, PyLong_FromSize_t(said->used))
+                             && set(made, names.waits, PyBool_FromLong(said->waits)));
+}
+
 static PyObject *call_feed(PyObject *self, PyObject *given, PyObject *named)
 {
     osi_octets octets;
-    osi_fed said;
-    PyObject *piece = argument_of(given, named, "piece"), *made = NULL, *kept = piece == NULL ? NULL : octets_of(piece, &octets);
-    if (kept == NULL)
-        return NULL;
-    if (fed(self, octets.at, octets.length, &said) && (made = new_value(package.fed)) != NULL)
-        made = kept_if(made, set(made, names.used, PyLong_FromSize_t(said.used)) && set(made, names.waits, PyBool_FromLong(said.waits)));
-    Py_DECREF(kept);
-    return made;
+    osi_fed said = {0, false};
+    PyObject *piece = argument_of(given, named, "piece"), *kept = piece == NULL ? NULL : octets_of(piece, &octets);
+    bool is_fed = kept != NULL;
+    while (is_fed && !said.waits && pieces_of(self) > 0)
+        is_fed = fed_first(self, &said);
+    if (said.waits)
+        said.used = 0;
+    else
+        is_fed = is_fed && fed(self, octets.at, octets.length, &said);
+    Py_XDECREF(kept);
+    return is_fed ? fed_value(&said) : NULL;
+}
+
+static PyObject *call_unfed(PyObject *self, PyObject *unused)
+{
+    size_t count = 0;
+    (void)unused;
+    for (Py_ssize_t i = 0; i < pieces_of(self); i++)
+        count += (size_t)PyBytes_Size(PyList_GetItem(((Calls *)self)->unfed, i));
+    return PyLong_FromSize_t(count - ((Calls *)self)->used);
 }
 
 static PyObject *call_next_indication(PyObject *self, PyObject *unused)
@@ -450,52 +498,54 @@ static PyObject *call_ended(PyObject *self, PyObject *unused)
 
 /* ---- the loop around feed */
 
-/* An iterator over the indications that a piece causes. */
+/* An iterator over the indications of an end, which feeds what is not fed yet. */
 typedef struct {
     PyObject_HEAD
-    PyObject *end, *piece;
-    osi_octets left;
+    PyObject *end;
 } Indications;
 
 static PyTypeObject *indications_type;
+
+/* Keeps a piece until it is fed. */
+static bool keep_piece(Calls *end, PyObject *piece)
+{
+    if (end->unfed == NULL && (end->unfed = PyList_New(0)) == NULL)
+        return false;
+    return PyBytes_Size(piece) == 0 || PyList_Append(end->unfed, piece) == 0;
+}
 
 static PyObject *call_feed_all(PyObject *self, PyObject *given, PyObject *named)
 {
     osi_octets octets;
     PyObject *piece = argument_of(given, named, "piece"), *kept = piece == NULL ? NULL : octets_of(piece, &octets);
     Indications *made = kept == NULL ? NULL : PyObject_New(Indications, indications_type);
-    if (made == NULL) {
-        Py_XDECREF(kept);
+    const bool is_kept = made != NULL && keep_piece((Calls *)self, kept);
+    Py_XDECREF(kept);
+    if (made == NULL)
         return NULL;
-    }
     Py_INCREF(self);
     made->end = self;
-    made->piece = kept;
-    made->left = octets;
-    return (PyObject *)made;
+    return kept_if((PyObject *)made, is_kept);
 }
 
-static PyObject *next_of_piece(PyObject *self)
+static PyObject *next_of_pieces(PyObject *self)
 {
-    Indications *piece = (Indications *)self;
-    osi_end *slot = slot_of(piece->end);
-    PyObject *indication = slot == NULL ? NULL : fetched(slot);
-    while (indication == NULL && PyErr_Occurred() == NULL && piece->left.length > 0) {
-        osi_fed said;
-        if (!fed(piece->end, piece->left.at, piece->left.length, &said))
+    PyObject *end = ((Indications *)self)->end, *indication = NULL;
+    osi_end *slot = slot_of(end);
+    osi_fed said;
+    while (slot != NULL && indication == NULL && PyErr_Occurred() == NULL && pieces_of(end) > 0) {
+        /* It uses nothing while an indication is pending. */
+        if (!fed_first(end, &said))
             return NULL;
-        piece->left.at += said.used;
-        piece->left.length -= said.used;
         indication = said.waits ? fetched(slot) : NULL;
     }
-    return indication;
+    return slot == NULL || indication != NULL || PyErr_Occurred() != NULL ? indication : fetched(slot);
 }
 
 static void free_indications(PyObject *self)
 {
     PyTypeObject *type = Py_TYPE(self);
     Py_DECREF(((Indications *)self)->end);
-    Py_DECREF(((Indications *)self)->piece);
     PyObject_Free(self);
     Py_DECREF(type);
 }
@@ -503,7 +553,7 @@ static void free_indications(PyObject *self)
 static PyType_Slot indications_slots[] = {
     {Py_tp_dealloc, free_indications},
     {Py_tp_iter, PyObject_SelfIter},
-    {Py_tp_iternext, next_of_piece},
+    {Py_tp_iternext, next_of_pieces},
     {0, NULL},
 };
 static PyType_Spec indications_spec = {"osi_session._native.Indications", sizeof(Indications), 0, Py_TPFLAGS_DEFAULT, indications_slots};
@@ -543,6 +593,7 @@ static PyMethodDef calls[] = {
     {"release_refuse", WITH_NAMES(call_release_refuse), NULL},
     {"abort", WITH_NAMES(call_abort), NULL},
     {"feed", WITH_NAMES(call_feed), NULL},
+    {"unfed", call_unfed, METH_NOARGS, NULL},
     {"feed_all", WITH_NAMES(call_feed_all), NULL},
     {"outgoing", WITH_NAMES(call_outgoing), NULL},
     {"outgoing_length", call_outgoing_length, METH_NOARGS, NULL},
@@ -559,7 +610,16 @@ static PyMethodDef calls[] = {
     {NULL, NULL, 0, NULL},
 };
 
-static PyType_Slot calls_slots[] = {{Py_tp_methods, calls}, {0, NULL}};
+static void free_calls(PyObject *self)
+{
+    PyTypeObject *type = Py_TYPE(self);
+    freefunc release = (freefunc)PyType_GetSlot(type, Py_tp_free);
+    Py_XDECREF(((Calls *)self)->unfed);
+    release(self);
+    Py_DECREF(type);
+}
+
+static PyType_Slot calls_slots[] = {{Py_tp_methods, calls}, {Py_tp_dealloc, free_calls}, {0, NULL}};
 static PyType_Spec calls_spec = {"osi_session._native.Calls", sizeof(Calls), 0, Py_TPFLAGS_DEFAULT | Py_TPFLAGS_BASETYPE, calls_slots};
 
 /* Keeps what the package hands over, and gives the methods their texts. */

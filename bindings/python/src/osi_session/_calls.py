@@ -3,8 +3,9 @@ from __future__ import annotations
 
 import ctypes
 import threading
+from collections import deque
 from ctypes import byref, c_uint64, sizeof
-from typing import Any, Callable, Iterator, Optional
+from typing import Any, Callable, Deque, Iterator, Optional
 
 from ._codes import Code, Direction, Phase, Reason, SessionError, Tokens
 from ._library import FedOfC, IndicationOfC, Octets, Slot
@@ -76,6 +77,9 @@ class Calls(Slotted):
 
     def _attach(self, address: int) -> None:
         """The slot lies at this address."""
+        # The octets of feed_all that are not fed yet, and how many of the first are.
+        self._unfed: Deque[bytes] = deque()
+        self._used = 0
 
     def _traces(self, has_lines: bool) -> None:
         """From now on a trace has lines to be told, or has none."""
@@ -158,25 +162,45 @@ class Calls(Slotted):
             self._tell(Direction.RECEIVED)
         return fed
 
+    def _feed_first(self) -> FedOfC:
+        """Feeds what ``feed_all`` was given first and is not fed yet."""
+        octets = self._unfed[0]
+        fed = self._feed(address_of(octets) + self._used, len(octets) - self._used)
+        self._used += fed.used
+        if self._used == len(octets):
+            self._unfed.popleft()
+            self._used = 0
+        return fed
+
     def feed(self, piece: bytes) -> Fed:
         """Feeds octets that you received from the peer, in their order, cut in any way. It stops after a packet
-        that causes an indication, and uses nothing while one is pending; ``feed_all`` is the loop around it.
-        Once the end has ended, it uses everything. SLOT_EMPTY."""
+        that causes an indication, and uses nothing while one is pending; ``feed_all`` is the loop around it. Octets
+        that ``feed_all`` keeps are fed before. Once the end has ended, it uses everything. SLOT_EMPTY."""
         octets = octets_of(piece)
+        while self._unfed:
+            if self._feed_first().waits:
+                return Fed(0, True)
         fed = self._feed(address_of(octets), len(octets))
         return Fed(fed.used, fed.waits)
 
+    def unfed(self) -> int:
+        """How many octets ``feed_all`` was given that are not fed yet, because its loop has not come to its end."""
+        return sum(map(len, self._unfed)) - self._used
+
     def feed_all(self, piece: bytes) -> Iterator[Indication]:
         """Feeds all of a piece, and yields each indication, pending ones first. You may call the end between
-        them. Iterate to the end, because the rest of the piece is fed only as you go on. SLOT_EMPTY, if
-        octets are left and the end was closed."""
+        them. The octets are fed as you go on. If you leave the loop early, by an exception or by ``break``, the end
+        keeps those that are not fed, and the next ``feed_all`` begins with them; ``feed_all(b"")`` goes on with
+        these alone. SLOT_EMPTY, if octets are left and the end was closed."""
         octets = octets_of(piece)
-        at, left = address_of(octets), len(octets)
-        while left > 0:
+        if octets:
+            self._unfed.append(octets)
+        return self._indications()
+
+    def _indications(self) -> Iterator[Indication]:
+        while self._unfed:
             # It uses nothing while an indication is pending.
-            fed = self._feed(at, left)
-            at, left = at + fed.used, left - fed.used
-            if fed.waits:
+            if self._feed_first().waits:
                 indication = self.next_indication()
                 if indication is not None:
                     yield indication
