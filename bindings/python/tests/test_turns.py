@@ -42,8 +42,8 @@ class Turns(Case):
 
     async def flooded(self, octets, all_of_them):
         """The most indications that are fetched between two turns of another task, until all are."""
-        line, most, before = self.lines[0], 0, 0
-        line.data_received(octets)
+        self.lines[0].data_received(octets)
+        most = before = len(self.got)
         while len(self.got) < all_of_them:
             await asyncio.sleep(0)
             most, before = max(most, len(self.got) - before), len(self.got)

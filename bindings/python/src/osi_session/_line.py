@@ -569,13 +569,21 @@ class EndProtocol(asyncio.Protocol):
         transport = self._transport
         if transport is None or self._closed or self._came_to_end or self.end.closed or transport.is_closing():
             return
-        reads = self._feed.is_empty and not self._must_wait()
+        self._read(transport, self._feed.is_empty and not self._must_wait())
+
+    def _read(self, transport: asyncio.Transport, reads: bool) -> None:
+        """From now on the transport is read, or is not."""
         if reads != self._reading:
             self._reading = reads
             with suppress(AttributeError):
                 (transport.resume_reading if reads else transport.pause_reading)()
 
     # ---- closing
+
+    def _shut(self, transport: asyncio.Transport) -> None:
+        """Closes the transport. (A TLS transport in Python 3.9 and 3.10 closes when it has read what the peer answers.)"""
+        self._read(transport, True)
+        transport.close()
 
     def _unsent(self, reference: int) -> int:
         """How many octets of a connection wait for credit. After an abort nobody waits for it."""
@@ -626,7 +634,7 @@ class EndProtocol(asyncio.Protocol):
             return
         if self._half_closed:
             if self._came_to_end or self.end.live() == 0:
-                transport.close()
+                self._shut(transport)
         elif self._is_over() or (self._closing and self._all_sent()):
             self._finish(transport)
 
@@ -636,7 +644,7 @@ class EndProtocol(asyncio.Protocol):
             # So the transport calls back when it has written them.
             transport.set_write_buffer_limits(0)
         elif self._came_to_end or self.end.live() == 0 or not transport.can_write_eof():
-            transport.close()
+            self._shut(transport)
         else:
             # (A close while the peer still writes would drop octets that it has not read.)
             self._half_closed = True
