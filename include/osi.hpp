@@ -857,7 +857,7 @@ public:
     void reset() noexcept { slot_.reset(); }
 
     /* The slot, for a function of osi.h; null if it holds no end. Don't free it. */
-    osi_end *get() noexcept { return slot_.get(); }
+    osi_end *get() noexcept { return slot_ ? &slot_->of_c : nullptr; }
 
     /* ---- connections and calls of their users, as in osi.h (X.215 section 10) */
 
@@ -951,30 +951,37 @@ public:
     /* ---- octets */
 
     /* Feeds octets that you received from the peer, cut in any way. It stops after a packet that causes an
-     * indication, and uses nothing while one is pending. */
+     * indication, and uses nothing while one is pending. Octets that feed_all keeps are fed before. */
     result<fed> feed(octets piece) noexcept
     {
-        osi_fed did = {0, false};
-        result<fed> answer;
-        answer.code = call(osi_feed, piece.data(), piece.size(), &did);
-        answer.value = {did.used, did.waits};
-        return answer;
+        while (slot_ && slot_->keeps()) {
+            const result<fed> did = feed_now(slot_->kept());
+            slot_->first += did->used;
+            if (did->waits)
+                return {code::ok, {0, true}};
+        }
+        return feed_now(piece);
     }
 
     /* Feeds all of a piece, and passes each indication to a function, which may call this end; indications
-     * that were pending before come first. Answers ok or slot_empty. */
+     * that were pending before come first. Answers ok or slot_empty.
+     *
+     * If the function throws, the end keeps a copy of the octets that are not fed yet, and the next feed or
+     * feed_all begins with them; feed_all({}, shown) goes on with these alone. If there is no memory for the
+     * copy, it does what broken does, so each user receives tag::lost. */
     template <class Shown>
     code feed_all(octets piece, Shown &&shown) noexcept(noexcept(shown(std::declval<const indication &>())))
     {
+        unfed rest(*this, piece);
         for (;;) {
             while (const std::optional<indication> one = next())
                 shown(*one);
-            if (piece.empty())
+            if (rest.piece.empty() && !(slot_ && slot_->keeps()))
                 return slot_ ? code::ok : code::slot_empty;
-            const result<fed> did = feed(piece);
+            const result<fed> did = feed(rest.piece);
             if (!did)
                 return did.code;
-            piece = piece.from(did->used);
+            rest.piece = rest.piece.from(did->used);
         }
     }
 
@@ -983,12 +990,12 @@ public:
     {
         osi_octets lent = OSI_NO_OCTETS;
         if (slot_)
-            osi_outgoing(slot_.get(), &lent);
+            osi_outgoing(&slot_->of_c, &lent);
         return lent;
     }
 
     /* Whether outgoing lends an octet. If so, wait until you can write to the socket. */
-    bool wants_write() noexcept { return slot_ && osi_wants_write(slot_.get()); }
+    bool wants_write() noexcept { return slot_ && osi_wants_write(&slot_->of_c); }
 
     /* Says that you have sent this many of them, from the first: ok, slot_empty, bad_argument (it lends fewer). */
     code taken(std::size_t count) noexcept { return call(osi_taken, count); }
@@ -1001,7 +1008,7 @@ public:
     std::optional<osi::ended> ended() noexcept
     {
         std::uint64_t more = 0;
-        const std::uint32_t why = slot_ ? osi_ended(slot_.get(), &more) : OSI_END_NONE;
+        const std::uint32_t why = slot_ ? osi_ended(&slot_->of_c, &more) : OSI_END_NONE;
         if (why == OSI_END_NONE)
             return std::nullopt;
         return osi::ended{static_cast<ending>(why), more};
@@ -1009,18 +1016,18 @@ public:
 
     /* Whether you may close the byte connection now: outgoing lends nothing, and either the end has ended, or
      * there were connections and none is live. */
-    bool is_over() noexcept { return slot_ && osi_is_over(slot_.get()); }
+    bool is_over() noexcept { return slot_ && osi_is_over(&slot_->of_c); }
 
     /* How many octets the end keeps of packets, of TSDUs and of data in parts that are not whole yet. */
-    std::size_t kept() noexcept { return slot_ ? osi_kept(slot_.get()) : 0; }
+    std::size_t kept() noexcept { return slot_ ? osi_kept(&slot_->of_c) : 0; }
 
     /* How many octets of a connection's TSDUs the peer's credit holds back, so that outgoing doesn't lend
      * them yet; and the sum over all connections. */
     std::size_t unsent(osi::reference of) noexcept { return look(osi_unsent, of); }
-    std::size_t backlog() noexcept { return slot_ ? osi_backlog(slot_.get()) : 0; }
+    std::size_t backlog() noexcept { return slot_ ? osi_backlog(&slot_->of_c) : 0; }
 
     /* How many connections are live: those whose transport connection is being opened, open or closing. */
-    std::size_t live() noexcept { return slot_ ? osi_live(slot_.get()) : 0; }
+    std::size_t live() noexcept { return slot_ ? osi_live(&slot_->of_c) : 0; }
 
     /* ---- indications */
 
@@ -1038,7 +1045,7 @@ public:
         if (!slot_)
             return {};
         osi_indication said;
-        osi_last(slot_.get(), &said);
+        osi_last(&slot_->of_c, &said);
         return detail::indication_of(said);
     }
 
@@ -1074,14 +1081,15 @@ public:
 
     /* Fetches the lines of one direction that you have not fetched, and passes each, without its line feed, to
      * on_line(std::string_view), which may not call this end: ok, nothing (no lines), no_memory (this trace has
-     * stopped; you are told once, after its last lines), slot_empty. */
+     * stopped; you are told once, after its last lines), slot_empty. If on_line throws, the lines after this one
+     * are lost. */
     template <class OnLine>
     code traced(direction of, OnLine &&on_line) noexcept(noexcept(on_line(std::string_view())))
     {
         const code fetched = call(osi_trace_fetch, detail::bits(of));
         osi_octets lent = OSI_NO_OCTETS;
         if (fetched == code::ok)
-            osi_trace_lines(slot_.get(), &lent);
+            osi_trace_lines(&slot_->of_c, &lent);
         std::string_view lines = octets(lent).text();
         while (!lines.empty()) {
             const std::size_t length = lines.find('\n');
@@ -1097,18 +1105,67 @@ public:
         if (!slot_)
             return {};
         osi_counters shown;
-        osi_counts(slot_.get(), &shown);
+        osi_counts(&slot_->of_c, &shown);
         return {detail::tally_of(shown.received), detail::tally_of(shown.sent)};
     }
 
 private:
-    struct freed {
-        void operator()(osi_end *slot) const noexcept
-        {
-            osi_free(slot);
-            delete slot;
-        }
+    struct deleted {
+        void operator()(std::uint8_t *octets) const noexcept { ::operator delete(octets); }
     };
+
+    /* The slot of osi.h, and the octets that feed_all keeps: those from first on. */
+    struct slot {
+        ~slot() { osi_free(&of_c); }
+
+        bool keeps() const noexcept { return first < length; }
+        octets kept() const noexcept { return octets(copy.get(), length).from(first); }
+
+        /* Keeps a piece too. If there is no memory, the byte connection is over. */
+        void keep(octets piece) noexcept
+        {
+            const octets before = kept();
+            const std::size_t sum = before.size() + piece.size();
+            std::unique_ptr<std::uint8_t, deleted> both(static_cast<std::uint8_t *>(::operator new(sum, std::nothrow)));
+            if (both) {
+                std::memcpy(both.get(), before.data(), before.size());
+                std::memcpy(both.get() + before.size(), piece.data(), piece.size());
+            } else {
+                (void)osi_broken(&of_c);
+            }
+            length = both ? sum : 0;
+            first = 0;
+            copy = std::move(both);
+        }
+
+        osi_end of_c = OSI_END;
+        std::unique_ptr<std::uint8_t, deleted> copy;
+        std::size_t first = 0, length = 0;
+    };
+
+    /* The rest of a piece of feed_all. At the end of its life the end keeps it. */
+    struct unfed {
+        unfed(end &own, octets all) noexcept : of(own), piece(all) {}
+        unfed(const unfed &) = delete;
+        unfed &operator=(const unfed &) = delete;
+        ~unfed()
+        {
+            if (of.slot_ && !piece.empty())
+                of.slot_->keep(piece);
+        }
+
+        end &of;
+        octets piece;
+    };
+
+    result<fed> feed_now(octets piece) noexcept
+    {
+        osi_fed did = {0, false};
+        result<fed> answer;
+        answer.code = call(osi_feed, piece.data(), piece.size(), &did);
+        answer.value = {did.used, did.waits};
+        return answer;
+    }
 
     using makes = std::uint32_t (*)(osi_end *, const osi_terms *);
     using says = std::uint32_t (*)(osi_end *, std::uint16_t, const std::uint8_t *, std::size_t);
@@ -1117,7 +1174,7 @@ private:
     {
         const osi_terms passed = {detail::bits(own.classes), own.size, own.window};
         result<end> answer;
-        answer.value.slot_.reset(new (std::nothrow) osi_end OSI_END);
+        answer.value.slot_.reset(new (std::nothrow) slot);
         answer.code = answer.value ? static_cast<osi::code>(made(answer.value.get(), &passed)) : code::no_memory;
         if (!answer)
             answer.value.reset();
@@ -1128,7 +1185,7 @@ private:
     template <class Function, class... Arguments>
     code call(Function function, Arguments... arguments) noexcept
     {
-        return slot_ ? static_cast<code>(function(slot_.get(), arguments...)) : code::slot_empty;
+        return slot_ ? static_cast<code>(function(&slot_->of_c, arguments...)) : code::slot_empty;
     }
 
     code say(says function, osi::reference of, octets data) noexcept
@@ -1139,10 +1196,10 @@ private:
     template <class T>
     T look(T (*function)(osi_end *, std::uint16_t), osi::reference of) noexcept
     {
-        return slot_ ? function(slot_.get(), of) : T{0};
+        return slot_ ? function(&slot_->of_c, of) : T{0};
     }
 
-    std::unique_ptr<osi_end, freed> slot_;
+    std::unique_ptr<slot> slot_;
 };
 
 /* ---- what passes between two other programs -------------------------------------------------------------- */
@@ -1217,7 +1274,8 @@ public:
     /* Holds no judge. */
     judge() noexcept = default;
 
-    /* Feeds octets of a side, and passes each verdict that is certain to on_verdict(const verdict &). */
+    /* Feeds octets of a side, and passes each verdict that is certain to on_verdict(const verdict &). If that throws, all
+     * of the piece has passed, unless memory ran out, and the next feed_all passes the other verdicts. */
     template <class OnVerdict>
     result<std::size_t> feed_all(tap_side side, octets piece, OnVerdict &&on_verdict)
     {
@@ -1280,7 +1338,8 @@ public:
     /* Holds no watch. */
     watch() noexcept = default;
 
-    /* Feeds octets of a side, and passes each verdict that is certain to on_verdict(const watch_verdict &). */
+    /* Feeds octets of a side, and passes each verdict that is certain to on_verdict(const watch_verdict &). If that throws,
+     * all of the piece has passed, unless memory ran out, and the next feed_all passes the other verdicts. */
     template <class OnVerdict>
     result<std::size_t> feed_all(tap_side side, octets piece, OnVerdict &&on_verdict)
     {

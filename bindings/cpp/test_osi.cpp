@@ -682,6 +682,114 @@ static void a_byte_connection_is_watched()
     no_slot = false;
 }
 
+/* ---- a function that throws */
+
+struct thrown {};
+
+/* What a caller sends in one piece after it is connected: data "0" to "5". */
+static const std::vector<std::string> six = {"0", "1", "2", "3", "4", "5"};
+
+static std::string six_messages(pair &both)
+{
+    for (const std::string &text : six)
+        CHECK(both.caller.data(both.of, text) == code::ok);
+    const std::string octets(both.caller.outgoing().text());
+    CHECK(both.caller.taken(octets.size()) == code::ok);
+    return octets;
+}
+
+/* Whatever indication the function throws at, all of them come, each once and in order. */
+static void a_function_that_throws_loses_nothing()
+{
+    for (const osi::classes classes : {osi::classes::class_0, osi::classes::class_2})
+        for (std::size_t at = 0; at <= six.size(); at++) {
+            pair both = opened(classes);
+            const std::string octets = six_messages(both), first = octets.substr(0, octets.size() / 2 + 3);
+            std::vector<std::string> said;
+            const auto keep = [&](const osi::indication &shown) {
+                said.emplace_back(shown.user_data.text());
+                if (said.size() == at + 1)
+                    throw thrown();
+            };
+            bool has_thrown = false;
+            for (const std::string &piece : {first, octets.substr(first.size())}) {
+                try {
+                    CHECK(both.called.feed_all(piece, keep) == code::ok);
+                } catch (const thrown &) {
+                    has_thrown = true;
+                }
+            }
+            CHECK(both.called.feed_all({}, keep) == code::ok);
+            CHECK(has_thrown == (at < six.size()) && said == six);
+        }
+}
+
+/* It may throw at each of them, and the end may be moved between two. */
+static void a_function_may_throw_each_time()
+{
+    pair both = opened(osi::classes::class_2);
+    std::string octets = six_messages(both);
+    std::vector<std::string> said;
+    for (std::size_t turn = 0; turn <= six.size(); turn++) {
+        osi::end moved = std::move(both.called);
+        try {
+            CHECK(moved.feed_all(octets, [&](const osi::indication &shown) {
+                said.emplace_back(shown.user_data.text());
+                throw thrown();
+            }) == code::ok);
+            CHECK(turn == six.size());
+        } catch (const thrown &) {
+            CHECK(turn < six.size());
+        }
+        octets.clear();
+        both.called = std::move(moved);
+    }
+    CHECK(said == six);
+}
+
+/* What is kept goes before a piece that feed is given. */
+static void kept_octets_are_fed_first()
+{
+    pair both = opened(osi::classes::class_0);
+    const std::string octets = six_messages(both);
+    const std::size_t half = octets.size() / 2;
+    std::vector<std::string> said;
+    try {
+        CHECK(both.called.feed_all(octets.substr(0, half), [](const osi::indication &) { throw thrown(); }) == code::ok);
+    } catch (const thrown &) {
+        said.emplace_back(both.called.last().user_data.text());
+    }
+    std::string rest = octets.substr(half);
+    for (bool goes_on = true; goes_on;) {
+        const auto did = both.called.feed(rest);
+        CHECK(did && (did->waits || did->used == rest.size()));
+        rest.erase(0, did->used);
+        while (const auto one = both.called.next())
+            said.emplace_back(one->user_data.text());
+        goes_on = did->waits || !rest.empty();
+    }
+    CHECK(said == six);
+}
+
+/* Without memory for the rest the users are told that the connection is lost. */
+static void without_memory_for_the_rest_it_is_lost()
+{
+    pair both = opened(osi::classes::class_0);
+    const std::string octets = six_messages(both);
+    no_slot = true;
+    const bool refused = is_refused();
+    try {
+        CHECK(both.called.feed_all(octets, [](const osi::indication &) { throw thrown(); }) == code::ok);
+        CHECK(false);
+    } catch (const thrown &) {
+    }
+    no_slot = false;
+    std::vector<tag> shown;
+    CHECK(both.called.feed_all({}, [&](const osi::indication &one) { shown.push_back(one.tag); }) == code::ok);
+    if (refused)
+        CHECK(shown == std::vector<tag>{tag::lost});
+}
+
 int main()
 {
     octets_are_views();
@@ -712,6 +820,10 @@ int main()
     numbers_have_names();
     a_connection_is_judged();
     a_byte_connection_is_watched();
+    a_function_that_throws_loses_nothing();
+    a_function_may_throw_each_time();
+    kept_octets_are_fed_first();
+    without_memory_for_the_rest_it_is_lost();
     std::printf("%d passed, %d failed\n", passed, failed);
     return failed == 0 ? 0 : 1;
 }

@@ -1,11 +1,13 @@
 """Builds the packages of osi_session with the standard library alone (PEP 517), so no package index is needed. The same files
 give the same octets; their time is SOURCE_DATE_EPOCH, or the earliest that a wheel can store.
 
-A wheel has no library, and fits every platform. With two settings it has the shared library in it, and fits one platform:
+A wheel has no library, and fits every platform. With two settings it has the shared library in it, and fits one platform; with a
+third it also has the module in C that makes an end's calls fast, for Python 3.9 and later:
 
-    pip wheel --config-settings library=PATH --config-settings platform=linux_x86_64 .
+    pip wheel --config-settings library=PATH --config-settings platform=linux_x86_64 --config-settings native=PATH .
 
-`packaging/platform_of LIBRARY` at the top of the repository says which platforms a library fits.
+`packaging/platform_of LIBRARY` at the top of the repository says which platforms a library fits. `make lib` builds the module,
+`src/osi_session/_native.abi3.so`, if Python's headers are installed.
 """
 import base64
 import gzip
@@ -71,9 +73,13 @@ def _metadata():
     return ("\n".join(lines) + "\n\n").encode() + _octets(os.path.join(HERE, "README.md"))
 
 
-def _tags(settings):
-    """The tags of a wheel, which are also in its name."""
-    return [f"py3-none-{each}" for each in settings.get("platform", "linux_x86_64" if "library" in settings else "any").split(".")]
+def _python(settings):
+    """The first tags of a wheel: the module in C is for CPython 3.9 and later, everything else for any Python."""
+    return "cp39-abi3" if "native" in settings else "py3-none"
+
+
+def _platforms(settings):
+    return settings.get("platform", "linux_x86_64" if "library" in settings or "native" in settings else "any")
 
 
 def _soname():
@@ -92,9 +98,11 @@ def _files(settings, editable):
             yield f"osi_session/{name}", _octets(os.path.join(folder, name))
     if "library" in settings:
         yield f"osi_session/{_soname()}", _octets(settings["library"])
+    if "native" in settings:
+        yield "osi_session/_native.abi3.so", _octets(settings["native"])
     yield f"{INFO}/METADATA", _metadata()
-    is_pure = "false" if "library" in settings else "true"
-    tags = "".join(f"Tag: {tag}\n" for tag in _tags(settings))
+    is_pure = "false" if "library" in settings or "native" in settings else "true"
+    tags = "".join(f"Tag: {_python(settings)}-{each}\n" for each in _platforms(settings).split("."))
     yield f"{INFO}/WHEEL", f"Wheel-Version: 1.0\nGenerator: wheels\nRoot-Is-Purelib: {is_pure}\n{tags}".encode()
     for name, octets in _licences():
         yield f"{INFO}/licenses/{name}", octets
@@ -111,8 +119,7 @@ def _put(wheel, path, octets):
 
 
 def _wheel(folder, settings, editable=False):
-    platforms = ".".join(tag.removeprefix("py3-none-") for tag in _tags(settings))
-    name = f"osi_session-{VERSION}-py3-none-{platforms}.whl"
+    name = f"osi_session-{VERSION}-{_python(settings)}-{_platforms(settings)}.whl"
     record = ""
     with zipfile.ZipFile(os.path.join(folder, name), "w") as wheel:
         for path, octets in _files(settings, editable):

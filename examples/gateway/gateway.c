@@ -11,8 +11,6 @@
 #include <time.h>
 #include <unistd.h>
 
-#define PIECE 65536
-
 const char *option(int count, char **words, const char *name, const char *otherwise)
 {
     for (int i = 1; i + 1 < count; i++)
@@ -166,6 +164,7 @@ static bool show_next(struct gateway *g)
     if (!osi_next(&g->end, &shown))
         return false;
     g->was_shown = true;
+    g->whole = g->shown_at = g->now;
     if (g->log != NULL) {
         fprintf(g->log, "%s %u ", g->side, shown.reference);
         write_shown(g->log, &shown);
@@ -202,7 +201,7 @@ static bool comes_later(void)
 /* Reads once. */
 static void receive(struct gateway *g)
 {
-    static uint8_t piece[PIECE];
+    static uint8_t piece[MOST_READ];
     const ssize_t count = recv(g->socket, piece, sizeof piece, MSG_DONTWAIT);
     if (count > 0) {
         g->was_heard = true;
@@ -237,7 +236,7 @@ static void transmit(struct gateway *g)
         if (g->sent != NULL)
             write_octets(g->sent, octets.at, (size_t)count);
         g->sent_octets += (size_t)count;
-        g->moved = now_in_milliseconds();
+        g->moved = g->written = g->now;
         osi_taken(&g->end, (size_t)count);
         write_trace(g);
         if (g->stall_at > 0 && g->sent_octets == g->stall_at)
@@ -249,15 +248,29 @@ static void transmit(struct gateway *g)
 
 /* ---- a turn of the loop (docs/GUIDE.md) */
 
-/* Gives the peer up: it sends nothing, or nothing that causes an indication. osi_phase says what its connections wait for. */
-static void give_up(struct gateway *g)
+void gateway_give_up(struct gateway *g, const char *why)
 {
     FILE *log = g->log != NULL ? g->log : stderr;
-    const char *why = g->was_heard && !g->was_shown ? "nothing was shown" : "the peer is silent";
     fprintf(log, "%s gives up: %s\n", g->side, why);
+    /* (osi_phase says what its connections wait for) */
     for (uint16_t r = 1; !g->was_shown && osi_phase(&g->end, r) != OSI_PHASE_NONE; r++)
         fprintf(log, "%s %u was never shown, %s\n", g->side, r, osi_phase_name(osi_phase(&g->end, r)));
     close_socket(g);
+}
+
+/* What the peer has not done in time. */
+static const char *overdue(const struct gateway *g)
+{
+    if (g->now > g->whole + g->patience)
+        return "a packet or data is not ended";
+    if (g->now > g->written + g->patience)
+        return "the peer does not read";
+    return g->was_heard && !g->was_shown ? "nothing was shown" : "the peer is silent";
+}
+
+bool gateway_is_less_active(const struct gateway *g, const struct gateway *other)
+{
+    return g->was_shown == other->was_shown ? g->shown_at < other->shown_at : !g->was_shown;
 }
 
 short gateway_events(struct gateway *g)
@@ -266,10 +279,15 @@ short gateway_events(struct gateway *g)
     return (short)((reads ? POLLIN : 0) | (osi_wants_write(&g->end) ? POLLOUT : 0));
 }
 
+static long long earlier(long long one, long long other)
+{
+    return one < other ? one : other;
+}
+
 /* When to give the peer up, unless something happens before. */
 static long long deadline(const struct gateway *g)
 {
-    return (g->was_shown ? g->moved : g->began) + g->patience;
+    return earlier(g->was_shown ? g->moved : g->began, earlier(g->whole, g->written)) + g->patience;
 }
 
 int gateway_timeout(struct gateway *g)
@@ -288,19 +306,23 @@ static void make_more_calls(struct gateway *g)
 
 bool gateway_turn(struct gateway *g, short found)
 {
-    const long long now = now_in_milliseconds();
+    g->now = now_in_milliseconds();
     if (found != 0)
-        g->moved = now;
-    if (found & (POLLIN | POLLERR | POLLHUP))
+        g->moved = g->now;
+    if (g->socket >= 0 && found & (POLLIN | POLLERR | POLLHUP))
         receive(g);
     make_more_calls(g);
     if (g->socket >= 0 && osi_wants_write(&g->end))
         transmit(g);
     make_more_calls(g);
+    if (osi_kept(&g->end) == 0)
+        g->whole = g->now;
+    if (!osi_wants_write(&g->end))
+        g->written = g->now;
     if (g->socket >= 0 && osi_is_over(&g->end))
         close_socket(g);
-    if (g->socket >= 0 && now > deadline(g))
-        give_up(g);
+    if (g->socket >= 0 && g->now > deadline(g))
+        gateway_give_up(g, overdue(g));
     return g->socket >= 0;
 }
 
@@ -334,7 +356,7 @@ bool gateway_open(struct gateway *g, int socket, bool calls, int count, char **w
     g->socket = socket;
     g->side = calls ? "left" : "right";
     g->patience = atoll(option(count, words, "--wait", "10")) * 1000;
-    g->began = g->moved = now_in_milliseconds();
+    g->now = g->began = g->moved = g->whole = g->written = g->shown_at = now_in_milliseconds();
     g->sent = capture_file(capture, g->side);
     g->came = capture_file(capture, calls ? "right" : "left");
     g->trace = capture_file(capture, "trace");

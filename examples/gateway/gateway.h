@@ -14,6 +14,8 @@
 #define MOST_OUTGOING 524288u
 /* If a peer gives no credit for this many octets of answers, its connection is answered no more and given up. */
 #define MOST_UNSENT 16384u
+/* The most octets that a turn reads: some 700 messages of one octet. So a peer that sends without a pause delays no other. */
+#define MOST_READ 8192u
 
 struct gateway {
     osi_end end;
@@ -24,8 +26,13 @@ struct gateway {
     FILE *trace;           /* the lines of all packets, > for sent and < for received ones; NULL for none */
     size_t stall_at;       /* stops for good once this many octets were sent; 0 for never */
     size_t sent_octets;
-    long long patience;    /* milliseconds until the first indication has to come, and that the peer may be silent */
-    long long began, moved; /* when it began, and when it last read or wrote octets, in milliseconds */
+    /* In milliseconds: how long the peer may take, from each of the times below. The first indication has to come. */
+    long long patience;
+    long long now, began;  /* the begin of this turn, and of the first one */
+    long long moved;       /* octets were last read or written */
+    long long whole;       /* no packet or data was incomplete, or one was completed */
+    long long written;     /* octets were last written, or none waited for the socket */
+    long long shown_at;    /* the user last received an indication */
     bool was_heard;        /* the peer sent something */
     bool was_shown;        /* the user has received an indication */
     bool has_more;         /* the user makes more calls as soon as gateway_may_send */
@@ -53,9 +60,16 @@ bool gateway_open(struct gateway *g, int socket, bool calls, int count, char **w
 short gateway_events(struct gateway *g);
 int gateway_timeout(struct gateway *g);
 
-/* Reads and writes without blocking: one read, if poll found something to read, and one write of all that this and earlier
- * calls gave. False once there is nothing left to do, because this side or the other has closed the byte connection. */
+/* Reads and writes without blocking: one read of at most MOST_READ octets, if poll found something to read, and one write of all
+ * that this and earlier calls gave. False once there is nothing left to do, because this side or the other has closed the byte
+ * connection, or because the peer was given up. */
 bool gateway_turn(struct gateway *g, short found);
+
+/* Whether the first peer is less active than the second: it has no session, or has sent nothing whole for longer. */
+bool gateway_is_less_active(const struct gateway *g, const struct gateway *other);
+
+/* Gives the peer up, and logs why. gateway_turn then answers false. */
+void gateway_give_up(struct gateway *g, const char *why);
 
 /* Whether a side may make more calls: few octets are outgoing, and none wait for the peer's credit. Those would be copied, to be
  * kept until it comes. */

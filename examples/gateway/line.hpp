@@ -11,6 +11,7 @@
 #include <sys/socket.h>
 #include <unistd.h>
 
+#include <algorithm>
 #include <array>
 #include <cerrno>
 #include <chrono>
@@ -168,6 +169,8 @@ public:
     static constexpr std::size_t most_outgoing = 524288;
     /* If a peer gives no credit for this many octets of answers, its connection is answered no more and given up. */
     static constexpr std::size_t most_unsent = 16384;
+    /* The most octets that a turn reads: some 700 messages of one octet. So a peer that sends without a pause delays no other. */
+    static constexpr std::size_t most_read = 8192;
 
     /* The events that poll has to wait for, and for how many milliseconds at most. */
     pollfd waits()
@@ -181,20 +184,40 @@ public:
         return left.count() > 0 ? static_cast<int>(left.count()) : 0;
     }
 
-    /* One turn of the loop: reads and writes without blocking. False once there is nothing left to do, because the byte
-     * connection is over or the peer was given up; then destroy the line. */
+    /* One turn of the loop: reads at most most_read octets, and writes, without blocking. False once there is nothing left to
+     * do, because the byte connection is over or the peer was given up; then destroy the line. */
     bool turn(short found)
     {
+        now_ = clock::now();
         if (found != 0)
-            moved_ = clock::now();
+            moved_ = now_;
         const bool goes_on = carry(found);
-        if (goes_on && clock::now() <= deadline())
+        if (end.kept() == 0)
+            whole_ = now_;
+        if (!end.wants_write())
+            written_ = now_;
+        if (goes_on && now_ <= deadline())
             return true;
         if (goes_on)
-            give_up();
-        (void)end.broken();
-        show({});
+            give_up(overdue());
+        else
+            lose();
         return false;
+    }
+
+    /* Whether this peer is less active than another one: it has no session, or has sent nothing whole for longer. */
+    bool is_less_active(const line &other) const
+    {
+        return was_shown_ == other.was_shown_ ? shown_at_ < other.shown_at_ : !was_shown_;
+    }
+
+    /* Gives the peer up, and logs why, and the phase of each connection that had no indication yet. Then destroy the line. */
+    void give_up(const char *why)
+    {
+        log() << "gives up: " << why << '\n';
+        for (osi::reference of = 1; !was_shown_ && end.phase(of) != osi::phase::none; of++)
+            log() << of << " was never shown, " << osi::name(end.phase(of)) << '\n';
+        lose();
     }
 
 protected:
@@ -224,17 +247,35 @@ protected:
 private:
     using clock = std::chrono::steady_clock;
 
+    /* The byte connection is over: tells the user of each connection that isn't. */
+    void lose()
+    {
+        (void)end.broken();
+        show({});
+    }
+
     void show(osi::octets piece)
     {
         (void)end.feed_all(piece, [this](const osi::indication &one) {
             was_shown_ = true;
+            whole_ = shown_at_ = now_;
             log() << one.reference << ' ' << words(one) << '\n';
             shown(one);
         });
     }
 
     /* When to give the peer up, unless something happens before. */
-    clock::time_point deadline() const { return (was_shown_ ? moved_ : began_) + patience_; }
+    clock::time_point deadline() const { return std::min({was_shown_ ? moved_ : began_, whole_, written_}) + patience_; }
+
+    /* What the peer has not done in time. */
+    const char *overdue() const
+    {
+        if (now_ > whole_ + patience_)
+            return "a packet or data is not ended";
+        if (now_ > written_ + patience_)
+            return "the peer does not read";
+        return was_heard_ && !was_shown_ ? "nothing was shown" : "the peer is silent";
+    }
 
     /* Reads if there is something to read, and writes if something is outgoing. Returns whether the byte connection goes on. */
     bool carry(short found)
@@ -242,14 +283,6 @@ private:
         if ((found & (POLLIN | POLLERR | POLLHUP)) != 0 && !receive())
             return false;
         return (!end.wants_write() || transmit()) && !end.is_over();
-    }
-
-    /* Logs the phase of each connection that had no indication yet. */
-    void give_up()
-    {
-        log() << "gives up: " << (was_heard_ && !was_shown_ ? "nothing was shown" : "the peer is silent") << '\n';
-        for (osi::reference of = 1; !was_shown_ && end.phase(of) != osi::phase::none; of++)
-            log() << of << " was never shown, " << osi::name(end.phase(of)) << '\n';
     }
 
     static bool comes_later() { return errno == EAGAIN || errno == EWOULDBLOCK || errno == EINTR; }
@@ -261,14 +294,14 @@ private:
         const ssize_t count = send(socket_.handle(), waiting.data(), waiting.size(), MSG_NOSIGNAL | MSG_DONTWAIT);
         if (count < 0)
             return comes_later();
-        moved_ = clock::now();
+        moved_ = written_ = now_;
         return end.taken(static_cast<std::size_t>(count)) == osi::code::ok;
     }
 
     /* Reads once. */
     bool receive()
     {
-        static std::array<std::uint8_t, 65536> piece;
+        static std::array<std::uint8_t, most_read> piece;
         const ssize_t count = recv(socket_.handle(), piece.data(), piece.size(), MSG_DONTWAIT);
         if (count <= 0)
             return count < 0 && comes_later();
@@ -281,8 +314,10 @@ private:
     const char *side_;
     std::ostream &log_;
     const std::chrono::seconds patience_;
+    /* The begin of the first turn and of this one, and when octets were last read or written; when no packet or data was
+     * incomplete, or one was completed; when octets were last written, or none waited; and the last indication. */
     const clock::time_point began_ = clock::now();
-    clock::time_point moved_ = began_;
+    clock::time_point now_ = began_, moved_ = began_, whole_ = began_, written_ = began_, shown_at_ = began_;
     bool was_heard_ = false, was_shown_ = false;
 };
 

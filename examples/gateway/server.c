@@ -5,8 +5,9 @@
  *          [--log FILE|-] [--capture NAME] [--stall OCTETS]
  *
  * It prints the port that it listens on (0 takes a free one), and after each peer has gone, what that peer sent. With --peers
- * it ends after COUNT peers have come and gone. It gives up a peer that asks for no connection within --wait seconds, or that
- * is silent for that long, and logs it. With --tsdu it takes and sends TSDUs of at most this many octets, 64 to 65535, if the
+ * it ends after COUNT peers have come and gone. It gives up a peer that asks for no connection within --wait seconds, that is
+ * silent for that long, that has not ended a packet or data by then, or reads nothing; and if all places are taken, the least
+ * active one. It logs this. With --tsdu it takes and sends TSDUs of at most this many octets, 64 to 65535, if the
  * client names a size too. With --stall it stops for good once it has sent this many octets to a peer. --capture is for one
  * peer. */
 #define _POSIX_C_SOURCE 200809L
@@ -24,7 +25,7 @@
 #include <unistd.h>
 
 #define UNITS (OSI_HALF_DUPLEX | OSI_MINOR_SYNC | OSI_NEGOTIATED_RELEASE)
-#define MOST_PEERS 64
+#define MOST_PEERS 256
 
 /* A byte connection, and what it has received. */
 struct peer {
@@ -98,30 +99,6 @@ static int listens(const char *port, int *listener)
     return ntohs(own.sin_port);
 }
 
-/* Accepts the next peer, if there is one. If memory runs out, it closes the connection at once. */
-static void take_peer(struct server *s)
-{
-    int yes = 1, socket = accept(s->listener, NULL, NULL);
-    if (socket < 0)
-        return;
-    struct peer *peer = calloc(1, sizeof *peer);
-    if (peer == NULL) {
-        close(socket);
-        return;
-    }
-    setsockopt(socket, IPPROTO_TCP, TCP_NODELAY, &yes, sizeof yes);
-    peer->tsdu = (uint16_t)strtoul(option(s->count, s->words, "--tsdu", "0"), NULL, 10);
-    peer->gateway = (struct gateway){.end = OSI_END, .log = s->log, .shown = shown, .user = peer};
-    peer->gateway.stall_at = (size_t)atol(option(s->count, s->words, "--stall", "0"));
-    s->awaits--;
-    if (gateway_open(&peer->gateway, socket, false, s->count, s->words)) {
-        s->peers[s->here++] = peer;
-        return;
-    }
-    gateway_close(&peer->gateway);
-    free(peer);
-}
-
 /* Removes the peer at this place; the last one moves there. */
 static void forget(struct server *s, int place)
 {
@@ -133,13 +110,60 @@ static void forget(struct server *s, int place)
     s->peers[place] = s->peers[--s->here];
 }
 
+/* If all places are taken, gives up the least active peer. */
+static void make_place(struct server *s)
+{
+    int least = 0;
+    if (s->here < MOST_PEERS)
+        return;
+    for (int i = 1; i < s->here; i++)
+        if (gateway_is_less_active(&s->peers[i]->gateway, &s->peers[least]->gateway))
+            least = i;
+    gateway_give_up(&s->peers[least]->gateway, "it gives way to another peer");
+    forget(s, least);
+}
+
+/* Takes a byte connection. If memory runs out, it closes it at once. */
+static void take_peer(struct server *s, int socket)
+{
+    int yes = 1;
+    struct peer *peer = calloc(1, sizeof *peer);
+    if (peer == NULL) {
+        close(socket);
+        return;
+    }
+    setsockopt(socket, IPPROTO_TCP, TCP_NODELAY, &yes, sizeof yes);
+    peer->tsdu = (uint16_t)strtoul(option(s->count, s->words, "--tsdu", "0"), NULL, 10);
+    peer->gateway = (struct gateway){.end = OSI_END, .log = s->log, .shown = shown, .user = peer};
+    peer->gateway.stall_at = (size_t)atol(option(s->count, s->words, "--stall", "0"));
+    s->awaits--;
+    make_place(s);
+    if (gateway_open(&peer->gateway, socket, false, s->count, s->words)) {
+        s->peers[s->here++] = peer;
+        return;
+    }
+    gateway_close(&peer->gateway);
+    free(peer);
+}
+
+/* Accepts the peers that wait, some of them in a turn. */
+static void take_peers(struct server *s)
+{
+    for (int most = 16; most > 0 && s->awaits > 0; most--) {
+        const int socket = accept(s->listener, NULL, NULL);
+        if (socket < 0)
+            return;
+        take_peer(s, socket);
+    }
+}
+
 /* Waits until there is something to do, and does it. */
 static void turn(struct server *s)
 {
     struct pollfd waits[1 + MOST_PEERS];
     const int here = s->here;
     int timeout = -1;
-    waits[0] = (struct pollfd){here < MOST_PEERS && s->awaits > 0 ? s->listener : -1, POLLIN, 0};
+    waits[0] = (struct pollfd){s->awaits > 0 ? s->listener : -1, POLLIN, 0};
     for (int i = 0; i < here; i++) {
         struct gateway *g = &s->peers[i]->gateway;
         const int own = gateway_timeout(g);
@@ -152,7 +176,7 @@ static void turn(struct server *s)
         if (!gateway_turn(&s->peers[i]->gateway, waits[1 + i].revents))
             forget(s, i);
     if (waits[0].revents != 0)
-        take_peer(s);
+        take_peers(s);
 }
 
 int main(int count, char **words)

@@ -4,7 +4,8 @@
  *   server [--port 4000] [--peers COUNT] [--classes 0|2|20] [--tsdu OCTETS] [--wait SECONDS] [--log FILE|-]
  *
  * It prints the port that it listens on (0 takes a free one). With --peers it ends after COUNT peers have come and gone. It
- * gives up a peer that asks for no connection within --wait seconds, or that is silent for that long, and logs it. */
+ * gives up a peer that asks for no connection within --wait seconds, that is silent for that long, that has not ended a packet
+ * or data by then, or reads nothing; and if all places are taken, the least active one. It logs this. */
 #include "line.hpp"
 
 #include <fcntl.h>
@@ -92,7 +93,7 @@ public:
     }
 
 private:
-    static constexpr int most_peers = 64;
+    static constexpr std::size_t most_peers = 256;
 
     /* Waits until there is something to do, and does it. */
     void turn()
@@ -103,29 +104,41 @@ private:
             waits.push_back(one->waits());
             timeout = timeout < 0 ? one->timeout() : std::min(timeout, one->timeout());
         }
-        const bool has_place = awaits_ > 0 && peers_.size() < most_peers;
-        waits.push_back({has_place ? listener_.handle() : -1, POLLIN, 0});
+        waits.push_back({awaits_ > 0 ? listener_.handle() : -1, POLLIN, 0});
         poll(waits.data(), waits.size(), timeout);
         std::vector<std::unique_ptr<peer>> stay;
         for (std::size_t at = 0; at < peers_.size(); at++)
             if (peers_[at]->turn(waits[at].revents))
                 stay.push_back(std::move(peers_[at]));
         peers_ = std::move(stay);
-        if (waits.back().revents != 0)
-            take();
+        for (int most = 16; waits.back().revents != 0 && most > 0 && awaits_ > 0 && take(); most--) {
+        }
+    }
+
+    /* If all places are taken, gives up the least active peer. */
+    void make_place()
+    {
+        if (peers_.size() < most_peers)
+            return;
+        const auto least = std::min_element(peers_.begin(), peers_.end(),
+                                            [](const auto &one, const auto &other) { return one->is_less_active(*other); });
+        (*least)->give_up("it gives way to another peer");
+        peers_.erase(least);
     }
 
     /* Accepts the next peer, if there is one. If memory runs out, it closes the connection at once. */
-    void take()
+    bool take()
     {
         connection came(accept(listener_.handle(), nullptr, nullptr));
         auto made = osi::end::called(own_);
         const int yes = 1;
         if (!came || !made)
-            return;
+            return false;
         setsockopt(came.handle(), IPPROTO_TCP, TCP_NODELAY, &yes, sizeof yes);
+        make_place();
         peers_.push_back(std::make_unique<peer>(std::move(*made), std::move(came), log_.stream(), patience_, sizes_));
         awaits_--;
+        return true;
     }
 
     log_file log_;

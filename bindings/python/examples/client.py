@@ -8,9 +8,13 @@ the release.
 
 The status is 0 if the connection was released, and 3 if it was lost.
 """
+from __future__ import annotations
+
 import argparse
 import asyncio
+import contextlib
 import sys
+from typing import Any, Callable, ContextManager, TextIO, Union
 
 from osi_session import (
     Asked,
@@ -20,6 +24,7 @@ from osi_session import (
     Connected,
     Data,
     Given,
+    Indication,
     Lost,
     Minor,
     MinorConfirmed,
@@ -29,6 +34,7 @@ from osi_session import (
     RefusedByTransport,
     Release,
     SessionError,
+    Sides,
     Sizes,
     Terms,
     Tokens,
@@ -40,13 +46,13 @@ UNITS = Units.HALF_DUPLEX | Units.MINOR_SYNC | Units.NEGOTIATED_RELEASE
 TOKENS = Tokens.DATA | Tokens.MINOR | Tokens.RELEASE
 
 
-def opened(shown, sides):
+def opened(shown: Union[Connect, Connected], sides: Sides) -> str:
     serial = "-" if shown.number is None else shown.number
     letters = "".join("arc"[side] for side in (sides.data, sides.minor, sides.major, sides.release))
     return f"units {shown.requirements:04x} serial {serial} sides {letters}"
 
 
-def fields(shown):
+def fields(shown: Indication) -> str:
     """The words between the name of an indication and its user data, for those that come here."""
     if isinstance(shown, Connect):
         return " " + opened(shown, shown.wishes)
@@ -63,7 +69,7 @@ def fields(shown):
     return "".join(f" {getattr(shown, name)}" for name in ("number", "reason") if hasattr(shown, name))
 
 
-def named(shown):
+def named(shown: Indication) -> str:
     """The sizes that a CN or an AC names, if one of them is not 0."""
     sizes = getattr(shown, "sizes", Sizes())
     return "" if sizes == Sizes() else f" tsdu {sizes.from_asker} {sizes.from_answerer}"
@@ -78,25 +84,33 @@ NAMES = {
 }
 
 
-def words(shown):
+def words(shown: Indication) -> str:
     """The words of an indication in a transcript (docs/TOOL.md)."""
     text = NAMES.get(type(shown), type(shown).__name__) + fields(shown)
-    if not hasattr(shown, "user_data"):
+    user_data = getattr(shown, "user_data", None)
+    if user_data is None:
         return text
-    data = shown.user_data.hex() or "-"
+    data = user_data.hex() or "-"
     return f"{text} {data}" if isinstance(shown, Data) else f"{text} data {data}{named(shown)}"
 
 
+def log_to(name: str) -> ContextManager[TextIO]:
+    """The log that --log FILE names; - is standard output."""
+    if name == "-":
+        return contextlib.nullcontext(sys.stdout)
+    return open(name, "w")
+
+
 class Client:
-    def __init__(self, line, sizes, messages, log):
+    def __init__(self, line: aio.EndProtocol, sizes: Sizes, messages: int, log: TextIO) -> None:
         self.line, self.end, self.sizes, self.log = line, line.end, sizes, log
         self.messages, self.said = messages, 0
         self.released = self.lost = False
 
-    def tell(self, text):
+    def tell(self, text: str) -> None:
         print(f"left {text}", file=self.log)
 
-    def did(self, reference, verb, call, *arguments):
+    def did(self, reference: int, verb: str, call: Callable[..., None], *arguments: Any) -> bool:
         """Makes a call, writes it to the log, and answers whether it was done."""
         try:
             call(reference, *arguments)
@@ -106,7 +120,7 @@ class Client:
         self.tell(f"{reference} {verb} ok")
         return True
 
-    def go_on(self, reference):
+    def go_on(self, reference: int) -> None:
         """Sends the next message with a point after it, or gives the tokens after the last message."""
         if self.said == self.messages:
             self.did(reference, "give", self.end.give, TOKENS)
@@ -115,7 +129,7 @@ class Client:
         self.did(reference, "data", self.end.data, f"message {self.said}".encode())
         self.did(reference, "minor", self.end.minor)
 
-    async def run(self):
+    async def run(self) -> int:
         asked = Opening(requirements=UNITS, user_data=b"gateway", sizes=self.sizes)
         self.tell(f"connect ok {self.end.connect(asked)}")
         async for shown in self.line:
@@ -129,20 +143,28 @@ class Client:
         return 3 if self.lost else 0 if self.released else 2
 
 
-async def main():
-    options = argparse.ArgumentParser(description=__doc__.splitlines()[0])
-    options.add_argument("--port", type=int, default=4000)
-    options.add_argument("--classes", default="0")
-    options.add_argument("--tsdu", type=int, default=0)
-    options.add_argument("--wait", type=int, default=10)
-    options.add_argument("--messages", type=int, default=5)
-    options.add_argument("--log", type=argparse.FileType("w"), default=sys.stdout)
-    options = options.parse_args()
+async def run(options: argparse.Namespace, log: TextIO) -> int:
     classes = Classes(("0" in options.classes) | ("2" in options.classes) << 1)
     async with aio.dial("127.0.0.1", options.port, Terms(classes=classes)) as line:
-        client = Client(line, Sizes(options.tsdu, options.tsdu), options.messages, options.log)
+        client = Client(line, Sizes(options.tsdu, options.tsdu), options.messages, log)
         return await asyncio.wait_for(client.run(), options.wait)
 
 
+def main() -> int:
+    parser = argparse.ArgumentParser(description=(__doc__ or "").splitlines()[0])
+    parser.add_argument("--port", type=int, default=4000)
+    parser.add_argument("--classes", default="0")
+    parser.add_argument("--tsdu", type=int, default=0)
+    parser.add_argument("--wait", type=int, default=10)
+    parser.add_argument("--messages", type=int, default=5)
+    parser.add_argument("--log", default="-")
+    options = parser.parse_args()
+    try:
+        with log_to(options.log) as log:
+            return asyncio.run(run(options, log))
+    except KeyboardInterrupt:
+        return 130
+
+
 if __name__ == "__main__":
-    sys.exit(asyncio.run(main()))
+    sys.exit(main())

@@ -11,6 +11,11 @@ from osi_session import Classes, End, Terms
 # In seconds: nothing takes as long as this, even on a busy machine.
 LONGEST = 60
 
+if os.environ.get("OSI_SESSION_LOOP") == "uvloop":
+    import uvloop
+
+    asyncio.set_event_loop_policy(uvloop.EventLoopPolicy())
+
 
 class Case(unittest.IsolatedAsyncioTestCase):
     """Its event loop is not in debug mode, in which it takes many times as long."""

@@ -343,6 +343,65 @@ class Octets(Case):
         self.assertEqual(list(pair.called.feed_all(one + b"\x03")), [Data(1, b"one")] * 2)
         self.assertEqual(pair.called.kept(), 1)
 
+    def six(self, classes):
+        """Two ends, and six messages in one piece."""
+        pair = Pair.opened(classes)
+        for number in range(6):
+            pair.caller.data(1, b"%d" % number)
+        octets = pair.caller.outgoing()
+        pair.caller.taken(len(octets))
+        return pair, octets
+
+    def test_a_loop_that_is_left_loses_nothing(self):
+        """At each indication, by an exception and by break: the next loop goes on."""
+
+        def feed(end, piece, got, stops_at, raises):
+            for shown in end.feed_all(piece):
+                got.append(shown.user_data)
+                if len(got) == stops_at + 1:
+                    if raises:
+                        raise KeyError
+                    break
+
+        all_of_them = [b"%d" % number for number in range(6)]
+        for classes in (Classes.CLASS_0, Classes.CLASS_2):
+            for stops_at in range(6):
+                for raises in (True, False):
+                    pair, octets = self.six(classes)
+                    got, middle = [], len(octets) // 2 + 3
+                    for piece in (octets[:middle], octets[middle:], b""):
+                        try:
+                            feed(pair.called, piece, got, stops_at, raises)
+                        except KeyError:
+                            pass
+                    self.assertEqual(got, all_of_them)
+
+    def test_a_loop_may_be_left_each_time(self):
+        pair, octets = self.six(Classes.CLASS_2)
+        got = []
+        while len(got) < 6:
+            for shown in pair.called.feed_all(octets):
+                got.append(shown.user_data)
+                break
+            octets = b""
+        self.assertEqual(got, [b"%d" % number for number in range(6)])
+        self.assertEqual(list(pair.called.feed_all(b"")), [])
+
+    def test_what_a_loop_left_is_fed_first(self):
+        pair, octets = self.six(Classes.CLASS_0)
+        middle = len(octets) // 2
+        got, rest = [next(pair.called.feed_all(octets[:middle])).user_data], octets[middle:]
+        while True:
+            fed = pair.called.feed(rest)
+            rest = rest[fed.used :]
+            shown = pair.called.next_indication()
+            while shown is not None:
+                got.append(shown.user_data)
+                shown = pair.called.next_indication()
+            if not fed.waits and not rest:
+                break
+        self.assertEqual(got, [b"%d" % number for number in range(6)])
+
     def test_what_is_outgoing_stays_until_it_is_taken(self):
         pair = Pair.opened()
         pair.caller.data(1, b"one")

@@ -256,6 +256,54 @@ class Closing(Case):
         listener.close()
 
 
+class HalfClosing(Case):
+    """A peer closes its direction while much is unwritten, and then reads: the line writes all, and closes once."""
+
+    async def half_closed(self, octets):
+        raised, over = [], asyncio.Event()
+        asyncio.get_running_loop().set_exception_handler(lambda loop, context: raised.append(context))
+
+        async def send(line):
+            shown = await line.expect(Connect)
+            line.end.accept(shown.reference, shown.requirements)
+            for _ in range(octets // 1_000_000):
+                line.end.data(shown.reference, bytes(1_000_000))
+            await line.wait_closed()
+            over.set()
+
+        listener = await aio.serve(send, "127.0.0.1", 0)
+        reader, writer = await asyncio.open_connection("127.0.0.1", port_of(listener))
+        end = End.caller()
+        end.connect(Opening(Units.DUPLEX))
+        came = 0
+        for awaited in (None, Connected):
+            writer.write(end.outgoing())
+            end.taken(end.outgoing_length())
+            piece = await within(reader.read(100))
+            came += len(piece)
+            list(end.feed_all(piece))
+        writer.write_eof()
+        await asyncio.sleep(0.2)
+        piece = b"x"
+        while piece:
+            piece = await within(reader.read(1_000_000))
+            came += len(piece)
+        await within(over.wait())
+        writer.close()
+        await asyncio.sleep(0.05)
+        listener.close()
+        self.assertEqual(raised, [])
+        self.assertGreater(came, octets)
+
+    async def test_while_the_socket_is_full(self):
+        await self.half_closed(20_000_000)
+
+    async def test_again_and_again(self):
+        for octets in (1_000_000, 3_000_000, 7_000_000):
+            for _ in range(3):
+                await self.half_closed(octets)
+
+
 class Aborting(Case):
     async def outlives(self, handler):
         """Of two connections of a line the peer aborts one between a point and its confirmation: the other goes on."""

@@ -6,7 +6,8 @@
 //! ```
 //!
 //! It prints the port that it listens on (0 takes a free one). With `--peers` it ends after COUNT peers have come and gone.
-//! It gives up a peer that asks for no connection within `--wait` seconds, or that is silent for that long, and logs it.
+//! It gives up a peer that asks for no connection within `--wait` seconds, that is silent for that long, that has not ended a
+//! packet or data by then, or reads nothing; and if all places are taken, the least active one. It logs this.
 
 mod line;
 
@@ -16,8 +17,10 @@ use std::error::Error;
 use std::io::{self, ErrorKind};
 use std::net::{TcpListener, TcpStream};
 
-/// The most byte connections at a time. Others are accepted once one of these is gone.
-const MOST_PEERS: usize = 64;
+/// The most byte connections at a time. If another comes, the least active peer gives way.
+const MOST_PEERS: usize = 256;
+/// The most that are accepted in a turn.
+const MOST_TAKEN: usize = 16;
 
 /// A byte connection, and what it has received.
 struct Peer {
@@ -86,10 +89,18 @@ fn take(listener: &TcpListener, log: &Log) -> Result<Option<Peer>, Box<dyn Error
     }
 }
 
+/// If all places are taken, gives up the least active peer.
+fn make_place(peers: &mut Vec<Peer>) {
+    let least = (0..peers.len()).min_by_key(|&place| peers[place].line.activity());
+    if let (Some(place), MOST_PEERS..) = (least, peers.len()) {
+        peers.swap_remove(place).give_up("it gives way to another peer");
+    }
+}
+
 /// Waits until there is something to do, and reads and writes for all peers. Returns whether another peer can be accepted.
 fn turn(listener: &TcpListener, takes: bool, peers: &mut Vec<Peer>) -> io::Result<bool> {
     let mut waits: Vec<Waits> = peers.iter_mut().map(|peer| peer.line.waits()).collect();
-    if takes && peers.len() < MOST_PEERS {
+    if takes {
         waits.push(Waits::to_read(listener));
     }
     wait(&mut waits, peers.iter().map(|peer| peer.line.timeout()).min())?;
@@ -106,10 +117,14 @@ fn main() -> Result<(), Box<dyn Error>> {
     let log = line::log()?;
     let (mut peers, mut awaited) = (Vec::new(), option("--peers", &u64::MAX.to_string()).parse::<u64>()?);
     while awaited > 0 || !peers.is_empty() {
-        if turn(&listener, awaited > 0, &mut peers)? {
-            let taken = take(&listener, &log)?;
-            awaited -= u64::from(taken.is_some());
-            peers.extend(taken);
+        if !turn(&listener, awaited > 0, &mut peers)? {
+            continue;
+        }
+        for _ in 0..awaited.min(MOST_TAKEN as u64) {
+            let Some(taken) = take(&listener, &log)? else { break };
+            awaited -= 1;
+            make_place(&mut peers);
+            peers.push(taken);
         }
     }
     Ok(())

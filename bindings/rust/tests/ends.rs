@@ -4,6 +4,7 @@ use osi_session::{
     Classes, Counters, Direction, End, Ending, Error, Fault, Indication, Opening, Phase, Reference, Refusal,
     Side, Sides, Sizes, Spelling, Terms, Tokens, Trace, Units,
 };
+use std::panic::{catch_unwind, resume_unwind, AssertUnwindSafe};
 use std::thread;
 
 type Owned = Indication<Vec<u8>>;
@@ -459,6 +460,30 @@ fn user_data_is_lent_and_can_be_kept() {
     assert_eq!((of, kept.user_data()), (pair.of, Some(b"lent".as_slice())));
     assert_eq!(Indication::<Vec<u8>>::Lost.user_data(), None);
     assert!(Indication::<Vec<u8>>::Lost.is_over() && !kept.is_over());
+}
+
+/// Whatever indication the loop's body panics at, the rest of the piece is still there, and all indications come once and in order.
+#[test]
+fn a_body_that_panics_loses_nothing() {
+    let texts: Vec<String> = (0..6).map(|number| number.to_string()).collect();
+    for at in 0..=texts.len() {
+        let mut pair = Pair::opened(Classes::CLASS_2, &opening());
+        texts.iter().for_each(|text| pair.caller.data(pair.of, text.as_bytes()).unwrap());
+        let octets = pair.caller.outgoing().to_vec();
+        let (mut piece, mut said) = (octets.as_slice(), Vec::new());
+        let mut feed = |panics_at: usize| {
+            while let Some((_, indication)) = pair.called.feed_next(&mut piece) {
+                said.push(String::from_utf8(indication.user_data().unwrap().to_vec()).unwrap());
+                // (A panic without a message for the log of the tests.)
+                if said.len() == panics_at + 1 {
+                    resume_unwind(Box::new("the body panics"));
+                }
+            }
+        };
+        let has_panicked = catch_unwind(AssertUnwindSafe(|| feed(at))).is_err();
+        feed(usize::MAX - 1);
+        assert_eq!((has_panicked, said), (at < texts.len(), texts.clone()));
+    }
 }
 
 #[test]

@@ -2,6 +2,7 @@
 from __future__ import annotations
 
 import ctypes
+import importlib
 import os
 import shutil
 import subprocess
@@ -297,12 +298,24 @@ def _places() -> Iterator[str]:
     yield from _by_pkg_config()
 
 
+def native() -> Optional[Any]:
+    """The module in C, unless there is none for this Python or OSI_SESSION_CTYPES is set."""
+    if os.environ.get("OSI_SESSION_CTYPES"):
+        return None
+    try:
+        return importlib.import_module("._native", __package__)
+    except ImportError:
+        return None
+
+
 def load() -> ctypes.CDLL:
-    """The library, with its functions declared."""
+    """The library, with its functions declared. Beside the module in C, which lets no other thread run in a call, those over
+    ctypes let none run either."""
     tried = []
+    in_c = native()
     for place in _places():
         try:
-            library = ctypes.CDLL(place)
+            library = ctypes.CDLL(place) if in_c is None else ctypes.PyDLL(place)
         except OSError as error:
             tried.append(str(error))
             continue
@@ -315,6 +328,8 @@ def load() -> ctypes.CDLL:
             function = getattr(library, name)
             function.argtypes = takes
             function.restype = c_char_p
+        if in_c is not None:
+            in_c.bind({name: ctypes.cast(getattr(library, name), c_void_p).value for name in FUNCTIONS})
         return library
     raise LibraryNotFound(
         f"{NAME} is not found. Set OSI_SESSION_DIR to the folder that has it, or to the PREFIX of its"

@@ -25,6 +25,7 @@ from ._end import End
 from ._over import GivenUp, SessionOver, UnexpectedIndication
 from ._pending import Answers, Feed, Pending
 from ._sessions import CalledSession, CallingSession, Session
+from ._turns import Turns
 from ._values import Connect, Connected, Indication, Opening
 
 S = TypeVar("S", bound=Indication)
@@ -43,20 +44,6 @@ def _unwritten(transport: asyncio.Transport) -> int:
         return 0
 
 
-class _Waiter:
-    """A task that waits until a condition holds."""
-
-    __slots__ = ("holds", "future")
-
-    def __init__(self, holds: Callable[[], bool]) -> None:
-        self.holds = holds
-        self.future: Optional[asyncio.Future[None]] = None
-
-    def tell(self) -> None:
-        if self.future is not None and not self.future.done() and self.holds():
-            self.future.set_result(None)
-
-
 class EndProtocol(asyncio.Protocol):
     """An end on a byte connection of asyncio: a line.
 
@@ -72,6 +59,9 @@ class EndProtocol(asyncio.Protocol):
     it always reads on, because the peer's acknowledgements come in the same octets. Then, if ``most`` octets are pending,
     or ``most_unpaid`` that came while their connections gave no credit, it gives up the connection that has most of them
     (see ``give_up``). The others go on.
+
+    No peer delays those of other lines for long: in one turn of the event loop a line is fed for half a millisecond, and its
+    indications are fetched for half a millisecond, at most 64 of them. The rest comes in the next turns.
 
     The line closes the byte connection if the end has ended, and, unless ``stays`` is true, after its last connection.
     A line of ``serve`` stays open, because its peer may ask for more connections; so does one on which ``session`` was
@@ -102,13 +92,17 @@ class EndProtocol(asyncio.Protocol):
         self._left: Set[int] = set()
         self._cut: Set[int] = set()
         self._cut_octets = 0
-        # Waiting tasks, the oldest first; and how many of them wait for room, and for an indication.
-        self._waiters: Dict[_Waiter, None] = {}
-        self._draining = self._awaiting = self._turn = 0
+        # The waiting tasks, and the share of each turn of the event loop; how many tasks wait for room, and for an indication.
+        self._turns = Turns(self._begin_turn)
+        self._draining = self._awaiting = 0
         self._reading = True
-        self._paused = self._feeding = self._telling = self._was_live = False
-        # The progress of closing: asked for; the peer's or our direction is closed; the transport is gone.
+        self._paused = self._feeding = self._was_live = False
+        # Whether the rest of the octets is fed in the next turn.
+        self._is_behind = False
+        # The progress of closing: asked for; the peer's or our direction is closed; the transport is gone, the end has been
+        # told, and all indications have come.
         self._closing = self._came_to_end = self._half_closed = self._closed = self._aborted = False
+        self._is_broken = self._is_done = False
         self._lingering: Optional[asyncio.TimerHandle] = None
         self._took = 0
 
@@ -137,14 +131,14 @@ class EndProtocol(asyncio.Protocol):
             except SessionError as error:
                 if error.code is not Code.NEGOTIATING:
                     raise
-            turn = self._turn
-            await self.until(lambda: self._turn != turn)
+            happened = self._turns.happened
+            await self.until(lambda: self._turns.happened != happened)
 
     async def next_session(self) -> Optional[CalledSession]:
         """The next session that the peer asks for: accept or refuse it. None once the line is closed. Indications of
         connections without a session are dropped."""
         while True:
-            await self.until(lambda: bool(self._shown) or self.is_done)
+            await self._fetchable(self._has_shown)
             indication = self._fetch()
             if indication is None:
                 return None
@@ -187,8 +181,11 @@ class EndProtocol(asyncio.Protocol):
 
     async def next(self) -> Optional[Indication]:
         """The next indication; None once the line is closed and all have been fetched."""
-        await self.indication_or(lambda: bool(self._shown) or self.is_done)
+        await self.indication_or(self._has_shown)
         return self._fetch()
+
+    def _has_shown(self) -> bool:
+        return bool(self._shown) or self._is_done
 
     def _fetch(self) -> Optional[Indication]:
         if not self._shown:
@@ -243,11 +240,11 @@ class EndProtocol(asyncio.Protocol):
             self._open.discard(reference)
             self._show(GivenUp(reference))
         self._left.add(reference)
-        self._tell()
+        self._turns.tell()
 
     async def wait_closed(self) -> None:
-        """Waits until either side has closed the byte connection."""
-        await self.until(lambda: self._closed)
+        """Waits until either side has closed the byte connection, and all indications have come."""
+        await self.until(lambda: self._is_done)
 
     def close(self) -> None:
         """Closes the byte connection once everything is written, including what waits for the peer's credit. Over plain
@@ -268,6 +265,11 @@ class EndProtocol(asyncio.Protocol):
         """Information from the transport: ``peername``, ``sockname``, ``socket``, ``ssl_object``, ``peercert`` and so on,
         as asyncio's BaseTransport.get_extra_info. The default while there is no byte connection yet."""
         return default if self._transport is None else self._transport.get_extra_info(name, default)
+
+    @property
+    def holds_back(self) -> bool:
+        """Whether octets that came are not fed yet, because their indications are not fetched, or other lines have their turn."""
+        return not self._feed.is_empty
 
     # ---- what a subclass may override
 
@@ -302,26 +304,17 @@ class EndProtocol(asyncio.Protocol):
         if self._transport is not None and not self._transport.is_closing():
             # (a TLS transport in Python 3.9 and 3.10 doesn't know)
             self._transport.close()
-        if self.end.closed:
-            self._tell()
-            return
-        if not self._aborted:
+        if not (self._aborted or self.end.closed):
             self._note_loss()
-        self._pump()
-        if not self.end.closed:
-            self.end.broken()
-            self._feed.add(b"")
-            self._pump()
-        # A subclass that overrides indication_received has seen it by now.
-        self._cut = {reference for reference in self._cut if self._pending.has(reference)}
-        self._tell()
+        self._go_on()
 
     def pause_writing(self) -> None:
         self._paused = True
 
     def resume_writing(self) -> None:
         self._paused = False
-        self._go_on()
+        # Not at once: a transport of asyncio that is closed while it calls this closes twice.
+        asyncio.get_running_loop().call_soon(self._go_on)
 
     # ---- what serve and sessions call
 
@@ -332,7 +325,7 @@ class EndProtocol(asyncio.Protocol):
     @property
     def is_done(self) -> bool:
         """Whether no more indications can come."""
-        return self._closed
+        return self._is_done
 
     @property
     def is_shut(self) -> bool:
@@ -366,7 +359,7 @@ class EndProtocol(asyncio.Protocol):
         self._pending.fetched(indication)
         if indication.is_over:
             self._cut.discard(indication.reference)
-        if not self._reading or not self._feed.is_empty:
+        if not self._is_behind and not (self._reading and self._feed.is_empty):
             self._go_on()
 
     def end_alone(self, reference: int) -> None:
@@ -384,34 +377,36 @@ class EndProtocol(asyncio.Protocol):
     async def room(self, reference: int, or_else: Callable[[], bool]) -> None:
         """Waits until there is room for more of this connection, or until another condition holds."""
         await self._wait_for_room(
-            lambda: or_else() or (self.end.outgoing_length() <= _PIECE and self._unsent(reference) <= _PIECE)
+            lambda: or_else() or (self._outgoing() <= _PIECE and self._unsent(reference) <= _PIECE)
         )
 
     async def indication_or(self, holds: Callable[[], bool]) -> None:
-        """Waits until this holds because an indication came. Indications of other connections may come before it."""
-        if holds():
-            return
+        """Waits until this holds because an indication came, and until this line may have one fetched in this turn of the
+        event loop. Indications of other connections may come before it."""
+        await self._fetchable(holds, self._awaited)
+
+    async def _awaited(self, holds: Callable[[], bool]) -> None:
+        """Waits until this holds because an indication came."""
         self._awaiting += 1
         try:
-            if not self._reading or not self._feed.is_empty:
+            if not self._is_behind and not (self._reading and self._feed.is_empty):
                 self._go_on()
             await self.until(holds)
         finally:
             self._awaiting -= 1
 
+    async def _fetchable(self, holds: Callable[[], bool], wait: Optional[Callable[..., Awaitable[None]]] = None) -> None:
+        """Waits until this holds, and until an indication may be fetched in this turn of the event loop."""
+        while True:
+            if not holds():
+                await (wait or self.until)(holds)
+            if self._turns.takes(self._turns.fetches):
+                return
+            await self.until(lambda: self._turns.fetches.is_left)
+
     async def until(self, holds: Callable[[], bool]) -> None:
-        """Waits until this condition holds. It is tested whenever something happens. Of several tasks, the one that has
-        waited longest goes on first."""
-        if holds():
-            return
-        waiter = _Waiter(holds)
-        self._waiters[waiter] = None
-        try:
-            while not holds():
-                waiter.future = asyncio.get_running_loop().create_future()
-                await waiter.future
-        finally:
-            del self._waiters[waiter]
+        """Waits until this condition holds. It is tested whenever something happens."""
+        await self._turns.until(holds)
 
     # ---- waiting
 
@@ -426,75 +421,85 @@ class EndProtocol(asyncio.Protocol):
             self._draining -= 1
             self._go_on()
 
-    def _tell(self) -> None:
-        """Something has happened. Waiting tasks are woken once for everything that happens in a turn of the event loop."""
-        self._turn += 1
-        if self._waiters and not self._telling:
-            self._telling = True
-            asyncio.get_running_loop().call_soon(self._tell_now)
-
-    def _tell_now(self) -> None:
-        self._telling = False
-        for waiter in tuple(self._waiters):
-            waiter.tell()
+    def _begin_turn(self) -> None:
+        """Feeds what the last turn of the event loop has left."""
+        if self._is_behind:
+            self._go_on()
 
     # ---- octets
 
     def flush(self) -> None:
         """Writes what is outgoing, as long as the transport takes it. If nothing more can come, it closes."""
         self._write()
-        self._tell()
+        self._turns.tell()
 
     def _go_on(self) -> None:
         """Does everything that can be done now: feeds, writes or closes, and pauses or resumes reading."""
         self._pump()
+        if self._closed and not self._feeding:
+            self._break()
         self._write()
         self._read_or_wait()
-        self._tell()
+        self._turns.tell()
 
     def _write(self) -> None:
         transport = self._transport
         if transport is None or self._closed or self.end.closed:
             return
-        while not (self._paused or self._half_closed or transport.is_closing()):
+        goes_on = True
+        while goes_on and not (self._paused or self._half_closed or transport.is_closing()):
             octets = self.end.outgoing(_PIECE)
-            if not octets:
-                break
-            self.end.taken(len(octets))
-            self._answers.went(len(octets))
-            transport.write(octets)
+            if octets:
+                self.end.taken(len(octets))
+                self._answers.went(len(octets))
+                transport.write(octets)
+            goes_on = len(octets) == _PIECE
         self._close_if_done(transport)
 
     def _pump(self) -> None:
-        """Feeds the received octets, as long as there is room for the indications that they cause."""
+        """Feeds the received octets, as long as there is room for the indications that they cause, and as this line has a
+        share of this turn."""
         if self._feeding:
             return
-        self._feeding = True
+        self._feeding, self._is_behind = True, False
         try:
-            while not self.end.closed:
-                self._make_room()
-                indication = None if self._must_wait() else self._step()
-                if indication is None:
+            while self._may_feed():
+                if not self._turns.takes(self._turns.feeds):
+                    self._is_behind = True
                     break
-                self._note(indication)
-                self.indication_received(indication)
-        except SessionError as error:
-            # The user closed the end in the middle of a piece.
-            if error.code is not Code.SLOT_EMPTY:
+                indication = self._step()
+                if indication is not None:
+                    self._note(indication)
+                    self.indication_received(indication)
+        except Exception as error:
+            # The user closed the end in the middle of a piece; or else a subclass has failed, and nothing more is fed.
+            if not (isinstance(error, SessionError) and error.code is Code.SLOT_EMPTY):
+                self._feed.drop()
+                self.abort()
                 raise
         finally:
             self._feeding = False
 
+    def _may_feed(self) -> bool:
+        """Whether there are octets to feed, and room for what they cause."""
+        if self.end.closed or self._feed.is_empty:
+            return False
+        self._make_room()
+        return not self._must_wait()
+
     def _step(self) -> Optional[Indication]:
-        """Feeds up to the next indication; None if all received octets have been fed."""
+        """Feeds up to the next indication, or else some of the received octets."""
         end = self.end
+        if not self._feed.has_octets:
+            return self._feed.step()
         outgoing, backlog = end.outgoing_length(), end.backlog()
         unsent = [(of, end.unsent(of)) for of in self._pending.owing]
-        indication = self._feed.next()
+        indication = self._feed.step()
         if not end.closed:
             now = end.outgoing_length()
             # Octets that left the backlog are the users' own.
-            self._answers.came(now - outgoing - max(0, backlog - end.backlog()), now)
+            own = max(0, backlog - end.backlog()) if backlog > 0 else 0
+            self._answers.came(now - outgoing - own, now)
             for of, before in unsent:
                 if end.unsent(of) < before:
                     self._pending.paid(of)
@@ -506,6 +511,7 @@ class EndProtocol(asyncio.Protocol):
             self._open.discard(indication.reference)
         else:
             self._open.add(indication.reference)
+            self._was_live = True
 
     def _show(self, indication: Indication) -> None:
         """Keeps an indication until it is fetched."""
@@ -534,9 +540,13 @@ class EndProtocol(asyncio.Protocol):
             return True
         if self._waits_for_room():
             return False
-        if max(self._pending.octets, self.end.outgoing_length()) > self.most:
+        if self._pending.octets > self.most or self._outgoing() > self.most:
             return True
         return self._pending.is_full and (self._awaiting == 0 or self._pending.octets > self.most_ahead)
+
+    def _outgoing(self) -> int:
+        """How many octets wait for the transport. It has them all as long as it takes them."""
+        return self.end.outgoing_length() if self._paused or self._transport is None else 0
 
     def _make_room(self) -> None:
         """If too much is pending and the line has to read on, gives up the connections to blame."""
@@ -559,7 +569,10 @@ class EndProtocol(asyncio.Protocol):
         transport = self._transport
         if transport is None or self._closed or self._came_to_end or self.end.closed or transport.is_closing():
             return
-        reads = self._feed.is_empty and not self._must_wait()
+        self._read(transport, self._feed.is_empty and not self._must_wait())
+
+    def _read(self, transport: asyncio.Transport, reads: bool) -> None:
+        """From now on the transport is read, or is not."""
         if reads != self._reading:
             self._reading = reads
             with suppress(AttributeError):
@@ -567,9 +580,15 @@ class EndProtocol(asyncio.Protocol):
 
     # ---- closing
 
+    def _shut(self, transport: asyncio.Transport) -> None:
+        """Closes the transport. (A TLS transport in Python 3.9 and 3.10 closes when it has read what the peer answers.)"""
+        self._read(transport, True)
+        transport.close()
+
     def _unsent(self, reference: int) -> int:
         """How many octets of a connection wait for credit. After an abort nobody waits for it."""
-        return 0 if self.end.phase(reference) is Phase.ABORTING else self.end.unsent(reference)
+        unsent = self.end.unsent(reference)
+        return 0 if unsent > 0 and self.end.phase(reference) is Phase.ABORTING else unsent
 
     def _unsent_of_all(self) -> int:
         return sum(self._unsent(reference) for reference in self._open)
@@ -581,24 +600,41 @@ class EndProtocol(asyncio.Protocol):
             self._cut = {of for of in self._open if self.end.phase(of) not in (Phase.ABORTING, Phase.ENDED)}
             self._cut_octets = lost
 
+    def _break(self) -> None:
+        """Tells the end that the byte connection is gone, once everything that came before has been fed."""
+        try:
+            if not (self._is_broken or self._is_behind or self.end.closed):
+                self._is_broken = True
+                self.end.broken()
+                self._feed.add(b"")
+                self._pump()
+        finally:
+            if not self._is_behind:
+                # A subclass that overrides indication_received has seen it by now.
+                self._cut = {reference for reference in self._cut if self._pending.has(reference)}
+                self._is_done = True
+                self._turns.tell()
+
     def _all_sent(self) -> bool:
         """Whether everything that can still be written has been written."""
         return self.end.outgoing_length() == 0 and (self._came_to_end or self._unsent_of_all() == 0)
 
     def _is_over(self) -> bool:
         """Whether everything is written, and either the end has ended, or its last connection is gone and no other is awaited."""
-        is_live = self.end.live() > 0
-        self._was_live = self._was_live or is_live
-        is_over = self.end.ended() is not None or (self._was_live and not is_live and not self.stays)
+        is_over = self.end.ended() is not None
+        if not (is_over or self.stays):
+            is_live = self.end.live() > 0
+            self._was_live = self._was_live or is_live
+            is_over = self._was_live and not is_live
         return is_over and self.end.outgoing_length() == 0
 
     def _close_if_done(self, transport: asyncio.Transport) -> None:
-        """Closes the transport once everything is written and nothing is awaited."""
-        if transport.is_closing():
+        """Closes the transport once everything is fed that may be, everything is written, and nothing is awaited."""
+        if transport.is_closing() or self._is_behind:
             return
         if self._half_closed:
             if self._came_to_end or self.end.live() == 0:
-                transport.close()
+                self._shut(transport)
         elif self._is_over() or (self._closing and self._all_sent()):
             self._finish(transport)
 
@@ -608,7 +644,7 @@ class EndProtocol(asyncio.Protocol):
             # So the transport calls back when it has written them.
             transport.set_write_buffer_limits(0)
         elif self._came_to_end or self.end.live() == 0 or not transport.can_write_eof():
-            transport.close()
+            self._shut(transport)
         else:
             # (A close while the peer still writes would drop octets that it has not read.)
             self._half_closed = True

@@ -1,4 +1,4 @@
-"""What a line keeps: pending indications, and the octets that answer its peer."""
+"""What a line keeps: pending indications, octets that are not fed yet, and those that answer its peer."""
 from __future__ import annotations
 
 from collections import deque
@@ -13,6 +13,8 @@ MOST_OCTETS = 262_144
 """It is also full if its pending indications have this many octets."""
 _EACH = 512
 """How many octets an indication counts in addition to its user data."""
+_STEP_OCTETS = 16_384
+"""The most octets that are fed in one step, if they cause no indication."""
 
 
 def _weight(indication: Indication) -> int:
@@ -137,17 +139,27 @@ class Feed:
     def is_empty(self) -> bool:
         return self._current is None and not self._pieces
 
-    def add(self, piece: bytes) -> None:
-        self._pieces.append(piece)
+    @property
+    def has_octets(self) -> bool:
+        """Whether there is more than indications that may be pending in the end."""
+        return bool(self._pieces) or self._end.unfed() > 0
 
-    def next(self) -> Optional[Indication]:
-        """Feeds up to the next indication; None if everything has been fed."""
-        while True:
-            if self._current is None:
-                if not self._pieces:
-                    return None
-                self._current = iter(self._end.feed_all(self._pieces.popleft()))
-            indication = next(self._current, None)
-            if indication is not None:
-                return indication
+    def add(self, piece: bytes) -> None:
+        if len(piece) <= _STEP_OCTETS:
+            self._pieces.append(piece)
+        else:
+            self._pieces.extend(piece[at : at + _STEP_OCTETS] for at in range(0, len(piece), _STEP_OCTETS))
+
+    def drop(self) -> None:
+        """Drops them all."""
+        self._pieces.clear()
+        self._current = None
+
+    def step(self) -> Optional[Indication]:
+        """Feeds up to the next indication, or else some octets: None."""
+        if self._current is None:
+            self._current = iter(self._end.feed_all(self._pieces.popleft()))
+        indication = next(self._current, None)
+        if indication is None:
             self._current = None
+        return indication

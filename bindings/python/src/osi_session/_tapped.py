@@ -8,7 +8,7 @@ from ctypes import Structure, byref, c_size_t
 from typing import Any, ClassVar, Generic, Iterator, NoReturn, Type, TypeVar
 
 from ._codes import Code, SessionError, TapSide
-from ._end import _address, _octets
+from ._calls import address_of, octets_of
 from ._library import library
 
 T = TypeVar("T", bound="Tapped[Any]")
@@ -75,8 +75,8 @@ class Tapped(ABC, Generic[V]):
         """Feeds octets of a side, in the order in which they passed the tap, cut in any way, and returns an iterator
         over the verdicts that are certain by then. They are fed even if you don't iterate. SLOT_EMPTY, NO_MEMORY (the
         octets before have passed)."""
-        octets, used = _octets(piece), c_size_t()
-        self._check(self._call("feed", TapSide(side), _address(octets), len(octets), byref(used)))
+        octets, used = octets_of(piece), c_size_t()
+        self._check(self._call("feed", TapSide(side), address_of(octets), len(octets), byref(used)))
         return self.verdicts()
 
     @abstractmethod

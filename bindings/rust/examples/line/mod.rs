@@ -22,6 +22,8 @@ pub const MOST_WAITING: usize = 262_144;
 const MOST_OUTGOING: usize = 524_288;
 /// If a peer gives no credit for this many octets of answers, its connection is answered no more and given up.
 pub const MOST_UNSENT: usize = 16_384;
+/// The most octets that a turn reads: some 700 messages of one octet. So a peer that sends without a pause delays no other.
+const MOST_READ: usize = 8192;
 
 // ---- waiting for many sockets: the standard library has no call for this
 
@@ -153,7 +155,7 @@ fn words(indication: &Indication<Vec<u8>>) -> String {
 
 // ---- an end on its socket
 
-/// An end, its socket, and how long its user waits for the peer.
+/// An end, its socket, and how long its user waits for the peer: from each of these times.
 pub struct Line {
     pub end: End,
     stream: TcpStream,
@@ -161,7 +163,14 @@ pub struct Line {
     log: Option<Log>,
     patience: Duration,
     began: Instant,
+    /// Octets were last read or written.
     moved: Instant,
+    /// No packet or data was incomplete, or one was completed.
+    whole: Instant,
+    /// Octets were last written, or none waited for the socket.
+    written: Instant,
+    /// The user last received an indication.
+    shown_at: Instant,
     was_heard: bool,
     was_shown: bool,
 }
@@ -172,8 +181,21 @@ impl Line {
         stream.set_nodelay(true)?;
         stream.set_nonblocking(true)?;
         let patience = Duration::from_secs(option("--wait", "10").parse().unwrap_or(10));
-        let began = Instant::now();
-        Ok(Line { end, stream, side, log, patience, began, moved: began, was_heard: false, was_shown: false })
+        let now = Instant::now();
+        Ok(Line {
+            end,
+            stream,
+            side,
+            log,
+            patience,
+            began: now,
+            moved: now,
+            whole: now,
+            written: now,
+            shown_at: now,
+            was_heard: false,
+            was_shown: false,
+        })
     }
 
     pub fn say(&self, text: impl Display) {
@@ -216,7 +238,8 @@ impl Line {
 
     /// When to give up the peer, unless something happens before.
     fn deadline(&self) -> Instant {
-        (if self.was_shown { self.moved } else { self.began }) + self.patience
+        let heard = if self.was_shown { self.moved } else { self.began };
+        heard.min(self.whole).min(self.written) + self.patience
     }
 
     /// How long to wait for its socket.
@@ -229,6 +252,7 @@ impl Line {
         match self.stream.write(self.end.outgoing()) {
             Ok(count) => {
                 self.moved = Instant::now();
+                self.written = self.moved;
                 self.end.taken(count).map_err(io::Error::other)
             }
             Err(error) if matches!(error.kind(), ErrorKind::WouldBlock | ErrorKind::Interrupted) => Ok(()),
@@ -248,9 +272,38 @@ impl Line {
         }
     }
 
+    /// Notes whether a packet or data is incomplete, and whether octets wait for the socket.
+    fn note(&mut self) {
+        let now = Instant::now();
+        if self.end.kept() == 0 {
+            self.whole = now;
+        }
+        if !self.end.wants_write() {
+            self.written = now;
+        }
+    }
+
+    /// What the peer has not done in time.
+    fn overdue(&self) -> &'static str {
+        let now = Instant::now();
+        if now >= self.whole + self.patience {
+            "a packet or data is not ended"
+        } else if now >= self.written + self.patience {
+            "the peer does not read"
+        } else if self.was_heard && !self.was_shown {
+            "nothing was shown"
+        } else {
+            "the peer is silent"
+        }
+    }
+
+    /// How active the peer is: a peer with less of it has no session, or has sent nothing whole for longer.
+    pub fn activity(&self) -> (bool, Instant) {
+        (self.was_shown, self.shown_at)
+    }
+
     /// Logs why the peer is given up, and the phase of each connection that had no indication yet.
-    fn give_up(&mut self) {
-        let why = if self.was_heard && !self.was_shown { "nothing was shown" } else { "the peer is silent" };
+    fn give_up(&mut self, why: &str) {
         self.say(format_args!("gives up: {why}"));
         for of in (1..=u16::MAX).map(Reference::new).take_while(|_| !self.was_shown) {
             let Some(phase) = self.end.phase(of) else { return };
@@ -273,6 +326,8 @@ pub trait User {
             let Some((of, indication)) = line.end.feed_next(&mut piece) else { return };
             let indication = indication.into_owned();
             line.was_shown = true;
+            line.shown_at = Instant::now();
+            line.whole = line.shown_at;
             line.say(format_args!("{of} {}", words(&indication)));
             self.shown(of, indication);
         }
@@ -280,7 +335,7 @@ pub trait User {
 
     /// Reads and writes once. Returns whether the byte connection goes on.
     fn carry(&mut self, found: c_short) -> io::Result<bool> {
-        let mut piece = [0; 65536];
+        let mut piece = [0; MOST_READ];
         let came = if found & !POLLOUT != 0 { self.line().receive(&mut piece)? } else { Some(0) };
         let Some(count) = came else { return Ok(false) };
         self.line().was_heard |= count > 0;
@@ -303,14 +358,28 @@ pub trait User {
             false
         });
         let line = self.line();
+        line.note();
         if goes_on && line.timeout() > Duration::ZERO {
             return true;
         }
+        let why = line.overdue();
         if goes_on {
-            line.give_up();
+            self.give_up(why);
+        } else {
+            self.lose();
         }
-        line.end.broken();
-        self.feed(&[]);
         false
+    }
+
+    /// Gives the peer up, and logs why. Then drop the line.
+    fn give_up(&mut self, why: &str) {
+        self.line().give_up(why);
+        self.lose();
+    }
+
+    /// The byte connection is over: tells the user of each connection that isn't.
+    fn lose(&mut self) {
+        self.line().end.broken();
+        self.feed(&[]);
     }
 }
