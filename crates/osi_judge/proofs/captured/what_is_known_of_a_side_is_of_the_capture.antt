@@ -1,24 +1,23 @@
--- How many TSDUs a side told, and how its session stands, is so in the capture; and a side without a reference told none.
+-- How many TSDUs a side told, and how its session stands, is so in the capture.
 -- For the crate that writes what a judge found.
 use Rattle.std.proofs.Common.{arith}
-use Rattle.osi_judge.proofs.Vocabulary.{◌≡◌, ◌∙◌, refl, subst, ℕ, ◌+◌, Bool, if◌then◌else◌, List, [], ◌∷◌, ◌++◌, ◌↔◌, inl, inr, length}
-use Rattle.osi_judge.proofs.Vocabulary.{take, Option, Some, None, Result, one_cut, Value, TpduFault, Seen, Direction, Finding, Kept, Broke}
-use Rattle.osi_judge.proofs.Vocabulary.{TooMany, Stands, NoOpening, OtherClass, Capture, other, stream, Told, remarks, Explains}
+use Rattle.osi_judge.proofs.Vocabulary.{◌≡◌, ◌∙◌, refl, subst, ℕ, ◌+◌, if◌then◌else◌, List, [], ◌∷◌, ◌++◌, ◌↔◌, inl, inr, length}
+use Rattle.osi_judge.proofs.Vocabulary.{take, Option, Some, None, Seen, Direction, Finding, Kept, Broke}
+use Rattle.osi_judge.proofs.Vocabulary.{TooMany, Stands, Capture, other, Told, remarks, Explains}
 use Rattle.osi_judge.proofs.Vocabulary.{IsExplained, foremost, Watched, AreAll, Keeps, BrokeBy, LeftBy, WatchesBy, Watches, up_to, kept}
-use Rattle.osi_judge.proofs.Vocabulary.{AreKeptIn, HasRoomIn, IsRuledIn, IsKeptStanding, StandsFor, StandsBehind, Ever, Handshake}
-use Rattle.osi_judge.proofs.Vocabulary.{packet_length, Move, refuses, ignores, stops, asking_step, answering_step, has_asked, refused_step}
-use Rattle.osi_judge.proofs.Vocabulary.{step_of, given_by, reference_in, Stage, opening, refused, stopped, moved, stage_behind, Sent}
-use Rattle.osi_judge.proofs.Vocabulary.{brought, sent_by, sent_from, ArePacketsOf, IsSent, begin_of, heard, told, IsFoundIn, IsStoppedIn}
+use Rattle.osi_judge.proofs.Vocabulary.{AreKeptIn, HasRoomIn, IsRuledIn, IsKeptStanding, StandsFor, StandsBehind, Ever}
+use Rattle.osi_judge.proofs.Vocabulary.{stops}
+use Rattle.osi_judge.proofs.Vocabulary.{Sent}
+use Rattle.osi_judge.proofs.Vocabulary.{ArePacketsOf, begin_of, heard, told, IsFoundIn, IsStoppedIn}
 use Rattle.osi_judge.proofs.Vocabulary.{IsReadIn, IsReferenceIn, IsPlaceIn, IsCountIn, StandIn, IsStandingIn, IsFirstIn, Tapped, reading_of}
 use Rattle.osi_judge.proofs.Vocabulary.{stopped_of, Follows, Judged, half_of, Taps, FirstIs}
 use Rattle.osi_judge.specs.declared.directions.Direction.TheVariants as side
 use Rattle.osi_judge.specs.declared.findings.Finding.TheVariants.{Left}
-use Rattle.osi_judge.specs.Transport.{opens}
 use Rattle.osi_judge.proofs.captured.what_was_found_of_a_capture.{cut_as, packets_of, is_sent, is_read, is_given, is_stopped, is_found}
 use Rattle.osi_judge.proofs.captured.what_was_found_of_a_capture.{is_placed}
 use Rattle.osi_judge.proofs.captured.whether_the_sessions_became_too_many.{has_room}
 use Rattle.osi_judge.proofs.captured.which_side_broke_the_protocol_first.{first_told}
-use Rattle.osi_judge.proofs.captured.what_is_told_beside_is_of_the_capture.{count_kept, count_told, opening_given}
+use Rattle.osi_judge.proofs.captured.what_is_told_beside_is_of_the_capture.{count_kept, count_told}
 use Rattle.osi_judge.proofs.outlined.a_rule_of_outlines_is_one_of_tsdus.{all_of_tsdus, explained_of_outlines, rule_of_tsdus}
 use Rattle.osi_judge.proofs.outlined.a_rule_of_outlines_is_one_of_tsdus.{stands_of_outlines}
 use Rattle.osi_judge.proofs.outlined.a_rule_of_outlines_is_one_of_tsdus.{kept_of_tsdus}
@@ -212,67 +211,6 @@ pub known_in : (d : Direction) (c : Capture) (j : Judged) → Taps j c → Known
 known_in d c j h = search (arith, is_read, is_given, is_stopped, is_found, has_room, is_counted, count_kept, is_placed, has_rule)
 
 -- ---- a side without a reference
-
--- no TSDU follows such a packet
-abbrev IsOver : Stage → Type 0
-IsOver (refused at) = Unit {0}
-IsOver (stopped stop at) = Unit {0}
-IsOver s = ⊥
-
-abbrev IsLast : Move → Type 0
-IsLast refuses = Unit {0}
-IsLast ignores = Unit {0}
-IsLast (stops stop) = Unit {0}
-IsLast m = ⊥
-
-abbrev Ends : Move → Type 0
-Ends refuses = Unit {0}
-Ends (stops stop) = Unit {0}
-Ends m = ⊥
-
-opens_or_ends : (b : Bool) (source : ℕ) → given_by (if b then opens source else stops OtherClass) ≡ None
-    → Ends (if b then opens source else stops OtherClass)
-opens_or_ends b source h = grind arith
-
-asking_ends : (v : Value) → given_by (asking_step v) ≡ None → Ends (asking_step v)
-asking_ends v h = grind arith
-
-answered_ends : (h : Handshake) (v : Value) → Ends (if has_asked h then answering_step v else stops NoOpening)
-answered_ends h v = grind arith
-
-nameless_ends : (d : Direction) (h : Handshake) (r : Result (Option Value) TpduFault) → given_by (step_of d opening h r) ≡ None
-    → Ends (step_of d opening h r)
-nameless_ends d h h2 n = grind (arith, asking_ends, opens_or_ends, answered_ends)
-
-refused_last : (h : Handshake) (v : Value) → IsLast (refused_step h v)
-refused_last h v = grind arith
-
-step_last : (d : Direction) (place : ℕ) (h : Handshake) (r : Result (Option Value) TpduFault) → IsLast (step_of d (refused place) h r)
-step_last d place h h2 = grind (arith, refused_last)
-
-brings_none : (s : Stage) (at : ℕ) (u : List ℕ) (m : Move) → IsLast m → brought s at u m ≡ []
-brings_none s at u m h = grind arith
-
-over_sends : (d : Direction) (h : Handshake) (s : Stage) (at : ℕ) (u : List ℕ) → IsOver s
-    → (sent_by d h s at u ≡ []) × IsOver (stage_behind d h s at u)
-over_sends d h s at u o = grind (arith, step_last, brings_none)
-
-over_is_silent : (d : Direction) (met : ℕ → Handshake) (s : Stage) (at : ℕ) (us : List (List ℕ)) → IsOver s → sent_from d met s at us ≡ []
-over_is_silent d met s at [] o = refl
-over_is_silent d met s at (u ∷ us) o =
-    let h = over_sends d (met at) s at u o in
-    grind (arith, over_is_silent d met (stage_behind d (met at) s at u) (at + packet_length u) us h.1)
-
-ends_is_over : (s : Stage) (at : ℕ) (m : Move) → Ends m → IsOver (moved s at m)
-ends_is_over s at m h = grind arith
-
-nameless_sends : (d : Direction) (met : ℕ → Handshake) (us : List (List ℕ)) → reference_in d us ≡ None → sent_from d met opening 0 us ≡ []
-nameless_sends d met h h2 = grind (arith, nameless_ends, opening_given, brings_none, over_is_silent, ends_is_over)
-
--- it sent no TSDU
-pub nameless_said_nothing : (d : Direction) (c : Capture) (mine : List Sent) → IsSent d c mine → IsReferenceIn d c None → mine ≡ []
-nameless_said_nothing d c mine (units, others, (ending, cut), are_others, sent) g =
-    grind (arith, nameless_sends, one_cut (stream d c) units g.units ending g.ending cut g.cut)
 
 -- the side that broke the protocol first
 pub is_first_in : (first : Option Direction) (j : Judged) (c : Capture) → Taps j c → FirstIs first j c → IsFirstIn c first
