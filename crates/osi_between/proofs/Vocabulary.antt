@@ -33,8 +33,8 @@ pub use Rattle.osi_class.proofs.between.what_was_handed_in_comes_out.{nothing_be
 pub use Rattle.osi_class.proofs.bounds.every_link_keeps_its_bounds.{move_sound}
 pub use Rattle.osi_class.proofs.giving.a_link_gives_finitely_many_units.{drained_ends, drained_leaves, drained_moves}
 pub use Rattle.osi_class.proofs.giving.what_is_given_can_be_written.{in_range, stays_octets, unit_fits, unit_length}
-pub use Rattle.osi_class.specs.Between.{AreOfClass, Comes, HasWholeTsdus, IsShortTsdu, LeftMoves, LinkPair, TakesOldest, Turn, TurnsAlong, at_left}
-pub use Rattle.osi_class.specs.Between.{given_by, left_in, opened_pair, opposite, parts_under_way, right_out, swapped, under_way}
+pub use Rattle.osi_class.specs.Between.{AreOfClass, Comes, HasWholeTsdus, IsShortTsdu, LeftMoves, LinkPair, TakesOldest, Turn, TurnsAlong}
+pub use Rattle.osi_class.specs.Between.{at_left, given_by, left_in, opened_pair, opposite, parts_under_way, right_out, swapped, under_way}
 pub use Rattle.osi_class.specs.Between.{under_way_before}
 pub use Rattle.osi_class.specs.Ends.{fresh_ends}
 pub use Rattle.osi_class.specs.Giving.{all_given}
@@ -88,9 +88,9 @@ pub use Rattle.osi_between.specs.Joined.{ActsFor, AreJoined, Did, HasPlaces, IsE
 pub use Rattle.osi_between.specs.Journey.{IsOpenAt, May, MayAll, Move, StayBetween, breaks, carries, closes, connects, ended_behind}
 pub use Rattle.osi_between.specs.Journey.{ended_by_all, hands_in, moved, takes, tells}
 pub use Rattle.osi_between.specs.Linked.{AreLinked, TakesFor, WasFed, with_events, with_state}
-pub use Rattle.osi_between.specs.Meeting.{AreLast, Changes, IsAt, Meeting, Moves, Stands, addressed, answers_of, back, farewell, here, leaving}
-pub use Rattle.osi_between.specs.Meeting.{left_both, left_here, left_there, messages_back, messages_out, mirror, out, parted, talking}
-pub use Rattle.osi_between.specs.Meeting.{there, told_at, told_open, waiting_here, waiting_there}
+pub use Rattle.osi_between.specs.Meeting.{AreLast, Changes, IsAt, Meeting, Moves, Stands, addressed, answers_of, back, farewell, here}
+pub use Rattle.osi_between.specs.Meeting.{leaving, left_both, left_here, left_there, messages_back, messages_out, mirror, out, parted}
+pub use Rattle.osi_between.specs.Meeting.{talking, there, told_at, told_open, waiting_here, waiting_there}
 pub use Rattle.osi_between.specs.Messages.{AreLike, MayLackABeginning, Message, agree, ask, begun_at, bye, deny, first_led_by, led_by}
 pub use Rattle.osi_between.specs.Messages.{message, messages_after, messages_to, over, parting, uncut_units, unsent_at}
 pub use Rattle.osi_between.specs.OpenLinks.{AgreeIn, AreOpen, IsSettled, IsWell, LeftTakes, Passes, after_send, after_take, links}

@@ -7,7 +7,8 @@ use Rattle.osi_between.proofs.Vocabulary.{parts_under_way, under_way, under_way_
 use Rattle.osi_between.proofs.Vocabulary.{unit_of, with_tsdu, zero_standing, tsdus_after, uncut, drained_leaves, Happening, tsdu, closed}
 use Rattle.osi_between.proofs.Vocabulary.{pumped, handed_out, Meeting, talking, left_here, left_there, left_both, waiting_there, addressed}
 use Rattle.osi_between.proofs.Vocabulary.{leaving, told_open, messages_out, Message, message, bye, over, parting, messages_after}
-use Rattle.osi_between.proofs.Vocabulary.{uncut_units, AreLast, HasWholeTsdus, append_cancel_left, AreOpen, links, LeftTakes, after_take, after_send, Bool, Passes, Option}
+use Rattle.osi_between.proofs.Vocabulary.{uncut_units, AreOpen, links, LeftTakes, after_take, after_send, Bool, Passes, Option}
+use Rattle.osi_between.proofs.Vocabulary.{AreLast, HasWholeTsdus, append_cancel_left}
 use Rattle.osi_between.proofs.unit.units_are_read_as_messages.{tsdu_messages, messages_behind, messages_front, messages_part}
 use Rattle.osi_between.proofs.unit.units_are_read_as_messages.{begun_after, begun_last, lacks_begun}
 use Rattle.osi_between.proofs.link.a_call_is_turns_of_two_links.{turned_any, turned_any_back, turned_take, turned_send, Turned}

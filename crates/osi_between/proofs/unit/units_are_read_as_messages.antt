@@ -2,8 +2,8 @@
 -- For units, connections of class 2 and the invariant.
 use Rattle.osi_between.proofs.Vocabulary.{◌≡◌, ℕ, true, false, List, [], ◌∷◌, ◌++◌, map, refl, ap, Value, data0, data2, acknowledge}
 use Rattle.osi_between.proofs.Vocabulary.{parts_under_way, Given, part0, part2, ack, tsdus_after, uncut, addressed, Message, message}
-use Rattle.osi_between.proofs.Vocabulary.{messages_after, uncut_units, led_by, first_led_by, MayLackABeginning, append_assoc, append-nil, ◌∙◌}
-use Rattle.osi_between.proofs.Vocabulary.{sym, error, unit_of, disconnect, zero, suc}
+use Rattle.osi_between.proofs.Vocabulary.{messages_after, uncut_units, led_by, first_led_by, MayLackABeginning, append_assoc}
+use Rattle.osi_between.proofs.Vocabulary.{append-nil, ◌∙◌, sym, error, unit_of, disconnect, zero, suc}
 
 behind_one : (m : Message) (xs ys : List Message) → xs ≡ ys → m ∷ xs ≡ m ∷ ys
 behind_one m xs ys e = ap (λ (l : List Message). m ∷ l) e
@@ -57,8 +57,10 @@ messages_behind us begun vs xs same =
 begun_front : (us : List Value) (b c : List ℕ) → begun_after (b ++ c) us ≡ [] → begun_after c us ≡ []
 begun_front [] [] c e = e
 begun_front [] (x ∷ b) c e = cc
-begun_front (data0 false octets ∷ us) b c e = begun_front us b (c ++ octets) (ap (λ (d : List ℕ). begun_after d us) (sym (append_assoc b c octets)) ∙ e)
-begun_front (data2 destination number false octets ∷ us) b c e = begun_front us b (c ++ octets) (ap (λ (d : List ℕ). begun_after d us) (sym (append_assoc b c octets)) ∙ e)
+begun_front (data0 false octets ∷ us) b c e =
+    begun_front us b (c ++ octets) (ap (λ (d : List ℕ). begun_after d us) (sym (append_assoc b c octets)) ∙ e)
+begun_front (data2 destination number false octets ∷ us) b c e =
+    begun_front us b (c ++ octets) (ap (λ (d : List ℕ). begun_after d us) (sym (append_assoc b c octets)) ∙ e)
 begun_front (acknowledge credit destination number ∷ us) b c e = begun_front us b c e
 begun_front (error destination cause ∷ us) b c e = begun_front us b c e
 begun_front (u ∷ us) b c e = e
@@ -73,7 +75,8 @@ begun_part (u ∷ us) vs b = begun_part us vs []
 
 pub begun_last : (us vs : List Value) (b : List ℕ) → begun_after b (us ++ vs) ≡ [] → begun_after [] vs ≡ []
 begun_last us vs b e =
-    begun_front vs (begun_after b us) [] (ap (λ (c : List ℕ). begun_after c vs) (append-nil (begun_after b us)) ∙ sym (begun_part us vs b) ∙ e)
+    begun_front vs (begun_after b us) []
+    (ap (λ (c : List ℕ). begun_after c vs) (append-nil (begun_after b us)) ∙ sym (begun_part us vs b) ∙ e)
 
 -- ---- what was begun is dropped
 

@@ -2,8 +2,8 @@
 -- For connections of class 2, class 0 and the invariant.
 use Rattle.osi_between.proofs.Vocabulary.{◌≡◌, ℕ, Bool, true, List, [], ◌∷◌, map, take, Option, Some, Ok, arith, AllByRecursion}
 use Rattle.osi_between.proofs.Vocabulary.{Standing, Given, taken, unit_of, drained_leaves, pumped, handed_out, Connection, linked, closing}
-use Rattle.osi_between.proofs.Vocabulary.{Message, message, messages_after, begun_at, AreLike, sym, ◌∙◌, Progress, in_use, shutting, may_arrive}
-use Rattle.osi_between.proofs.Vocabulary.{behind_arrivals, behind_puts, Brings}
+use Rattle.osi_between.proofs.Vocabulary.{Message, message, messages_after, begun_at, AreLike, Progress, in_use, shutting, may_arrive}
+use Rattle.osi_between.proofs.Vocabulary.{behind_arrivals, behind_puts, Brings, sym, ◌∙◌}
 use Rattle.osi_between.proofs.unit.units_are_read_as_messages.{lacks_one, led_none}
 
 pub same_like : (o : Option Connection) (some others : List Message) → some ≡ others → AreLike o some others

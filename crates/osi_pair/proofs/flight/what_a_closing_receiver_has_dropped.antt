@@ -2,8 +2,8 @@
 -- For what is in flight, calls, breaks and ends and packets.
 use Rattle.osi_between.specs.Messages as carrier
 use Rattle.osi_pair.proofs.Vocabulary.{◌≡◌, ℕ, Bool, true, false, List, [], ◌∷◌, ◌++◌, length, take, Some, refl, sym, ap, subst, ◌∙◌}
-use Rattle.osi_pair.proofs.Vocabulary.{take-append_seam, Place, was_given, closing, connection_in, progress_of, AreLike, first_led_by, led_by}
-use Rattle.osi_pair.proofs.Vocabulary.{led_none, led_twice, Progress, shutting, AreAlike, MayLackABeginning}
+use Rattle.osi_pair.proofs.Vocabulary.{take-append_seam, Place, was_given, closing, connection_in, progress_of, AreLike, first_led_by}
+use Rattle.osi_pair.proofs.Vocabulary.{led_by, led_none, led_twice, Progress, shutting, AreAlike, MayLackABeginning}
 use Rattle.osi_pair.proofs.flight.what_may_arrive_row_by_row.{Row, still, ignores, before, after}
 
 abbrev pub Sent : Type 0

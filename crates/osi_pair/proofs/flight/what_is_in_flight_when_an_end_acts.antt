@@ -163,7 +163,8 @@ out_cuts o p c d H x ms puts old new stays gone put w takes which before after s
     let k = length stays in
     let first : o ≡ None → AreAlike (progress_of p) (map word_in (take k w.words)) stays =
     λ e. subst (λ (l : Sent). AreAlike (progress_of p) l stays) (take-map word_in k w.words)
-    (alike_take (progress_of p) (map word_in w.words) stays gone (subst (AreAlike (progress_of p) (map word_in w.words)) before (w.alike e))) in
+    (alike_take (progress_of p) (map word_in w.words) stays gone
+    (subst (AreAlike (progress_of p) (map word_in w.words)) before (w.alike e))) in
     elim which [
       | inl leave ↦ subst (λ (l : List Message). Left o (progress_of p) d H x ms l new) (sym leave.is)
           (leave_at o p c d H x ms leave.m k old new stays put w leave.leaves first after (sym (ap (map message_in) leave.is) ∙ same))
