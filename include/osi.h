@@ -245,7 +245,7 @@ typedef struct osi_indication {
 /* ---- making and freeing ---------------------------------------------------------------------- */
 
 /* Makes the calling end of a byte connection, or the called one. It has nothing to send yet.
- * OSI_OK, OSI_BAD_ARGUMENT (terms), OSI_IN_USE, OSI_NO_MEMORY. */
+ * OSI_OK, or the first that applies of OSI_BAD_ARGUMENT (terms), OSI_IN_USE and OSI_NO_MEMORY. */
 uint32_t osi_caller(osi_end *end, const osi_terms *terms) OSI_LOOK;
 uint32_t osi_called(osi_end *end, const osi_terms *terms) OSI_LOOK;
 
@@ -504,8 +504,8 @@ uint32_t osi_addresses(osi_end *end, uint16_t reference, osi_addressing *shown);
 
 /* Begins a trace in both directions: of the octets that osi_feed uses, and of those that osi_taken says
  * are sent. It ends an earlier trace. An end begins without one. Call it right after osi_caller or
- * osi_called: the first octet that a trace takes has to begin a packet. OSI_OK, OSI_BAD_ARGUMENT (none of
- * the three), OSI_SLOT_EMPTY.
+ * osi_called: the first octet that a trace takes has to begin a packet. OSI_OK, or the first that applies
+ * of OSI_BAD_ARGUMENT (none of the three) and OSI_SLOT_EMPTY.
  *
  * A trace never changes what the end does, and its memory is bounded: in each direction it keeps a packet
  * and TSDUs that are not whole yet (as osi_kept, but of at most 64 DST-REFs), and at most 1,048,576 octets
@@ -554,7 +554,8 @@ static inline void osi_trace_each(osi_end *end, osi_on_line *on_line, void *cont
     }
 }
 
-/* What the trace of one direction has counted; once it has stopped, up to then. */
+/* What the trace of one direction has counted; once it has stopped, up to then. Of the piece in which it stopped
+ * everything is counted, or nothing if an allocation failed. */
 typedef struct osi_tally {
     uint64_t octets;        /* octets */
     uint64_t packets;       /* packets (RFC 1006 section 6) */

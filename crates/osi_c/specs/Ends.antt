@@ -51,7 +51,7 @@ local_of c = c.stack.end.carrier.local
 
 abbrev pub Makes : Bool → OsiTerms → Option Made → Option Contents → Option Contents → Type 0
 Makes is_caller terms (Some Begun) None (Some new) =
-    SaysTerms terms (local_of new) × (new ≡ begun is_caller (local_of new) new.traces) × IsUntraced new.traces
+    IsTerms terms × SaysTerms terms (local_of new) × (new ≡ begun is_caller (local_of new) new.traces) × IsUntraced new.traces
 Makes is_caller terms (Some Unreadable) old new = (IsTerms terms → ⊥) × (new ≡ old)
 Makes is_caller terms (Some NoMemory) None new = IsTerms terms × (new ≡ None)
 Makes is_caller terms (Some InUse) (Some old) new = IsTerms terms × (new ≡ Some old)

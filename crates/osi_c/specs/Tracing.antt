@@ -22,7 +22,7 @@ BeginsBoth (Some kind) t = IsNew kind t.received × IsNew kind t.sent × (t.line
 abbrev pub Switches : ℕ → Option (Answer CallError) → Option Contents → Option Contents → Type 0
 Switches what (Some Done) (Some old) (Some new) = BeginsBoth (kind_of what) new.traces × (new ≡ with_traces old new.traces)
 Switches what (Some BadArgument) old new = (kind_of what ≡ None) × (new ≡ old)
-Switches what (Some Closed) None new = new ≡ None
+Switches what (Some Closed) None new = (kind_of what ≡ None → ⊥) × (new ≡ None)
 Switches what answer old new = ⊥
 
 -- the trace of a direction, 0 for what was received and 1 for what was sent; and the other one

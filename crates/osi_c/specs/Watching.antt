@@ -89,7 +89,7 @@ IsTextOf w text = (capture : Capture) → Knows w.judge capture → (status : �
 
 abbrev pub Writes : Option Feeding → Option Watch → Option Watch → Type 0
 Writes (Some Fed) (Some old) (Some new) = IsTextOf old new.text.items × (new ≡ record old { text = new.text })
-Writes (Some NoMemory) old new = new ≡ old
+Writes (Some NoMemory) (Some old) new = new ≡ Some old
 Writes (Some NoJudge) None new = new ≡ None
 Writes answer old new = ⊥
 

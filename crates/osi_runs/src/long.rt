@@ -1,8 +1,8 @@
 //! Scripts and transcripts with abbreviations.
 //!
 //! The word `41*10240` means the two digits this many times, and `0100+41*10240` means the same after others. A line `3
-//! times A | B` means the lines `A` and `B`, three times. Comments are not expanded. So a small file can ask for the
-//! greatest lengths.
+//! times A | B` means the lines `A` and `B`, three times; a word `@` in them is the number of the turn, from 1. Comments
+//! are not expanded. So a small file can ask for the greatest lengths, and for many connections.
 
 use crate::output::Output;
 use std::alloc::Global;
@@ -35,31 +35,40 @@ fn push_line(out: &mut Output, line: &str) {
 fn push_times(out: &mut Output, line: &str) {
     match line.split_once(" times ") {
         Some((count, lines)) => push_repeated(out, lines, number(count)),
-        None => push_words(out, line),
+        None => push_words(out, line, 1),
     }
 }
 
 fn push_repeated(out: &mut Output, lines: &str, times: u32) {
-    for _ in 0..times {
-        push_lines(out, lines);
+    for turn in 0..times {
+        push_lines(out, lines, turn + 1);
     }
 }
 
-fn push_lines(out: &mut Output, lines: &str) {
+fn push_lines(out: &mut Output, lines: &str, turn: u32) {
     for line in lines.split(" | ") {
-        push_words(out, line);
+        push_words(out, line, turn);
     }
 }
 
 /// Adds the words of a line, and the line's end.
-fn push_words(out: &mut Output, line: &str) {
+fn push_words(out: &mut Output, line: &str, turn: u32) {
     for (place, word) in line.split(' ').enumerate() {
         if place > 0 {
             out.say(" ");
         }
-        push_word(out, word);
+        push_word_of(out, word, turn);
     }
     out.say("\n");
+}
+
+/// Adds a word, or the number of the turn.
+fn push_word_of(out: &mut Output, word: &str, turn: u32) {
+    if word == "@" {
+        out.show(&turn);
+    } else {
+        push_word(out, word);
+    }
 }
 
 fn push_word(out: &mut Output, word: &str) {

@@ -329,6 +329,42 @@ fn rows_go(alloc: Global, checks: &mut Checks) {
     }
 }
 
+/// A CR with this reference passes in a packet of its own. It offers class 2.
+fn asks(traffic: &mut Traffic, reference: u8, finding: Finding, checks: &mut Checks) {
+    traffic.begin(LEFT);
+    let request = [6, 0xe3, 0, 0, 0, reference, 0x20];
+    passes(traffic, LEFT, &request, finding, checks);
+}
+
+/// After the first connection, 127 more are requested and kept; no more are judged.
+fn many_ask(traffic: &mut Traffic, checks: &mut Checks) {
+    for reference in 2..129 {
+        asks(traffic, reference, KEPT, checks);
+    }
+    asks(traffic, 129, UNSEEN, checks);
+}
+
+/// What passes on a fresh byte connection with many connections, which this function owns.
+fn many_are_judged(alloc: Global, checks: &mut Checks) {
+    let mut traffic = Traffic::new(alloc);
+    goes(
+        &mut traffic,
+        &[
+            Step::Sends(LEFT, REQUEST, KEPT),
+            Step::Sends(RIGHT, CONFIRM, KEPT),
+        ],
+        checks,
+    );
+    many_ask(&mut traffic, checks);
+}
+
+#[test]
+fn a_hundred_and_twenty_eight_connections_are_judged(rt: HostRuntime) -> Result<(), Fail> {
+    let mut checks = Checks::new();
+    many_are_judged(rt.alloc(), &mut checks);
+    checks.end()
+}
+
 #[test]
 fn units_are_found_right_or_broken(rt: HostRuntime) -> Result<(), Fail> {
     let mut checks = Checks::new();
