@@ -193,9 +193,8 @@ class Forms(Room):
         self.same(pcap_of(whole()[0]))
 
     def test_files_of_either_order_of_octets_and_with_nanoseconds(self):
-        for order in "<>":
-            for is_nano in (False, True):
-                self.same(pcap_of(whole()[0], order=order, is_nano=is_nano))
+        for order, is_nano in (("<", False), (">", True)):
+            self.same(pcap_of(whole()[0], order=order, is_nano=is_nano))
 
     def test_files_that_are_compressed(self):
         self.same(gzip.compress(pcap_of(whole()[0])))
@@ -207,39 +206,47 @@ class Forms(Room):
     def test_ipv6(self):
         self.same(pcap_of(Frames(addresses=IPV6).open().talk().close().frames))
 
-    def test_numbers_that_begin_anew(self):
-        self.same(pcap_of(Frames(first={"left": SPACE - 20, "right": SPACE - 3}).open().talk().close().frames))
-
     def test_a_file_that_ends_within_a_packet(self):
         frames = whole()[0]
         content = pcap_of(frames[:8])
         self.assertEqual(self.passed(content[:-5]), whole()[1][:4])
 
-    def test_segments_of_one_octet(self):
-        for first in (FIRST, {"left": SPACE - 9, "right": SPACE - 30}):
-            found = self.passed(pcap_of(Frames(first, mtu=1).open().talk().close().frames))
-            joined = []
-            for side, octets in found:
-                if joined and joined[-1][0] == side:
-                    joined[-1] = side, joined[-1][1] + octets
-                else:
-                    joined.append((side, octets))
-            self.assertEqual(joined, whole()[1])
-
-    def test_frames_that_come_twice(self):
-        frames = whole()[0]
-        self.same(pcap_of([each for frame in frames for each in (frame, frame)]))
-        self.same(pcap_of(frames[:8] + frames[3:]))
-
     def test_streams_that_pass_at_the_same_time(self):
-        one, other = Frames().open().talk().close().frames, Frames(ports={"left": 41_000, "right": 102}).open().talk().close().frames
-        mixed = [frame for pair in zip(one, other) for frame in pair]
-        self.assertEqual([self.passed(pcap_of(mixed), number) for number in (0, 1)], [whole()[1]] * 2)
+        one, other = whole()[0], Frames(ports={"left": 41_000, "right": 102}).open().talk().close().frames
+        found = self.streams(pcap_of([frame for pair in zip(one, other) for frame in pair]))
+        self.assertEqual([[(side, piece.octets) for side, piece in found[number].by_side()] for number in (0, 1)], [whole()[1]] * 2)
 
     def test_ports_that_are_used_again(self):
         again = Frames(first={"left": 900_000, "right": 700_000}).open().close().frames
         found = self.streams(pcap_of(whole()[0] + again))
         self.assertEqual([len(stream.pieces) for stream in found.values()], [8, 6])
+
+
+class Segments(unittest.TestCase):
+    """What TCP does with segments, without tshark."""
+
+    @staticmethod
+    def joined(frames):
+        """What passed in a stream of frames, with pieces of one side in a row as one."""
+        found = []
+        for side, piece in stream_of(frames).by_side():
+            found[-1:] = [(side, found[-1][1] + piece.octets)] if found and found[-1][0] == side else [*found[-1:], (side, piece.octets)]
+        return found
+
+    def test_numbers_that_begin_anew(self):
+        self.assertEqual(self.joined(Frames(first={"left": SPACE - 20, "right": SPACE - 3}).open().talk().close().frames), whole()[1])
+
+    def test_segments_of_one_octet(self):
+        for first in (FIRST, {"left": SPACE - 9, "right": SPACE - 30}):
+            self.assertEqual(self.joined(Frames(first, mtu=1).open().talk().close().frames), whole()[1])
+
+    def test_frames_that_come_twice(self):
+        frames = whole()[0]
+        self.assertEqual(self.joined([each for frame in frames for each in (frame, frame)]), whole()[1])
+        self.assertEqual(self.joined(frames[:8] + frames[3:]), whole()[1])
+
+    def test_addresses_of_ipv6(self):
+        self.assertEqual(self.joined(Frames(addresses=IPV6).open().talk().close().frames), whole()[1])
 
 
 if __name__ == "__main__":
