@@ -9,7 +9,7 @@ from collections import deque
 from ctypes import byref, c_uint16, c_uint64, sizeof
 from typing import Any, Callable, Deque, Iterator, List, NoReturn, Optional, Tuple, Type, TypeVar
 
-from ._codes import Code, Direction, Phase, Reason, Refusal, SessionError, Tokens, Trace, Units
+from ._codes import Classes, Code, Direction, Phase, Reason, Refusal, SessionError, Tokens, Trace, Units
 from ._library import (
     AddressingOfC,
     CountersOfC,
@@ -89,6 +89,10 @@ class End:
         # The octets of feed_all that are not fed yet, and how many of the first are.
         self._unfed: Deque[bytes] = deque()
         self._used = 0
+        # Whether an indication may be pending, and whether it may have to wait for credit: only class 2 has that.
+        self._may_show = True
+        self._has_credit = bool(terms.classes & Classes.CLASS_2)
+        self._closed = False
         passed = TermsOfC(
             _within("classes", terms.classes, 8), _within("size", terms.size, 8), _within("window", terms.window, 8)
         )
@@ -112,11 +116,12 @@ class End:
         """Frees the end. Each call then raises SLOT_EMPTY."""
         with self._lock:
             self._free()
+            self._closed = True
 
     @property
     def closed(self) -> bool:
         """Whether it was freed."""
-        return not self._free.alive
+        return self._closed
 
     def __enter__(self: T) -> T:
         return self
@@ -297,6 +302,7 @@ class End:
         with self._lock:
             code = self._osi.osi_feed(byref(self._slot), at, length, byref(fed))
         self._answer(code)
+        self._may_show = fed.waits
         if self._on_line is not None:
             self._tell(Direction.RECEIVED)
         return Fed(fed.used, fed.waits)
@@ -338,12 +344,12 @@ class End:
     def _indications(self) -> Iterator[Indication]:
         while True:
             indication = self.next_indication()
-            while indication is not None:
+            if indication is not None:
                 yield indication
-                indication = self.next_indication()
-            if not self._unfed:
+            elif self._unfed:
+                self._feed_first()
+            else:
                 return
-            self._feed_first()
 
     def outgoing(self, most: Optional[int] = None) -> bytes:
         """A copy of the octets to send to the peer, in their order, or of at most ``most`` of them, from the
@@ -381,6 +387,7 @@ class End:
         with self._lock:
             code = self._osi.osi_broken(byref(self._slot))
         self._answer(code)
+        self._may_show = True
 
     def ended(self) -> Optional[Ending]:
         """Why the end has ended; None if it has not. If it has, send what is still outgoing (unless the byte
@@ -405,10 +412,12 @@ class End:
     def unsent(self, reference: int) -> int:
         """How many octets of a connection's TSDUs the peer's credit holds back, so that they are not outgoing
         yet; 0 for a connection that is gone or never was."""
-        return self._look(self._osi.osi_unsent, reference)
+        return self._look(self._osi.osi_unsent, reference) if self._has_credit else 0
 
     def backlog(self) -> int:
         """The sum of ``unsent`` over all connections."""
+        if not self._has_credit:
+            return 0
         with self._lock:
             return int(self._osi.osi_backlog(byref(self._slot)))
 
@@ -420,9 +429,12 @@ class End:
 
     def next_indication(self) -> Optional[Indication]:
         """Fetches the oldest indication of the connection with the lowest reference that has one."""
+        if not self._may_show:
+            return None
         said = IndicationOfC()
         with self._lock:
             if self._osi.osi_fetch(byref(self._slot)) != Code.OK:
+                self._may_show = False
                 return None
             self._osi.osi_last_with_size(byref(self._slot), byref(said), sizeof(said))
             user_data = ctypes.string_at(said.user_data.at, said.user_data.length)
