@@ -31,7 +31,8 @@ class Turns(Case):
         await session.accept()
         async for shown in session:
             self.got.append(shown)
-            time.sleep(self.seconds)
+            if self.seconds > 0:
+                time.sleep(self.seconds)
 
     async def connected(self, sessions=1):
         peer = await Peer.dial(port_of(self.listener))
@@ -158,7 +159,7 @@ class Turns(Case):
         await within(line.wait_closed())
         await within(self.over.wait())
         self.assertTrue(line.end.closed or line.end.ended() is not None)
-        self.assertLess(len(self.got), 1_010)
+        self.assertLess(len(self.got), 1_100)
         self.assertIn(KeyError, [type(error) for error in raised])
         await peer.close()
 

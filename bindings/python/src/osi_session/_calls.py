@@ -44,6 +44,10 @@ class Slotted:
     _osi: Any
     _slot: Slot
     _lock: threading.Lock
+    _may_show = True
+    """Whether an indication may be pending."""
+    _has_credit = True
+    """Whether octets may have to wait for credit: only class 2 has that."""
 
     on_outgoing: Optional[Callable[[], None]] = None
     """Called after each call of a user that was done, because ``outgoing`` may then have more."""
@@ -158,6 +162,7 @@ class Calls(Slotted):
         with self._lock:
             code = self._osi.osi_feed(byref(self._slot), at, length, byref(fed))
         checked(code)
+        self._may_show = fed.waits
         if self._has_lines:
             self._tell(Direction.RECEIVED)
         return fed
@@ -241,9 +246,12 @@ class Calls(Slotted):
 
     def next_indication(self) -> Optional[Indication]:
         """Fetches the oldest indication of the connection with the lowest reference that has one."""
+        if not self._may_show:
+            return None
         said = IndicationOfC()
         with self._lock:
             if self._osi.osi_fetch(byref(self._slot)) != Code.OK:
+                self._may_show = False
                 return None
             self._osi.osi_last_with_size(byref(self._slot), byref(said), sizeof(said))
             user_data = ctypes.string_at(said.user_data.at, said.user_data.length)
@@ -262,10 +270,12 @@ class Calls(Slotted):
     def unsent(self, reference: int) -> int:
         """How many octets of a connection's TSDUs the peer's credit holds back, so that they are not outgoing
         yet; 0 for a connection that is gone or never was."""
-        return self._look(self._osi.osi_unsent, reference)
+        return self._look(self._osi.osi_unsent, reference) if self._has_credit else 0
 
     def backlog(self) -> int:
         """The sum of ``unsent`` over all connections."""
+        if not self._has_credit:
+            return 0
         with self._lock:
             return int(self._osi.osi_backlog(byref(self._slot)))
 

@@ -9,7 +9,7 @@ from ctypes import byref, c_uint16, sizeof
 from typing import TYPE_CHECKING, Callable, List, NoReturn, Optional, Tuple, Type, TypeVar
 
 from ._calls import address_of, checked, octets_of, within
-from ._codes import Code, Direction, Refusal, Tokens, Trace, Units
+from ._codes import Classes, Code, Direction, Refusal, Tokens, Trace, Units
 from ._library import AddressingOfC, CountersOfC, Octets, OpeningOfC, SidesOfC, Slot, TallyOfC, TermsOfC, library
 from ._values import Addresses, Counters, Opening, Sides, Sizes, Tally, Terms
 
@@ -56,6 +56,8 @@ class End(Calls):
         self._slot = Slot()
         self._lock = threading.Lock()
         self._on_line: Optional[OnLine] = None
+        self._has_credit = bool(terms.classes & Classes.CLASS_2)
+        self._closed = False
         passed = TermsOfC(
             within("classes", terms.classes, 8), within("size", terms.size, 8), within("window", terms.window, 8)
         )
@@ -78,11 +80,12 @@ class End(Calls):
         """Frees the end. Each call then raises SLOT_EMPTY."""
         with self._lock:
             self._free()
+            self._closed = True
 
     @property
     def closed(self) -> bool:
         """Whether it was freed."""
-        return not self._free.alive
+        return self._closed
 
     def __enter__(self: T) -> T:
         return self
@@ -187,6 +190,7 @@ class End(Calls):
         with self._lock:
             code = self._osi.osi_broken(byref(self._slot))
         checked(code)
+        self._may_show = True
 
     def is_over(self) -> bool:
         """Whether you may close the byte connection now: nothing is outgoing, and either the end has ended, or

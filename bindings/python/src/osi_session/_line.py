@@ -97,8 +97,8 @@ class EndProtocol(asyncio.Protocol):
         self._draining = self._awaiting = 0
         self._reading = True
         self._paused = self._feeding = self._was_live = False
-        # Whether the rest of the octets is fed in the next turn.
-        self._is_behind = False
+        # Whether the rest of the octets is fed in the next turn; whether octets may be outgoing.
+        self._is_behind, self._has_outgoing = False, True
         # The progress of closing: asked for; the peer's or our direction is closed; the transport is gone, the end has been
         # told, and all indications have come.
         self._closing = self._came_to_end = self._half_closed = self._closed = self._aborted = False
@@ -138,7 +138,7 @@ class EndProtocol(asyncio.Protocol):
         """The next session that the peer asks for: accept or refuse it. None once the line is closed. Indications of
         connections without a session are dropped."""
         while True:
-            await self._fetchable(self._has_shown)
+            await self.indication_or(self._has_shown, reads_on=False)
             indication = self._fetch()
             if indication is None:
                 return None
@@ -374,35 +374,35 @@ class EndProtocol(asyncio.Protocol):
             with suppress(SessionError):
                 disconnect(reference)
 
+    def has_room(self, reference: int) -> bool:
+        """Whether there is room for more of this connection, and something can still be written."""
+        return self._outgoing() <= _PIECE and self._unsent(reference) <= _PIECE and not self.is_shut
+
     async def room(self, reference: int, or_else: Callable[[], bool]) -> None:
         """Waits until there is room for more of this connection, or until another condition holds."""
         await self._wait_for_room(
             lambda: or_else() or (self._outgoing() <= _PIECE and self._unsent(reference) <= _PIECE)
         )
 
-    async def indication_or(self, holds: Callable[[], bool]) -> None:
-        """Waits until this holds because an indication came, and until this line may have one fetched in this turn of the
-        event loop. Indications of other connections may come before it."""
-        await self._fetchable(holds, self._awaited)
+    def may_fetch(self) -> bool:
+        """Whether an indication of this line may be fetched in this turn of the event loop. It is counted."""
+        return self._turns.takes(self._turns.fetches)
 
-    async def _awaited(self, holds: Callable[[], bool]) -> None:
-        """Waits until this holds because an indication came."""
-        self._awaiting += 1
-        try:
-            if not self._is_behind and not (self._reading and self._feed.is_empty):
-                self._go_on()
-            await self.until(holds)
-        finally:
-            self._awaiting -= 1
-
-    async def _fetchable(self, holds: Callable[[], bool], wait: Optional[Callable[..., Awaitable[None]]] = None) -> None:
-        """Waits until this holds, and until an indication may be fetched in this turn of the event loop."""
+    async def indication_or(self, holds: Callable[[], bool], reads_on: bool = True) -> None:
+        """Waits until this holds because an indication came, and until one may be fetched in this turn of the event loop. If
+        the line reads on, indications of other connections may come before it."""
         while True:
             if not holds():
-                await (wait or self.until)(holds)
-            if self._turns.takes(self._turns.fetches):
+                self._awaiting += reads_on
+                try:
+                    if not self._is_behind and not (self._reading and self._feed.is_empty):
+                        self._go_on()
+                    await self._turns.until(holds)
+                finally:
+                    self._awaiting -= reads_on
+            if self.may_fetch():
                 return
-            await self.until(lambda: self._turns.fetches.is_left)
+            await self._turns.until(lambda: self._turns.fetches.is_left)
 
     async def until(self, holds: Callable[[], bool]) -> None:
         """Waits until this condition holds. It is tested whenever something happens."""
@@ -430,6 +430,7 @@ class EndProtocol(asyncio.Protocol):
 
     def flush(self) -> None:
         """Writes what is outgoing, as long as the transport takes it. If nothing more can come, it closes."""
+        self._has_outgoing = True
         self._write()
         self._turns.tell()
 
@@ -446,14 +447,13 @@ class EndProtocol(asyncio.Protocol):
         transport = self._transport
         if transport is None or self._closed or self.end.closed:
             return
-        goes_on = True
-        while goes_on and not (self._paused or self._half_closed or transport.is_closing()):
+        while self._has_outgoing and not (self._paused or self._half_closed or transport.is_closing()):
             octets = self.end.outgoing(_PIECE)
             if octets:
                 self.end.taken(len(octets))
                 self._answers.went(len(octets))
                 transport.write(octets)
-            goes_on = len(octets) == _PIECE
+            self._has_outgoing = len(octets) == _PIECE
         self._close_if_done(transport)
 
     def _pump(self) -> None:
@@ -492,11 +492,12 @@ class EndProtocol(asyncio.Protocol):
         end = self.end
         if not self._feed.has_octets:
             return self._feed.step()
-        outgoing, backlog = end.outgoing_length(), end.backlog()
+        outgoing, backlog = end.outgoing_length() if self._has_outgoing else 0, end.backlog()
         unsent = [(of, end.unsent(of)) for of in self._pending.owing]
         indication = self._feed.step()
         if not end.closed:
             now = end.outgoing_length()
+            self._has_outgoing = now > 0
             # Octets that left the backlog are the users' own.
             own = max(0, backlog - end.backlog()) if backlog > 0 else 0
             self._answers.came(now - outgoing - own, now)

@@ -92,8 +92,14 @@ class Pending:
         self.octets += octets - share.octets
         self.unpaid += unpaid - share.unpaid
         share.count, share.octets, share.unpaid = count, octets, unpaid
-        for references, holds in ((self._full, share.is_full), (self._owing, unpaid > 0)):
-            (references.add if holds else references.discard)(reference)
+        if share.is_full:
+            self._full.add(reference)
+        elif self._full:
+            self._full.discard(reference)
+        if unpaid > 0:
+            self._owing.add(reference)
+        elif self._owing:
+            self._owing.discard(reference)
         if count == 0:
             del self._shares[reference]
 

@@ -82,7 +82,8 @@ class Session:
 
     async def next(self) -> Optional[Indication]:
         """The next indication; None once the session is released or this side has ended it. SessionOver."""
-        await self.line.indication_or(self._has_news)
+        if not (self._shown and self.line.may_fetch()):
+            await self.line.indication_or(self._has_news)
         if self._shown:
             indication = self._shown.popleft()
             self.line.fetched(indication)
@@ -140,7 +141,8 @@ class Session:
 
     async def _call(self, call: Callable[..., None], *arguments: Any) -> None:
         """Makes a call as soon as there is room."""
-        await self.drain()
+        if self._over is not None or not self.line.has_room(self.reference):
+            await self.drain()
         call(self.reference, *arguments)
 
     async def data(self, user_data: bytes) -> None:

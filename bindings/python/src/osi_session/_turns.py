@@ -3,7 +3,8 @@ from __future__ import annotations
 
 import asyncio
 from time import monotonic
-from typing import Callable, Dict, Optional
+from typing import Callable, Dict, List, Optional
+from weakref import WeakKeyDictionary
 
 MOST_STEPS = 64
 """In one turn of the event loop a line is fed so many times, and so many of its indications are fetched, at most."""
@@ -54,6 +55,31 @@ class _Waiter:
             self.future.set_result(None)
 
 
+class _Loop:
+    """The turns of an event loop, for all lines in it."""
+
+    def __init__(self) -> None:
+        # The lines for which something is planned in the next turn.
+        self._planned: List[Turns] = []
+
+    def plan(self, line: Turns) -> None:
+        if not self._planned:
+            asyncio.get_running_loop().call_soon(self._next)
+        self._planned.append(line)
+
+    def _next(self) -> None:
+        planned, self._planned = self._planned, []
+        for line in planned:
+            try:
+                line.next()
+            except Exception as error:
+                told = {"message": "a line failed", "exception": error}
+                asyncio.get_running_loop().call_exception_handler(told)
+
+
+_loops: WeakKeyDictionary[asyncio.AbstractEventLoop, _Loop] = WeakKeyDictionary()
+
+
 class Turns:
     """The turns of a line, and the tasks that wait for it."""
 
@@ -66,6 +92,7 @@ class Turns:
         # Waiting tasks, the oldest first.
         self._waiters: Dict[_Waiter, None] = {}
         self._is_planned = False
+        self._loop: Optional[_Loop] = None
 
     async def until(self, holds: Callable[[], bool]) -> None:
         """Waits until this condition holds. It is tested whenever something happens. Of several tasks, the one that has
@@ -75,30 +102,36 @@ class Turns:
         waiter = _Waiter(holds)
         self._waiters[waiter] = None
         try:
-            while not holds():
+            waits = True
+            while waits:
                 waiter.future = asyncio.get_running_loop().create_future()
                 await waiter.future
+                waits = not holds()
         finally:
             del self._waiters[waiter]
 
     def tell(self) -> None:
         """Something has happened. Waiting tasks are woken once for everything that happens in a turn of the event loop."""
         self.happened += 1
-        if self._waiters:
+        if self._waiters and not self._is_planned:
             self._plan()
 
     def takes(self, share: Share) -> bool:
         """Does another step of this kind in this turn of the event loop, if the line may."""
-        self._plan()
+        if not self._is_planned:
+            self._plan()
         return share.take()
 
     def _plan(self) -> None:
         """Goes on in the next turn of the event loop."""
-        if not self._is_planned:
-            self._is_planned = True
-            asyncio.get_running_loop().call_soon(self._next)
+        self._is_planned = True
+        if self._loop is None:
+            loop = asyncio.get_running_loop()
+            self._loop = _loops.setdefault(loop, _Loop())
+        self._loop.plan(self)
 
-    def _next(self) -> None:
+    def next(self) -> None:
+        """The next turn has begun."""
         self._is_planned = False
         self.feeds.renew()
         self.fetches.renew()
