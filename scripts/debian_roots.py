@@ -40,8 +40,10 @@ def check_in_root(release, root, files, packages):
     for name in ("examples/hello.c", "examples/disputes/token.capture", "examples/disputes/restart.follow", "examples/ladders/two.script",
                  "crates/osi_tool/stdin"):
         shutil.copy(f"{TOP}/{name}", f"{root}/given")
+    purge = f"dpkg --purge {' '.join(packages)}"
     done = within(root, "dpkg -i /given/*.deb")
     if not check(f"{what}: the packages are installed", done.returncode == 0, done.stderr):
+        within(root, purge)
         return
     for words, wanted in (("osi show </given/stdin", read("crates/osi_tool/stdout")), ("osi --version", f"osi {VERSION}\n"),
                           ("osi judge </given/token.capture", read("examples/disputes/token.verdict")),
@@ -56,7 +58,7 @@ def check_in_root(release, root, files, packages):
         check(f"{what}: {words}", done.returncode in (0, 1) and done.stdout and not done.stderr, done.stdout + done.stderr)
     if RELEASES[release][1]:
         check_rust_in_root(what, root)
-    done = within(root, f"dpkg --purge {' '.join(packages)}")
+    done = within(root, purge)
     check(f"{what}: the packages are removed", done.returncode == 0, done.stderr)
     names = "-name '*osi_session*' -o -name '*osi-session*' -o -path '/usr/share/osi*'"
     left = within(root, f"find /usr /etc /var/lib/dpkg/info {names}").stdout
