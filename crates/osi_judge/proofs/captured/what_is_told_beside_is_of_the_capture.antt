@@ -1,9 +1,9 @@
 -- The reference of a side, and the packet of its break, follow the packets that passed: for what a judge is fed.
 use Rattle.osi_judge.proofs.Vocabulary.{◌≡◌, ◌∙◌, refl, ap, ℕ, suc, zero, ◌+◌, Bool, if◌then◌else◌, List, [], ◌∷◌, ◌++◌, length, Option}
-use Rattle.osi_judge.proofs.Vocabulary.{Some, option_map, Result, arith, append-nil, offset_of, Value, TpduFault, Direction, Finding, Kept}
-use Rattle.osi_judge.proofs.Vocabulary.{NoOpening, TsduTooLong, Capture, Told, Watched, Watches, FoundNext, Handshake, silent}
-use Rattle.osi_judge.proofs.Vocabulary.{packet_length, Move, ignores, stops, asking_step, answering_step, has_asked, first_step, step_of}
-use Rattle.osi_judge.proofs.Vocabulary.{given_by, reference_in, Stage, opening, stopped, stage_behind, Sent, packets_length, last_packet}
+use Rattle.osi_judge.proofs.Vocabulary.{Some, option_map, arith, append-nil, offset_of, Value, Direction, Finding, Kept}
+use Rattle.osi_judge.proofs.Vocabulary.{NoOpening, TsduTooLong, Capture, Told, Watched, Watches, FoundNext, Handshake}
+use Rattle.osi_judge.proofs.Vocabulary.{packet_length, Move, ignores, stops, asking_step, answering_step, has_asked, first_step}
+use Rattle.osi_judge.proofs.Vocabulary.{reference_in, Stage, opening, stopped, stage_behind, Sent, packets_length, last_packet}
 use Rattle.osi_judge.proofs.Vocabulary.{stage_from, heard, told, IsPlace, named_behind, last_place, last_behind, Passes, shown}
 use Rattle.osi_judge.specs.declared.directions.Direction.TheVariants as side
 use Rattle.osi_judge.specs.Transport.{added}
@@ -45,10 +45,6 @@ begun_from d met s at (u ∷ us) b =
 -- no later packet names one
 named_open : (d : Direction) (h : Handshake) (s : Stage) (known : Option ℕ) (u : List ℕ) → HasBegun s → named_behind d h s known u ≡ known
 named_open d h s known u b = grind arith
-
-pub opening_given : (d : Direction) (h : Handshake) (r : Result (Option Value) TpduFault)
-    → given_by (step_of d opening h r) ≡ given_by (step_of d opening silent r)
-opening_given d h r = grind arith
 
 pub named_more : (d : Direction) (met : ℕ → Handshake) (us : List (List ℕ)) (u : List ℕ)
     → named_behind d (met (offset_from 0 us)) (stage_from d met opening 0 us) (reference_in d us) u ≡ reference_in d (us ++ u ∷ [])
