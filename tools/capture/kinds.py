@@ -6,7 +6,7 @@ SESSION = {1, 2, 5, 7, 8, 9, 10, 11, 12, 13, 14, 15, 16, 21, 22, 25, 26, 29, 33,
 # What the first TSDU of an application begins with that has no session below it.
 BEGINS = ((b"\x32", "S7comm"), (b"\x72", "S7comm-plus"), (b"\x7f\x65", "RDP (T.125)"), (b"\x21\x80", "RDP (T.125)"),
            (b"\x16\x03", "TLS"))
-DATA, REQUESTS = 0xF0, (0xE0, 0xD0)
+DATA, REQUESTS, RECORD = 0xF0, (0xE0, 0xD0), b"\x16\x03"
 MOST = 65_536
 
 
@@ -35,14 +35,14 @@ def units(octets):
 
 
 def below_transport(left, right):
-    """A protocol that uses TPKT without X.224, or no TPKT at all."""
-    for octets in (left, right):
-        unit = octets[4:]
-        if is_packet(octets) and len(unit) > 1 and unit[1] & 0xF0 not in CODES:
-            if unit[0] == 8 and unit[1] < 4:
-                return "Q.931 (H.225)"
-            return "MEGACO" if unit.startswith((b"MEGACO/", b"!/")) else "TPKT without X.224"
-    return None
+    """A protocol that uses TPKT without X.224, by the first packet of the caller, or of the other side if the caller sent nothing."""
+    octets = left or right
+    unit = octets[4:]
+    if not is_packet(octets) or len(unit) < 2 or unit[1] & 0xF0 in CODES:
+        return None
+    if unit[0] == 8 and unit[1] < 4:
+        return "Q.931 (H.225)"
+    return "MEGACO" if unit.startswith((b"MEGACO/", b"!/")) else "TPKT without X.224"
 
 
 def of_requests(left, right):
@@ -72,11 +72,11 @@ def of_first_data(left, right):
 
 
 def first_data(octets):
-    """The first octets above transport, or what follows the packets in place of one; none if there are none."""
+    """The first octets above transport, or the record of TLS that comes in place of a packet; none if there are none."""
     at = 0
     for unit in units(octets):
         if unit is None:
-            return octets[at:at + 2] if at else b""
+            return octets[at:at + 2] if at and octets.startswith(RECORD, at) else b""
         at += 4 + len(unit)
         if len(unit) > 2 and unit[1] & 0xF0 == DATA and len(unit) > 1 + unit[0]:
             return unit[1 + unit[0]:][:2]

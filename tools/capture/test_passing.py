@@ -272,7 +272,9 @@ class Kinds(unittest.TestCase):
     def test_sessions_are_no_other_protocol(self):
         for frames in (whole()[0], self.frames(("left", CR)), self.frames(("left", CR), ("right", CC)),
                        self.frames(("left", CR), ("right", CC), ("left", CN), ("right", data(b"\x32\1\0\0"))),
-                       self.frames(("left", CR), ("right", CC), ("left", data(b"\x60\x10")), ("right", AB))):
+                       self.frames(("left", CR), ("right", CC), ("left", data(b"\x60\x10")), ("right", AB)),
+                       self.frames(("left", CR), ("right", packet(b"\5\5\5\5\5"))),
+                       self.frames(("left", CR), ("right", CC), ("left", b"garbage"))):
             self.assertIsNone(kinds.of(stream_of(frames)))
 
     @needs_osi
