@@ -1,5 +1,4 @@
-"""Tests that the files of packaging/ complete each option of osi-capture and osi-ladders, but for those that
-are awaited there, and no other."""
+"""Tests that the files of packaging/ complete each option of osi-capture and osi-ladders, and no other."""
 import argparse
 import os
 import re
@@ -10,8 +9,6 @@ from ladders import program as ladders
 
 PACKAGING = os.path.join(os.path.dirname(os.path.abspath(__file__)), "..", "..", "packaging")
 PARSERS = {"osi-capture": capture.words, "osi-ladders": ladders.words}
-# Options that the files of packaging/ don't complete yet.
-AWAITED = {"osi-capture": {"--by", "--every", "--file", "--host", "--interface", "--upper"}, "osi-ladders": {"--upper"}}
 
 
 def long_options(parser):
@@ -38,8 +35,7 @@ def zsh_part(program):
 
 class Completion(unittest.TestCase):
     def completed(self, program, found):
-        self.assertEqual(long_options(PARSERS[program]()), found | {"--help"} | AWAITED[program])
-        self.assertEqual(found & AWAITED[program], set())
+        self.assertEqual(long_options(PARSERS[program]()), found | {"--help"})
 
     def test_bash(self):
         for program in PARSERS:
