@@ -4,7 +4,7 @@ use Rattle.osi_listing.specs.declared.traces.Trace.{Trace}
 use Rattle.osi_listing.specs.declared.traces.Keeping.{Keeping}
 use Rattle.osi_listing.specs.declared.traces.Keeping.TheVariants as keeping
 use Rattle.osi_listing.specs.declared.counting.Counts.{Counts}
-use Rattle.osi_listing.specs.Traced.{IsTraced, AreCounted, HasToStop, unfetched, is_stopped, counted, octets_taken}
+use Rattle.osi_listing.specs.Traced.{IsTraced, AreCounted, unfetched, is_stopped, counted, octets_taken}
 use Rattle.osi_c.specs.Codes.{coded}
 use Rattle.osi_c.specs.declared.traces.Kind.{Kind}
 use Rattle.osi_c.specs.declared.traces.Kind.TheVariants.{Off, Counters, Lines}
@@ -31,13 +31,10 @@ IsUntraced t = (t.received ≡ None) × (t.sent ≡ None) × (t.lines.items ≡ 
 
 -- ---- octets pass
 
--- Whatever passed before and was fetched, the trace continues with these octets. It keeps what it kept, or stops because it
--- has to. One that has stopped stays as it is.
+-- whatever passed before and was fetched, the trace continues with these octets; it keeps what it kept, or has stopped
 pub record GoesOn (octets : List ℕ) (old new : Trace) : Type 0 where
   pub traced : (passed fetched : List ℕ) → IsTraced old passed fetched → IsTraced new (passed ++ octets) fetched
   pub keeping : is_stopped new ≡ false → new.keeping ≡ old.keeping
-  pub stops : is_stopped old ≡ false → is_stopped new ≡ true → HasToStop old octets new
-  pub over : is_stopped old ≡ true → new ≡ old
 
 abbrev pub Takes : List ℕ → Option Trace → Option Trace → Type 0
 Takes octets None new = new ≡ None
@@ -88,20 +85,11 @@ tally (Some t) = record {
 abbrev pub counts_in : OsiTally → Counts
 counts_in t = record { packets = t.packets; units = t.units; tsdus = t.tsdus; session_units = t.session_units; refused = t.refused }
 
--- A trace counts the octets that passed, and what the listing of them has; once it has stopped, those of the first octets
--- that passed.
-pub record CountsFirst (passed : List ℕ) (shown : OsiTally) : Type 0 where
-  pub took : List ℕ
-  pub others : List ℕ
-  pub first : passed ≡ took ++ others
-  pub octets : shown.octets ≡ length took
-  pub listed : AreCounted took (counts_in shown)
-
+-- a trace that has not stopped counts the octets that passed, and what the listing of them has
 pub record CountsWhatPassed (t : Trace) (shown : OsiTally) : Type 0 where
-  pub octets : is_stopped t ≡ false → (passed fetched : List ℕ) → IsTraced t passed fetched → shown.octets ≡ length passed
-  pub listed : is_stopped t ≡ false → (passed fetched : List ℕ) → IsTraced t passed fetched → AreCounted passed (counts_in shown)
-  pub first : (passed fetched : List ℕ) → IsTraced t passed fetched → CountsFirst passed shown
+  pub octets : (passed fetched : List ℕ) → IsTraced t passed fetched → shown.octets ≡ length passed
+  pub listed : (passed fetched : List ℕ) → IsTraced t passed fetched → AreCounted passed (counts_in shown)
 
 abbrev pub Means : Option Trace → OsiTally → Type 0
 Means None shown = ⊤
-Means (Some t) shown = CountsWhatPassed t shown
+Means (Some t) shown = is_stopped t ≡ false → CountsWhatPassed t shown

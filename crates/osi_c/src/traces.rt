@@ -5,7 +5,6 @@ ghost use Rattle.osi_c.specs.Traced.{HandsOut, IsNew, IsUntraced, kind_of, line_
 
 use crate::codes::{NO_MEMORY, NOTHING, OK};
 use osi_listing::Trace;
-use osi_listing::laws::what_is_fetched_is_the_listing;
 use std::alloc::Global;
 use std::mem::replace;
 
@@ -118,7 +117,6 @@ fn counted(trace: &Trace) -> OsiTally
     ensures value { result ≡ tally (Some trace.now) }
     ensures meant { Means (Some trace.now) result }
 {
-    what_is_fetched_is_the_listing();
     let counts = trace.counts();
     OsiTally {
         octets: trace.octets(),
