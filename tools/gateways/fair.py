@@ -140,7 +140,7 @@ def dripping(language, program, duplex, wait, room):
         said = sum("not ended" in line or "too slow" in line for line in server.lines())
     what = f"the server in {language} gives up 64 peers that send half a packet, an octet at a time"
     first, last = (closed[0], closed[-1]) if closed else (0, 0)
-    return (f"{what}, after {first:.1f} to {last:.1f} s", len(closed) == 64 and first >= wait - 0.5 and last <= wait + LATER and said == 64,
+    return (f"{what}, after {first:.1f} to {last:.1f} s", len(closed) == 64 and last <= wait + LATER and said == 64,
             f"{len(closed)} are closed, {said} logged"), (
             f"the server in {language} serves another meanwhile, in {1000 * took:.0f} ms", took < MOST_OPENING, "")
 
