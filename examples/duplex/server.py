@@ -8,6 +8,7 @@ docs/TUTORIAL.md walks through it, and docs/GUIDE.md (Bounds) has the reason for
 from __future__ import annotations
 
 import asyncio
+import signal
 import socket
 import sys
 from time import monotonic
@@ -130,13 +131,17 @@ async def serve_peer(line: aio.EndProtocol) -> None:
 async def main(port: int) -> None:
     terms = Terms(Classes.BOTH)
     listener = await aio.serve(serve_peer, "127.0.0.1", port, terms, Peer, backlog=MOST_PEERS)
-    async with listener:
-        await listener.serve_forever()
+    stopped = asyncio.Event()
+    asyncio.get_running_loop().add_signal_handler(signal.SIGINT, stopped.set)
+    await stopped.wait()
+    listener.close()
+    for peer in set(peers):
+        peer.abort()
+    while peers:
+        await asyncio.sleep(0.01)
 
 
 if __name__ == "__main__":
     selector = sys.argv[2].encode() if len(sys.argv) > 2 else b""
-    try:
-        asyncio.run(main(int(sys.argv[1]) if len(sys.argv) > 1 else 4000))
-    except KeyboardInterrupt:
-        sys.exit(130)
+    asyncio.run(main(int(sys.argv[1]) if len(sys.argv) > 1 else 4000))
+    sys.exit(130)

@@ -16,6 +16,7 @@ from __future__ import annotations
 
 import argparse
 import asyncio
+import signal
 import sys
 from time import monotonic
 from typing import Awaitable, Optional, Set, TextIO, Tuple, cast
@@ -161,7 +162,11 @@ class Server:
         self.patience: float = options.wait
         self.messages = self.octets = 0
         self.peers: Set[Peer] = set()
-        self.done = asyncio.Event()
+        self.done, self.status = asyncio.Event(), 0
+
+    def interrupt(self) -> None:
+        self.status = 130
+        self.done.set()
 
     def took(self, data: Data) -> None:
         self.messages += 1
@@ -186,8 +191,9 @@ class Server:
                 self.done.set()
 
 
-async def run(options: argparse.Namespace, log: TextIO) -> None:
+async def run(options: argparse.Namespace, log: TextIO) -> int:
     server = Server(options, log)
+    asyncio.get_running_loop().add_signal_handler(signal.SIGINT, server.interrupt)
     classes = Classes(("0" in options.classes) | ("2" in options.classes) << 1)
     terms = Terms(classes, window=options.window)
     peer = lambda end: Peer(end, server)
@@ -196,6 +202,7 @@ async def run(options: argparse.Namespace, log: TextIO) -> None:
     await server.done.wait()
     listener.close()
     print(f"took {server.messages} messages, {server.octets} octets")
+    return server.status
 
 
 def main() -> int:
@@ -208,12 +215,8 @@ def main() -> int:
     parser.add_argument("--wait", type=float, default=10)
     parser.add_argument("--log", default="-")
     options = parser.parse_args()
-    try:
-        with log_to(options.log) as log:
-            asyncio.run(run(options, log))
-    except KeyboardInterrupt:
-        return 130
-    return 0
+    with log_to(options.log) as log:
+        return asyncio.run(run(options, log))
 
 
 if __name__ == "__main__":

@@ -1,0 +1,60 @@
+"""What many lines and many connections cost: each run yields what it tests, whether that holds, and why not."""
+import os
+import subprocess
+import time
+
+from gateways import peers
+
+PROGRAM = os.path.join(os.path.dirname(os.path.abspath(__file__)), "lines.py")
+LINES, ECHOES = 500, 20
+# How many times as long an echo over lines may take as one over plain byte connections, and how many nanoseconds a look of a watch
+# for verdicts takes for each connection: a hundred times as many as on an idle machine.
+MOST_RATIO, MOST_LOOK = 20, 13_000
+
+
+def echoes(python, kind, lines, count):
+    """The seconds of so many echoes on each of so many lines, and the median of one."""
+    server = subprocess.Popen([python, PROGRAM, kind, "serve"], stdout=subprocess.PIPE, text=True)
+    try:
+        port = server.stdout.readline().strip()
+        done = subprocess.run([python, PROGRAM, kind, port, str(lines), str(count)], capture_output=True, text=True, timeout=300)
+        return [float(word) for word in done.stdout.split()] or [float("inf")] * 2, done.stderr
+    finally:
+        server.kill()
+        server.wait()
+        server.stdout.close()
+
+
+def many_lines(python, version):
+    """500 lines over asyncio, 20 echoes on each: at most some times as long as over as many plain byte connections."""
+    (took, median), errors = echoes(python, "osi", LINES, ECHOES)
+    (plain, _), _ = echoes(python, "plain", LINES, ECHOES)
+    yield (f"{ECHOES} echoes on each of {LINES} lines take {took:.1f} s on Python {version}, {took / plain:.1f} times as long as without"
+           f" sessions; one takes {1000 * median:.0f} ms", took <= MOST_RATIO * plain, f"the bound is {MOST_RATIO} times; {errors}")
+
+
+def closed_connections(count):
+    """What both sides of a byte connection send for connections of class 2 that are opened and closed, one after the other."""
+    for number in range(count):
+        left, right = (number % 65_535 + 1).to_bytes(2, "big"), (number % 65_535 + 1).to_bytes(2, "big")
+        yield False, peers.connect_request(number % 65_535 + 1, 2)
+        yield True, peers.packet(b"\6\xd0" + left + right + b"\x20")
+        yield False, peers.packet(b"\6\x80" + right + left + b"\x80")
+        yield True, peers.packet(b"\5\xc0" + left + right)
+
+
+def watched():
+    """What a look for verdicts costs a watch for each connection that was ever requested on its byte connection."""
+    from osi_session import TapSide, Watch
+    for count in (1_000, 15_000):
+        with Watch() as watch:
+            for is_right, octets in closed_connections(count):
+                watch.feed(TapSide.RIGHT if is_right else TapSide.LEFT, octets)
+            times = []
+            for _ in range(20):
+                began = time.perf_counter()
+                told = list(watch.verdicts())
+                times.append(time.perf_counter() - began)
+        each = 1e9 * min(times) / count
+        yield (f"osi_watch_next takes {each:.0f} ns for each of {count} connections", not told and each <= MOST_LOOK,
+               f"the bound is {MOST_LOOK} ns; {told[:3]}")
