@@ -336,12 +336,12 @@ fn asks(traffic: &mut Traffic, reference: u8, finding: Finding, checks: &mut Che
     passes(traffic, LEFT, &request, finding, checks);
 }
 
-/// After the first connection, 127 more are requested and kept; no more are judged.
+/// After the first connection, 127 more are requested and kept. One more is too many.
 fn many_ask(traffic: &mut Traffic, checks: &mut Checks) {
     for reference in 2..129 {
         asks(traffic, reference, KEPT, checks);
     }
-    asks(traffic, 129, UNSEEN, checks);
+    asks(traffic, 129, Finding::TooMany, checks);
 }
 
 /// What passes on a fresh byte connection with many connections, which this function owns.
