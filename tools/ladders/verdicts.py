@@ -168,7 +168,7 @@ def together(since):
         yield ", ".join(names[:-1]) + " and " * (len(names) > 1) + names[-1] + (" tokens were" if len(names) > 1 else " token was"), place
 
 
-def excuse(verdict, side):
+def how_near(verdict, side):
     """How much the session that came nearest had received of what had passed."""
     knew = verdict.fields(side, "knew")
     if not knew or verdict.break_of(side) is None:
@@ -181,7 +181,7 @@ def box(verdict, packet=None, octets=None):
     """The lines of the box below a picture, the most important first."""
     rows = [sentence(verdict)]
     if verdict.first:
-        rows += [text for text in (reason(verdict, verdict.first, packet, octets), excuse(verdict, verdict.first)) if text]
+        rows += [text for text in (reason(verdict, verdict.first, packet, octets), how_near(verdict, verdict.first)) if text]
     for side in SIDES:
         later = verdict.break_of(side)
         if later and verdict.first not in (None, side):
