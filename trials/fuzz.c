@@ -5,6 +5,7 @@
  * the program stops and prints what was done.
  *
  *     fuzz [--seconds N] [--seed N] [--round N]     the same seed and round give the same run again */
+#include "hostile.h"
 #include "memory.h"
 #include "pairs.h"
 
@@ -14,21 +15,11 @@
 #include <time.h>
 
 #define STEPS 150
-#define PIECE 4096
 
-static uint64_t state;
 static osi_end one = OSI_END, other = OSI_END, peer = OSI_END;
 static struct text shown_one, shown_other, shown_peer, history;
 static uint64_t octets_fed, calls_done, calls_refused, shown_of[32], ended_by[32];
 static bool first;
-
-static uint32_t any(uint32_t below)
-{
-    state ^= state << 13;
-    state ^= state >> 7;
-    state ^= state << 17;
-    return (uint32_t)((state >> 11) % below);
-}
 
 static void is_shown(void *to, const osi_indication *shown)
 {
@@ -38,97 +29,6 @@ static void is_shown(void *to, const osi_indication *shown)
     text_put(text, "; ");
     if (first)
         shown_of[shown->tag] += 1;
-}
-
-/* ---- octets */
-
-/* Changes some of them, or cuts them, or puts an octet between them. */
-static size_t changed(uint8_t *octets, size_t length)
-{
-    for (uint32_t times = any(3) + 1; times > 0 && length > 0; times--) {
-        size_t at = any((uint32_t)length);
-        uint32_t way = any(6);
-        if (way < 4) {
-            octets[at] = way == 0 ? (uint8_t)(octets[at] ^ (1u << any(8))) : (uint8_t)any(256);
-        } else if (way == 4) {
-            length = at;
-        } else if (length < PIECE) {
-            memmove(octets + at + 1, octets + at, length - at);
-            octets[at] = (uint8_t)any(256);
-            length += 1;
-        }
-    }
-    return length;
-}
-
-static size_t at_random(uint8_t *octets, size_t length)
-{
-    for (size_t i = 0; i < length; i++)
-        octets[i] = (uint8_t)any(256);
-    return length;
-}
-
-/* A packet around a data unit of either class, with a session unit of some sort. */
-static size_t packet_at_random(uint8_t *octets)
-{
-    static const uint8_t si[] = {1, 2, 8, 9, 10, 12, 13, 14, 25, 26, 34, 41, 42, 49, 50, 53};
-    uint8_t class_0[] = {2, 0xf0, 0x80}, class_2[] = {4, 0xf0, 0, (uint8_t)(1 + any(3)), (uint8_t)(0x80 | any(8))};
-    bool two = any(2) == 1;
-    size_t header = two ? sizeof class_2 : sizeof class_0, length = 4 + header;
-    memcpy(octets + 4, two ? class_2 : class_0, header);
-    if (any(2) == 0) {
-        octets[length++] = 1;
-        octets[length++] = 0;
-    }
-    octets[length++] = si[any(sizeof si)];
-    uint8_t parameters = (uint8_t)any(12);
-    octets[length++] = parameters;
-    length += at_random(octets + length, parameters);
-    octets[0] = 3;
-    octets[1] = (uint8_t)any(2);
-    octets[2] = (uint8_t)(length >> 8);
-    octets[3] = (uint8_t)length;
-    return length;
-}
-
-static size_t from_the_peer(uint8_t *octets)
-{
-    osi_octets there;
-    osi_outgoing(&peer, &there);
-    size_t length = there.length < PIECE / 2 ? there.length : PIECE / 2;
-    memcpy(octets, there.at, length);
-    osi_taken(&peer, length);
-    return length;
-}
-
-/* All that the peer has to send, with an octet changed after the headers of its first packet. */
-static size_t with_another_unit(uint8_t *octets)
-{
-    size_t length = from_the_peer(octets);
-    size_t packet = length < 4 ? 0 : (size_t)octets[2] * 256 + octets[3];
-    size_t header = length < 5 ? 0 : 5 + (size_t)octets[4];
-    if (header > 0 && header < packet && packet <= length)
-        octets[header + any((uint32_t)(packet - header))] = (uint8_t)any(256);
-    return length;
-}
-
-/* How hostile a run is: only what the peer sends, or other session units too, or anything. */
-enum life { HONEST, OTHER_UNITS, HOSTILE };
-
-static size_t some_octets(uint8_t *octets, enum life life)
-{
-    uint32_t way = life == HONEST ? 99 : any(40);
-    if (way == 0)
-        return packet_at_random(octets);
-    if (way < 3)
-        return with_another_unit(octets);
-    if (life == HOSTILE && way == 3)
-        return changed(octets, from_the_peer(octets));
-    if (life == HOSTILE && way == 4)
-        return changed(octets, packet_at_random(octets));
-    if (life == HOSTILE && way == 5)
-        return at_random(octets, 1 + any(40));
-    return from_the_peer(octets);
 }
 
 /* ---- what is done */
@@ -181,37 +81,6 @@ static uint32_t make_call(osi_end *end, const struct event *event)
     return code;
 }
 
-/* A call that the phase probably allows, or any call. */
-static struct event call_at_random(osi_end *end)
-{
-    static const enum verb of_phase[][6] = {
-        [OSI_PHASE_ANSWERING] = {ACCEPT, ACCEPT, ACCEPT, ACCEPT, ACCEPT, REFUSE},
-        [OSI_PHASE_READY] = {DATA, MINOR, MAJOR, GIVE, PLEASE, RELEASE},
-        [OSI_PHASE_MAJOR_ASKED] = {PLEASE, RESTART, ABORT, PLEASE, RESTART, PLEASE},
-        [OSI_PHASE_MAJOR_DUE] = {MAJOR_CONFIRM, MAJOR_CONFIRM, GIVE, PLEASE, RESTART, MAJOR_CONFIRM},
-        [OSI_PHASE_RELEASE_DUE] = {RELEASE_ACCEPT, RELEASE_REFUSE, RELEASE_REFUSE, MINOR_CONFIRM, RESTART,
-                                   RELEASE_REFUSE},
-        [OSI_PHASE_RESTART_DUE] = {RESTART_CONFIRM, RESTART_CONFIRM, RESTART_CONFIRM, RESTART_CONFIRM,
-                                   RESTART_CONFIRM, ABORT},
-        [OSI_PHASE_ENDED] = {ABORT, ABORT, ABORT, ABORT, ABORT, ABORT},
-    };
-    static uint8_t data[3000];
-    struct event e = event_of(CALL, LEFT, 0, 0);
-    e.reference = (uint16_t)(any(4) == 0 ? 1 + any(3) : 1);
-    uint32_t phase = osi_phase(end, e.reference);
-    e.verb = any(5) == 0 ? (enum verb)any(ABORT) : of_phase[phase][any(6)];
-    if (phase == OSI_PHASE_READY && any(4) == 0)
-        e.verb = any(2) == 0 ? MINOR_CONFIRM : RESTART;
-    e.units = any(4) == 0 ? OSI_DUPLEX : (uint16_t)(0x00b9 & (1u | any(256)));
-    e.number = e.verb == ACCEPT ? any(3) : osi_next_serial(end, e.reference) - any(3);
-    e.sides = (osi_sides){(uint8_t)any(2), (uint8_t)any(2), (uint8_t)any(2), (uint8_t)any(2)};
-    e.tokens = any(2) == 0 ? osi_held(end, e.reference) : (uint8_t)any(256);
-    e.confirm = (uint8_t)any(2);
-    e.data = data;
-    e.length = any(8) == 0 ? any(3000) : any(12);
-    return e;
-}
-
 static void call_both(void)
 {
     struct event event = call_at_random(&one);
@@ -223,13 +92,8 @@ static void call_both(void)
 
 static void connect_from(osi_end *end, osi_end *twin)
 {
-    osi_opening asked = OSI_OPENING;
+    osi_opening asked = opening_at_random();
     uint16_t reference;
-    asked.requirements = any(3) == 0 ? OSI_DUPLEX : (uint16_t)(1u | (0x00b8 & any(256)));
-    asked.serial = any(3) == 0 ? 999998 : any(4);
-    asked.wishes = (osi_sides){(uint8_t)any(3), (uint8_t)any(3), (uint8_t)any(3), (uint8_t)any(3)};
-    asked.size_from_asker = any(3) == 0 ? (uint16_t)(64 + any(64)) : 0;
-    asked.size_from_answerer = any(3) == 0 ? (uint16_t)(64 + any(64)) : 0;
     text_put(&history, "connect %04x %u, sizes %u %u\n", asked.requirements, asked.serial, asked.size_from_asker,
              asked.size_from_answerer);
     uint32_t code = osi_connect(end, &asked, &reference);
@@ -242,7 +106,7 @@ static void step(bool calls, enum life life)
     static uint8_t octets[PIECE + 1];
     uint32_t way = any(10);
     if (way < 4)
-        feed_both(octets, some_octets(octets, life));
+        feed_both(octets, some_octets(&peer, octets, life));
     else if (way < 6)
         answer_peer();
     else if (way == 6 && any(8) == 0)
@@ -325,10 +189,7 @@ int main(int count, char **words)
     printf("fuzz: seed %llu\n", (unsigned long long)seed);
     time_t end = time(NULL) + (time_t)seconds;
     for (uint64_t round = first_round; failures == 0 && time(NULL) < end; round++) {
-        state = (seed + 1) * 0x9e3779b97f4a7c15u + round * 0xbf58476d1ce4e5b9u;
-        state = state == 0 ? 1 : state;
-        text_clear(&place);
-        text_put(&place, "seed %llu, round %llu", (unsigned long long)seed, (unsigned long long)round);
+        any_begin(seed, round);
         live_once();
     }
     if (failures > 0)

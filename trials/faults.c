@@ -1,0 +1,213 @@
+/* What an end tells of its peer, beside what a judge says that watches the same octets. An end is fed what a peer sends, the same
+ * with changes, or octets at random; its user and that of the peer make random calls. The judge is fed the octets that the end
+ * used and those that the peer took, in this order. When the end tells its user of a bad unit, or ends with a fault, the judge
+ * has to say that the peer broke the protocol or left the profile. Where it may say less, `liberties` has the fault, and
+ * docs/DECISIONS.md why.
+ *
+ *     faults [--runs N] [--seed N] [--round N]     the same seed and round give the same run again */
+#include "hostile.h"
+#include "pairs.h"
+
+#include <stdio.h>
+#include <stdlib.h>
+#include <string.h>
+
+#define STEPS 150
+#define CODES 32
+
+/* What an end tells: of a bad unit, with its fault; or why it ended. */
+struct told {
+    bool is_unit;
+    uint32_t code;
+};
+
+/* What a judge says of the peer. */
+enum said { NOTHING_SAID, NOT_JUDGED, BLAMED, SAYINGS };
+
+static osi_end one = OSI_END, peer = OSI_END;
+static osi_watch judge = OSI_WATCH;
+static struct text history;
+static struct told told;
+static enum said said;
+static uint32_t side_of_one;
+static uint64_t counted[2][2][CODES][SAYINGS];
+
+static void note(const char *what, const uint8_t *octets, size_t length)
+{
+    text_put(&history, "%s ", what);
+    text_octets(&history, octets, length);
+    text_put(&history, "\n");
+}
+
+/* ---- the judge */
+
+static void judge_feeds(uint32_t side, const uint8_t *octets, size_t length)
+{
+    size_t used;
+    if (osi_watch_feed(&judge, side, octets, length, &used) != OSI_OK)
+        abort();
+}
+
+/* What is certain of the peer, and that nobody says anything of this end. */
+static void judge_says(void)
+{
+    osi_watch_verdict v;
+    char line[OSI_WATCH_VERDICT_TEXT];
+    while (osi_watch_next(&judge, &v) == OSI_OK) {
+        osi_watch_verdict_text(&v, line, sizeof line);
+        text_put(&history, "judge: %s\n", line);
+        bool blames = v.kind == OSI_VERDICT_BROKE || v.kind == OSI_VERDICT_LEAVES;
+        holds(v.side != side_of_one || !blames, "an end is blamed: %s", line);
+        if (v.side == side_of_one)
+            continue;
+        enum said more = blames ? BLAMED : NOT_JUDGED;
+        said = more > said ? more : said;
+    }
+}
+
+/* ---- the end */
+
+static bool has_told(void)
+{
+    return told.code != 0;
+}
+
+static void looked_at(const osi_indication *shown)
+{
+    if (shown->tag == OSI_BAD_UNIT && !has_told())
+        told = (struct told){true, shown->fault.fault};
+}
+
+/* An end that ended for lack of memory has no fault to tell. */
+static void look_at_end(void)
+{
+    uint64_t detail;
+    uint32_t code = osi_ended(&one, &detail);
+    bool is_fault = code >= OSI_END_UNKNOWN_REFERENCE && code != OSI_END_NO_MEMORY_FOR_PACKET && code != OSI_END_NO_MEMORY_FOR_TSDU;
+    if (is_fault && !has_told())
+        told = (struct told){false, code};
+}
+
+static void one_is_fed(const uint8_t *octets, size_t length)
+{
+    note("fed", octets, length);
+    while (length > 0 && !has_told()) {
+        osi_fed fed;
+        osi_indication shown;
+        if (osi_feed(&one, octets, length, &fed) != OSI_OK)
+            abort();
+        judge_feeds(1 - side_of_one, octets, fed.used);
+        while (osi_next(&one, &shown))
+            looked_at(&shown);
+        look_at_end();
+        octets += fed.used;
+        length -= fed.used;
+    }
+}
+
+static void peer_is_fed(void)
+{
+    osi_octets there;
+    osi_outgoing(&one, &there);
+    note("sent", there.at, there.length);
+    judge_feeds(side_of_one, there.at, there.length);
+    for (size_t at = 0; at < there.length;) {
+        osi_fed fed;
+        osi_indication shown;
+        if (osi_feed(&peer, there.at + at, there.length - at, &fed) != OSI_OK)
+            abort();
+        while (osi_next(&peer, &shown))
+            ;
+        at += fed.used;
+    }
+    if (osi_taken(&one, there.length) != OSI_OK)
+        abort();
+}
+
+static void calls(osi_end *end)
+{
+    struct event event = call_at_random(end);
+    uint32_t code = end_call(end, &event);
+    text_put(&history, "%s %s %u: %u\n", end == &one ? "calls" : "peer calls", verb_names[event.verb], event.reference, code);
+}
+
+static void connects(osi_end *end)
+{
+    osi_opening asked = opening_at_random();
+    uint16_t reference;
+    uint32_t code = osi_connect(end, &asked, &reference);
+    text_put(&history, "connect: %u\n", code);
+}
+
+/* ---- a run */
+
+static void step(bool is_caller, enum life life)
+{
+    static uint8_t octets[PIECE + 1];
+    uint32_t way = any(10);
+    if (way < 4)
+        one_is_fed(octets, some_octets(&peer, octets, life));
+    else if (way < 6)
+        peer_is_fed();
+    else if (way == 6 && any(8) == 0)
+        connects(is_caller ? &one : &peer);
+    else
+        calls(way < 8 ? &one : &peer);
+}
+
+/* Where a judge may say less of the peer than the end does. */
+static bool is_liberty(void)
+{
+    return false;
+}
+
+static void live_once(uint32_t class)
+{
+    osi_terms terms = {class == 0 ? OSI_CLASS_0 : OSI_CLASS_2, (uint8_t)(7 + any(7)), (uint8_t)(1 + any(15))};
+    bool is_caller = any(2) == 0;
+    enum life life = (enum life)(1 + any(2));
+    text_clear(&history);
+    told = (struct told){false, 0};
+    said = NOTHING_SAID;
+    side_of_one = is_caller ? OSI_LEFT : OSI_RIGHT;
+    if ((is_caller ? osi_caller : osi_called)(&one, &terms) || (is_caller ? osi_called : osi_caller)(&peer, &terms) || osi_watch_new(&judge))
+        abort();
+    connects(is_caller ? &one : &peer);
+    for (int i = 0; i < STEPS && !has_told(); i++)
+        step(is_caller, life);
+    judge_says();
+    if (has_told()) {
+        counted[class / 2][told.is_unit][told.code][said] += 1;
+        holds(said == BLAMED || is_liberty(), "the end tells of %s %u, and the judge says %s of the peer\n%s",
+              told.is_unit ? "a bad unit" : "a fault", told.code, said == NOT_JUDGED ? "that it is not judged" : "nothing", history.at);
+    }
+    osi_free(&one);
+    osi_free(&peer);
+    osi_watch_free(&judge);
+    runs += 1;
+}
+
+static void print_counts(void)
+{
+    for (uint32_t class = 0; class < 2; class++)
+        for (uint32_t unit = 0; unit < 2; unit++)
+            for (uint32_t code = 0; code < CODES; code++) {
+                const uint64_t *row = counted[class][unit][code];
+                uint64_t all = row[NOTHING_SAID] + row[NOT_JUDGED] + row[BLAMED];
+                if (all > 0)
+                    printf("faults: class %u, %s %2u: %llu; the judge blames the peer in %llu, judges no further in %llu\n", class * 2,
+                           unit ? "bad unit" : "end", code, (unsigned long long)all, (unsigned long long)row[BLAMED],
+                           (unsigned long long)row[NOT_JUDGED]);
+            }
+}
+
+int main(int count, char **words)
+{
+    const struct rounds rounds = rounds_of(count, words, 20000);
+    for (uint64_t round = rounds.first; round < rounds.first + rounds.runs; round++) {
+        any_begin(rounds.seed, round);
+        live_once(round % 2 == 0 ? 0 : 2);
+    }
+    print_counts();
+    return counts("faults");
+}
