@@ -27,8 +27,11 @@ enum said { NOTHING_SAID, NOT_JUDGED, BLAMED, SAYINGS };
 static osi_end one = OSI_END, peer = OSI_END;
 static osi_watch judge = OSI_WATCH;
 static struct text history;
+/* All octets that the end used. */
+static struct text used;
 static struct told told;
 static enum said said;
+static bool begins_in_the_middle;
 static uint32_t side_of_one;
 static uint64_t counted[2][2][CODES][SAYINGS];
 
@@ -60,6 +63,7 @@ static void judge_says(void)
         holds(v.side != side_of_one || !blames, "an end is blamed: %s", line);
         if (v.side == side_of_one)
             continue;
+        begins_in_the_middle = begins_in_the_middle || v.rule == OSI_RULE_NO_OPENING;
         enum said more = blames ? BLAMED : NOT_JUDGED;
         said = more > said ? more : said;
     }
@@ -97,6 +101,9 @@ static void one_is_fed(const uint8_t *octets, size_t length)
         if (osi_feed(&one, octets, length, &fed) != OSI_OK)
             abort();
         judge_feeds(1 - side_of_one, octets, fed.used);
+        text_grow(&used, fed.used + 1);
+        memcpy(used.at + used.length, octets, fed.used);
+        used.length += fed.used;
         while (osi_next(&one, &shown))
             looked_at(&shown);
         look_at_end();
@@ -155,10 +162,26 @@ static void step(bool is_caller, enum life life)
         calls(way < 8 ? &one : &peer);
 }
 
-/* Where a judge may say less of the peer than the end does. */
+/* The code of the last unit that the end used, if it came alone in its packet; else 0. */
+static uint8_t code_of_the_last(void)
+{
+    const uint8_t *octets = (const uint8_t *)used.at;
+    uint8_t code = 0;
+    for (size_t at = 0, length; at + 6 <= used.length; at += length) {
+        length = (size_t)octets[at + 2] * 256 + octets[at + 3];
+        bool is_packet = octets[at] == 3 && length >= 7 && at + length <= used.length;
+        code = is_packet && octets[at + 4] + 5u == length ? octets[at + 5] & 0xf0 : 0;
+        if (!is_packet)
+            return 0;
+    }
+    return code;
+}
+
+/* Where a judge may say less of the peer than the end does. What begins with another unit than a CR may have begun before. And a DC
+ * with any references may answer a DR that refused a CR. */
 static bool is_liberty(void)
 {
-    return false;
+    return begins_in_the_middle || (said == NOTHING_SAID && code_of_the_last() == 0xc0);
 }
 
 static void live_once(uint32_t class)
@@ -166,15 +189,19 @@ static void live_once(uint32_t class)
     osi_terms terms = {class == 0 ? OSI_CLASS_0 : OSI_CLASS_2, (uint8_t)(7 + any(7)), (uint8_t)(1 + any(15))};
     bool is_caller = any(2) == 0;
     enum life life = (enum life)(1 + any(2));
+    /* Until then the peer does no wrong, so that the end comes into every phase. */
+    int hostile_from = any(3) == 0 ? 0 : (int)any(STEPS);
     text_clear(&history);
+    text_clear(&used);
     told = (struct told){false, 0};
     said = NOTHING_SAID;
+    begins_in_the_middle = false;
     side_of_one = is_caller ? OSI_LEFT : OSI_RIGHT;
     if ((is_caller ? osi_caller : osi_called)(&one, &terms) || (is_caller ? osi_called : osi_caller)(&peer, &terms) || osi_watch_new(&judge))
         abort();
     connects(is_caller ? &one : &peer);
     for (int i = 0; i < STEPS && !has_told(); i++)
-        step(is_caller, life);
+        step(is_caller, i < hostile_from ? HONEST : life);
     judge_says();
     if (has_told()) {
         counted[class / 2][told.is_unit][told.code][said] += 1;

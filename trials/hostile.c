@@ -86,6 +86,22 @@ static size_t packet_at_random(uint8_t *octets)
     return length;
 }
 
+/* A packet around a unit of transport, with references that connections may have. */
+static size_t transport_at_random(uint8_t *octets)
+{
+    static const uint8_t codes[] = {0xe0, 0xd0, 0x80, 0xc0, 0x60, 0x70};
+    uint8_t code = codes[any(sizeof codes)];
+    uint8_t class_or_reason = code >= 0xd0 ? (uint8_t)(any(2) * 0x20) : (uint8_t)(0x80 * any(2));
+    uint8_t unit[] = {0, (uint8_t)(code == 0x60 ? code | any(4) : code), 0, (uint8_t)any(4), 0, (uint8_t)any(4), class_or_reason};
+    size_t length = code == 0x60 || code == 0x70 ? 5 : code == 0xc0 ? 6 : 7;
+    unit[0] = (uint8_t)(length - 1);
+    octets[0] = 3;
+    octets[1] = octets[2] = 0;
+    octets[3] = (uint8_t)(4 + length);
+    memcpy(octets + 4, unit, length);
+    return 4 + length;
+}
+
 static size_t from_the_peer(osi_end *peer, uint8_t *octets)
 {
     osi_octets there;
@@ -94,6 +110,16 @@ static size_t from_the_peer(osi_end *peer, uint8_t *octets)
     memcpy(octets, there.at, length);
     osi_taken(peer, length);
     return length;
+}
+
+/* What the peer has to send, twice; or it is lost, and what it has to send next is not. */
+static size_t twice_or_not(osi_end *peer, uint8_t *octets)
+{
+    size_t length = from_the_peer(peer, octets);
+    if (any(2) == 0)
+        return from_the_peer(peer, octets);
+    memcpy(octets + length, octets, length);
+    return 2 * length;
 }
 
 /* All that the peer has to send, with an octet changed after the headers of its first packet. */
@@ -114,6 +140,10 @@ size_t some_octets(osi_end *peer, uint8_t *octets, enum life life)
         return packet_at_random(octets);
     if (way < 3)
         return with_another_unit(peer, octets);
+    if (way == 6)
+        return transport_at_random(octets);
+    if (way < 9 && way > 6)
+        return twice_or_not(peer, octets);
     if (life == HOSTILE && way == 3)
         return changed(octets, from_the_peer(peer, octets));
     if (life == HOSTILE && way == 4)
