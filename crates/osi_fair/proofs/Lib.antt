@@ -64,6 +64,7 @@ pub mod what_has_come_with_one_unit_more
 pub mod a_unit_of_the_other_side_passes
 pub mod a_stray_dc_of_the_other_side_passes
 pub mod what_a_whole_end_takes
+pub mod a_dc_follows_a_dr
 pub mod what_a_unit_leaves_at_a_calling_end
 pub mod a_whole_end_takes_a_unit
 pub mod a_whole_end_makes_a_call

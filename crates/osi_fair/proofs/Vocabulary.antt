@@ -77,6 +77,7 @@ pub use Rattle.osi_rules.specs.Sides.{begins, is_closed, is_closing, is_free, is
 pub use Rattle.osi_rules.specs.Sides.{is_silent, other, own, seen, theirs, uses}
 pub use Rattle.osi_rules.specs.Traffic.{Outcome, State as Traffic, asked_by, asks_by, asks_kept, asks_of, at_found, at_place, begun_after}
 pub use Rattle.osi_rules.specs.Traffic.{class_for, class_of, closing_phase, connection_after, course_after, course_after_none}
+pub use Rattle.osi_rules.specs.Traffic.{disconnects_begin, has_disconnected, knows_disconnect, may_answer, no_disconnects, with_disconnect}
 pub use Rattle.osi_rules.specs.Traffic.{course_begins, found, found_on, fresh, half_after, has_broken, has_erred, in_doubt, is_not_judged}
 pub use Rattle.osi_rules.specs.Traffic.{is_stopped, is_stray, judged_on, none_told, noted, offer_of, one_told, packet_begins, placed}
 pub use Rattle.osi_rules.specs.Traffic.{reached, refused, refused_reach, request_tests, route, route_in, route_two, route_zero, routed}
@@ -86,6 +87,7 @@ pub use Rattle.osi_rules.specs.declared.connections.Offer.{Offer}
 pub use Rattle.osi_rules.specs.declared.courses.Course.{Course}
 pub use Rattle.osi_rules.specs.declared.directions.Direction.{Direction}
 pub use Rattle.osi_rules.specs.declared.directions.Direction.TheVariants.{Left, Right}
+pub use Rattle.osi_rules.specs.declared.disconnects.Disconnects.{Disconnects}
 pub use Rattle.osi_rules.specs.declared.findings.Finding.{Finding}
 pub use Rattle.osi_rules.specs.declared.findings.Finding.TheVariants.{Broke, Kept, NotJudged, Outside, TooMany}
 pub use Rattle.osi_rules.specs.declared.findings.Reach.{Reach}

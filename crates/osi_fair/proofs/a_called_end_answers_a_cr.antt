@@ -72,7 +72,7 @@ module _ (local : Local) (w : Whole) (f : Called local w) (was : w.end.ended ≡
   untagged_later : AllByRecursion Untagged later
   untagged_later = (subst (AllByRecursion Untagged) came f.untagged).1
 
-  known_later : w.tap.course.strays ≡ false → AllByRecursion (IsKnown s.given) coming
+  known_later : w.tap.course.disconnects.strays ≡ false → AllByRecursion (IsKnown s.given) coming
   known_later none = grind arith
 
   -- the connection of the CR
@@ -154,7 +154,7 @@ module _ (local : Local) (w : Whole) (f : Called local w) (was : w.end.ended ≡
   -- ---- it is refused
 
   module _ (t : State) (reason : ℕ) (live : t.live ≡ s.live) (given : t.given ≡ s.given)
-      (timely : w.tap.course.strays ≡ false → t.ended ≡ None → Timely t coming w.tap.connections (values f.tagged)) where
+      (timely : w.tap.course.disconnects.strays ≡ false → t.ended ≡ None → Timely t coming w.tap.connections (values f.tagged)) where
     abbrev dr : Value
     dr = disconnect x.source 0 reason []
 
@@ -172,8 +172,8 @@ module _ (local : Local) (w : Whole) (f : Called local w) (was : w.end.ended ≡
         (sym same) (stand_dr c (subst (λ (y : Connection). Asked x y) is place.asked))
     dr_by i c false e at = stand_else dr t (grind arith) i c (unlike i p e) at
 
-    stray_dr : (v : Value) (rest : List Placed) → IsStray f.shut s f.refs f.home w.tap.course.strays v rest →
-        IsStray f.shut t f.refs f.home w.tap.course.strays v (rest ++ (Some p, dr) ∷ [])
+    stray_dr : (v : Value) (rest : List Placed) → IsStray f.shut s f.refs f.home w.tap.course.disconnects.strays v rest →
+        IsStray f.shut t f.refs f.home w.tap.course.disconnects.strays v (rest ++ (Some p, dr) ∷ [])
     stray_dr v rest a = search (arith, at_join, at_other, no_number, place, append-nil)
 
     pub is_refused : Called local (record w { end = t; put = w.put ++ dr ∷ []; coming = coming })
@@ -213,7 +213,7 @@ module _ (local : Local) (w : Whole) (f : Called local w) (was : w.end.ended ≡
       (rows : (m : ℕ) → m ≤ s.given → value_at m t.live ≡ value_at m s.live)
       (new : value_at (s.given + 1) t.live ≡ Some (linked x.source (opened_link Two size local x.credit)))
       (others : (m peer : ℕ) (l : Standing) → value_at m t.live ≡ Some (linked peer l) → (m ≡ s.given + 1 → ⊥) → m ≤ s.given)
-      (timely : w.tap.course.strays ≡ false → t.ended ≡ None → Timely t coming w.tap.connections (values f.tagged)) where
+      (timely : w.tap.course.disconnects.strays ≡ false → t.ended ≡ None → Timely t coming w.tap.connections (values f.tagged)) where
     abbrev r : ℕ
     r = s.given + 1
 
@@ -314,7 +314,8 @@ module _ (local : Local) (w : Whole) (f : Called local w) (was : w.end.ended ≡
       positive = λ i m h. positive_by i m (i == p) refl h;
       linked_at = λ lasts m peer l there. linked_cc m peer l (m == r) refl there;
       shut_given = λ m e. subst (λ (j : ℕ). m ≤ j) (sym given) (let up = f.shut_given m e in omega arith);
-      strays = strays_keep f.shut f.shut s t f.refs (λ i. refs i) f.home (λ m. home m) w.tap.course.strays f.tagged ((Some p, cc_is) ∷ [])
+      strays = strays_keep f.shut f.shut s t f.refs (λ i. refs i) f.home (λ m. home m) w.tap.course.disconnects.strays f.tagged
+          ((Some p, cc_is) ∷ [])
           (grind (arith, units_at, home_old, at_join, at_other, append-nil)) (tt, tt) f.strays;
       last = f.last;
       tops = f.tops;

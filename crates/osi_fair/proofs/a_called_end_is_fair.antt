@@ -4,7 +4,7 @@ use Rattle.osi_fair.proofs.Vocabulary.{[], ap, arith, false, inl, inr, List, Non
 use Rattle.osi_fair.proofs.Vocabulary.{◌≡◌, ◌≢◌, ◌⊎◌, slice_get, HasFieldsInRange, Value, Local, orderly_fresh, react, user_does, UserCall}
 use Rattle.osi_fair.proofs.Vocabulary.{Class, Two, Zero, is_live, fresh, is_stopped, packet_begins, Traffic, takes, Connection, Left}
 use Rattle.osi_fair.proofs.Vocabulary.{Right, all_passed, HoldsOfOne, packet, passes, Passing, rubbish, unit as passing, put_by, put_for}
-use Rattle.osi_fair.proofs.Vocabulary.{arrives, begin, calls, Event, HappenAlong, Happens, MayCall, passes_rubbish, Whole}
+use Rattle.osi_fair.proofs.Vocabulary.{knows_disconnect, arrives, begin, calls, Event, HappenAlong, Happens, MayCall, passes_rubbish, Whole}
 use Rattle.osi_fair.specs.Wholes.{begins_other, begins_own, passes_other, passes_own}
 use Rattle.osi_fair.proofs.a_called_end_selects_class_zero.{Selected, Selecting, selected_begins, selected_calls, selected_takes}
 use Rattle.osi_fair.proofs.a_called_end_selects_class_zero.{selecting_begins, selecting_calls, selecting_takes}
@@ -15,6 +15,7 @@ use Rattle.osi_fair.proofs.one_request_waits.{one_waits}
 use Rattle.osi_fair.proofs.a_called_end_is_judged_as_the_other_side_is.{IsNotBlamed, other_judged, own_judged}
 use Rattle.osi_fair.proofs.a_called_end_makes_a_call.{makes_so}
 use Rattle.osi_fair.proofs.what_becomes_of_a_called_end.{IsCalled}
+use Rattle.osi_fair.proofs.a_dc_follows_a_dr.{Informed, dc_known, first_informed, next_informed}
 use Rattle.osi_fair.proofs.a_dc_for_what_is_gone_passes.{stray_passes}
 use Rattle.osi_fair.proofs.a_reference_names_one_connection.{fresh_apart, no_item, passes_apart}
 use Rattle.osi_fair.proofs.a_unit_of_a_called_end_passes.{IsFineAt, one_passes}
@@ -29,13 +30,14 @@ use Rattle.osi_fair.proofs.what_holds_of_one_item.{HoldsOfEach}
 use Rattle.osi_fair.proofs.what_keeps_names_apart.{AreApart}
 use Rattle.osi_fair.proofs.what_lasts_at_the_tap.{lasts_passing}
 use Rattle.osi_fair.proofs.which_unit_comes_to_a_called_end.{IsCalm, by_reach, calm_before}
+use Rattle.osi_fair.proofs.which_units_are_for_a_connection.{is_dc}
 use Rattle.osi_fair.proofs.an_end_has_broken_no_rule.{other_fine, own_fine, right_not, rubbish_fine}
 
 -- ---- a unit of the end
 
 module _ (local : Local) (w : Whole) (f : Called local w) (apart : AreApart w.tap.connections)
     (named : AreNamedApart Left w.tap.connections) (judged : AreJudged w.tap) (right : w.tap.course.right_stopped ≡ false) (v : Value)
-    (rest : List Value) (begun : w.begun ≡ true) where
+    (rest : List Value) (begun : w.begun ≡ true) (knows : is_dc v ≡ true → knows_disconnect Right w.tap.course.disconnects ≡ true) where
   abbrev Passed : Type 0
   Passed = IsFineAt v w.tap × Called local (record w { put = rest; begun = false; tap = (takes Right v w.tap).state })
       × AreNamedApart Left (takes Right v w.tap).state.connections
@@ -47,7 +49,7 @@ module _ (local : Local) (w : Whole) (f : Called local w) (apart : AreApart w.ta
       one_passes local w f apart named judged right v rest begun p later tagged rest_are c e (f.stands p c e)
 
   by_tag : (o : Option ℕ) (later : List Placed) → f.tagged ≡ (o, v) ∷ later → rest ≡ values later → Passed
-  by_tag None later tagged rest_are = grind (arith, stray_passes local w f right v rest later tagged rest_are)
+  by_tag None later tagged rest_are = grind (arith, stray_passes local w f right v rest later tagged rest_are knows)
   by_tag (Some p) later tagged rest_are = at_place p later tagged rest_are (slice_get w.tap.connections p) refl
 
   own_passes : w.put ≡ v ∷ rest → Passed
@@ -75,6 +77,8 @@ pub record Joined (local : Local) (w : Whole) : Type 0 where
   pub right : w.tap.course.left_stopped ≡ false → w.tap.course.right_stopped ≡ false
   -- and it has broken no rule
   pub fine : w.tap.course.left_stopped ≡ false → w.tap.course.right_erred ≡ false
+  -- the tap knows of each DC that it puts
+  pub informed : Informed Right w
 
 calm_was : (p : Passing) (w : Whole) → IsCalm (passes p w.tap).course → IsCalm w.tap.course
 calm_was p w h = calm_before w.tap.course (passes p w.tap).course (lasts_passing p w.tap) h
@@ -132,7 +136,9 @@ module _ (local : Local) (w : Whole) (j : Joined local w) where
 
   pub passes_stage : (v : Value) (rest : List Value) → w.put ≡ v ∷ rest → w.begun ≡ true → IsCalm w.tap.course → Stage local w →
       Passes v rest
-  passes_stage v rest e begun calm (lines f c named) = grind (arith, own_passes local w f j.apart named j.judged calm.right v rest begun e)
+  passes_stage v rest e begun calm (lines f c named) =
+      let knows = dc_known Right w v rest j.informed calm.left begun e in
+      grind (arith, own_passes local w f j.apart named j.judged calm.right v rest begun knows e)
   passes_stage v rest e begun calm (selecting f) =
       let all = firm_in None f.class (λ no. cc no) in
       let (fine, after) = selecting_passes local w j.apart all calm.right v rest begun e f in (inl fine, selected after)
@@ -158,6 +164,7 @@ next_joined local arrives w new (u, coming, is) j = subst (Joined local) (sym is
   stage = λ calm. takes_stage local w j u new.coming coming calm (j.stage calm);
   right = j.right;
   fine = j.fine;
+  informed = next_informed Right arrives w _ (u, coming, refl) j.informed;
 })
 next_joined local (calls call) w new (may, is) j = subst (Joined local) (sym is) (record {
   apart = j.apart;
@@ -168,6 +175,7 @@ next_joined local (calls call) w new (may, is) j = subst (Joined local) (sym is)
   stage = λ calm. calls_stage local w j call may (j.stage calm);
   right = j.right;
   fine = j.fine;
+  informed = next_informed Right (calls call) w _ (may, refl) j.informed;
 })
 next_joined local begins_own w new (some, not_begun, is) j = subst (Joined local) (sym is) (record {
   apart = passes_apart (packet Right) w.tap j.apart;
@@ -178,6 +186,7 @@ next_joined local begins_own w new (some, not_begun, is) j = subst (Joined local
   stage = λ calm. own_stage local w j not_begun some (j.stage (calm_was (packet Right) w calm));
   right = j.right;
   fine = j.fine;
+  informed = next_informed Right begins_own w _ (some, not_begun, refl) j.informed;
 })
 next_joined local passes_own w new (v, put, begun, is) j = subst (Joined local) (sym is) (record {
   apart = passes_apart (passing Right v) w.tap j.apart;
@@ -197,6 +206,7 @@ next_joined local passes_own w new (v, put, begun, is) j = subst (Joined local) 
       let before : IsCalm w.tap.course = record { left = l.left left; right = j.right (l.left left) } in
       own_fine Right v w.tap (right_not (takes Right v w.tap).told.finding
       (mild w v (passes_stage local w j v new.put put begun before (j.stage before)).0)) (j.fine (l.left left));
+  informed = next_informed Right passes_own w _ (v, put, begun, refl) j.informed;
 })
 next_joined local begins_other w new is j = subst (Joined local) (sym is) (record {
   apart = passes_apart (packet Left) w.tap j.apart;
@@ -207,6 +217,7 @@ next_joined local begins_other w new is j = subst (Joined local) (sym is) (recor
   stage = λ calm. other_stage local w j (j.stage (calm_was (packet Left) w calm));
   right = j.right;
   fine = j.fine;
+  informed = next_informed Right begins_other w _ refl j.informed;
 })
 next_joined local (passes_other v) w new (ranges, is) j = subst (Joined local) (sym is) (record {
   apart = passes_apart (passing Left v) w.tap j.apart;
@@ -219,6 +230,7 @@ next_joined local (passes_other v) w new (ranges, is) j = subst (Joined local) (
   right = grind (arith, lasts_passing, other_judged);
   fine = λ left.
       let l = lasts_passing (passing Left v) w.tap in other_fine Right v w.tap (j.fine (l.left left));
+  informed = next_informed Right (passes_other v) w _ (ranges, refl) j.informed;
 })
 next_joined local passes_rubbish w new is j = subst (Joined local) (sym is) (record {
   apart = passes_apart (rubbish Left) w.tap j.apart;
@@ -229,6 +241,7 @@ next_joined local passes_rubbish w new is j = subst (Joined local) (sym is) (rec
   stage = λ calm. by_reach w.tap.course.class_seen w.tap.course calm;
   right = grind (arith, lasts_passing);
   fine = grind (arith, lasts_passing, rubbish_fine);
+  informed = next_informed Right passes_rubbish w _ refl j.informed;
 })
 
 pub all_joined : (local : Local) (events : List Event) (w new : Whole) → HappenAlong Right w events new → Joined local w →
@@ -246,6 +259,7 @@ first_joined local = record {
   two = record { lost = λ e. absurd (cc e); seen = λ e. absurd (cc e) };
   right = λ left. refl;
   fine = λ left. refl;
+  informed = first_informed Right false local;
   stage = λ calm. lines (record {
     tagged = [];
     put = refl;

@@ -23,7 +23,7 @@ use Rattle.osi_fair.proofs.which_unit_comes_to_a_called_end.{IsCalm}
 
 -- ---- whatever the other side sends
 
-none_seen : (v : Value) (c : Course) → (course_after_none v c).class_seen ≡ c.class_seen
+none_seen : (v : Value) (c : Course) → (course_after_none Left v c).class_seen ≡ c.class_seen
 none_seen v c = grind arith
 
 module _ (w : Whole) (f : Selected w) where

@@ -118,13 +118,13 @@ module _ (local : Local) (w : Whole) (f : Called local w) (c : IsCalled local w.
   untagged_all = subst (AllByRecursion Untagged) head.is f.untagged
 
   timely_then : s.ended ≡ None → (e : State) → s.given ≤ e.given → ((m : ℕ) → IsLive s m → (shuts_of u ≡ Some m → ⊥) → IsLive e m) →
-      w.tap.course.strays ≡ false → Timely e later w.tap.connections (values f.tagged)
+      w.tap.course.disconnects.strays ≡ false → Timely e later w.tap.connections (values f.tagged)
   timely_then was e given lives none = timely_takes s e u later w.tap.connections (values f.tagged) given lives
       (subst (λ (l : List Value). Timely s l w.tap.connections (values f.tagged)) come (f.timely none was))
 
   -- a DR for what is gone comes only if a DR has closed nothing
   gone_dr : s.ended ≡ None → (n source reason : ℕ) (user : List ℕ) → u ≡ disconnect n source reason user → value_at n s.live ≡ None →
-      (b : Bool) → w.tap.course.strays ≡ b → b ≡ true
+      (b : Bool) → w.tap.course.disconnects.strays ≡ b → b ≡ true
   gone_dr was n source reason user e here b is = grind (arith, differ)
 
   -- ---- the end has ended, or ends
@@ -301,7 +301,7 @@ module _ (local : Local) (w : Whole) (f : Called local w) (c : IsCalled local w.
         let a = to_unknown (disconnect n source reason user) s in
         let dr : IsFor s.given (disconnect n source reason user) = subst (IsFor s.given) e few_all.0 in
         let (given, one) = given_so n s.given source reason user (dr n refl) in
-        let strays = gone_dr was n source reason user e here w.tap.course.strays refl in
+        let strays = gone_dr was n source reason user e here w.tap.course.disconnects.strays refl in
         by_both a (disconnected source n ∷ []) is puts (
           left_alone local w f a (disconnected source n ∷ []) later head.later n u
               (λ p k row. no_row (value_at n s.live) (linked p k) here row)

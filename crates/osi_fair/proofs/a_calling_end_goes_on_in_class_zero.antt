@@ -1,5 +1,6 @@
 -- A calling end in class 0: what holds once the CC has passed that selects it, as the end takes that CC, as it goes on, and as units
 -- pass. For the laws on whole calling ends.
+use Rattle.osi_fair.proofs.Vocabulary.{Disconnects}
 use Rattle.osi_fair.proofs.Vocabulary.{[], ap, arith, Bool, false, IfSome, if◌then◌else◌, length, List, None, Option, option_map, refl, set}
 use Rattle.osi_fair.proofs.Vocabulary.{Some, subst, sym, true, ℕ, ◌++◌, ◌+◌, ◌-◌, ◌^◌, ◌∙◌, ◌∷◌, ◌≡◌, ◌≤◌, ◌⊎◌, pow-le-pow_right, eqb-true}
 use Rattle.osi_fair.proofs.Vocabulary.{slice_get-map, min, not, position, slice_get, ◌&&◌, ◌==◌, ◌||◌, size_code, confirm, Connect, data0}
@@ -94,10 +95,11 @@ other_one : {A : Type 0} (cs : List Connection) (p i : ℕ) (new e : Connection)
     ((i ≡ p) × (e ≡ new)) ⊎ ((i ≡ p → ⊥) × (slice_get cs i ≡ Some e)) → (i ≡ p → ⊥) → (slice_get cs i ≡ Some e → A) → A
 other_one cs p i new e h other k = grind arith
 
-pub confirmed_so : (n r p : ℕ) (o : Offer) (x : Connect) (cs : List Connection) (strays erred : Bool) (end : State) → (w : Waits r p o cs) →
+pub confirmed_so : (n r p : ℕ) (o : Offer) (x : Connect) (cs : List Connection) (drs : Disconnects) (erred : Bool) (end : State) →
+    (w : Waits r p o cs) →
     IsConnect x → IsCalling (one r) end → (x.class == 2) ≡ false →
-    IsZeroed (react (confirm n x) end) [] false (confirmed_tap p n x w.c cs strays erred)
-confirmed_so n r p o x cs strays erred end w range is zero =
+    IsZeroed (react (confirm n x) end) [] false (confirmed_tap p n x w.c cs drs erred)
+confirmed_so n r p o x cs drs erred end w range is zero =
     let new = sent_on Right (confirm n x) w.c in
     record {
       tap = record {
@@ -274,7 +276,7 @@ after_seen : (v : Value) → IsOnly v → (c : Connection) (b : Bool) (o : Cours
     (course_after Right c v b o).class_seen ≡ o.class_seen
 after_seen v k c b o = grind arith
 
-none_same : (v : Value) → IsOnly v → (o : Course) → course_after_none v o ≡ o
+none_same : (v : Value) → IsOnly v → (o : Course) → course_after_none Right v o ≡ o
 none_same v k o = grind arith
 
 module _ (end : State) (units : List Value) (begun : Bool) (s : Traffic) (f : IsZeroed end units begun s) where

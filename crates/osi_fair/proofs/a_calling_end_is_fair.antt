@@ -77,7 +77,7 @@ all_stand local (event ∷ events) w new (mid, first, more) j = all_stand local 
 pub calling_fair : (local : Local) (events : List Event) (w : Whole) (v : Value) (rest : List Value) →
     HappenAlong Left (begin true local) events w → w.begun ≡ true → w.put ≡ v ∷ rest → is_stopped Right w.tap.course ≡ false →
     ((takes Left v w.tap).told.finding ≡ Kept) ⊎ (((takes Left v w.tap).told.finding ≡ TooMany)
-    ⊎ (((takes Left v w.tap).told.finding ≡ NotJudged) × ((w.tap.course.strays ≡ true) ⊎ (w.tap.course.loose ≡ true))))
+    ⊎ (((takes Left v w.tap).told.finding ≡ NotJudged) × ((w.tap.course.disconnects.strays ≡ true) ⊎ (w.tap.course.loose ≡ true))))
 calling_fair local events w v rest along begun e right =
     is_fine local w v rest (all_stand local events (begin true local) w along (search (arith, first_joined, holds_first))) e begun right
 

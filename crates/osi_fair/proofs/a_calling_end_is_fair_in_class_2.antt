@@ -11,6 +11,7 @@ use Rattle.osi_fair.proofs.Vocabulary.{begins_other, begins_own}
 use Rattle.osi_fair.specs.Wholes.{passes_other, passes_own}
 use Rattle.osi_fair.proofs.small_facts_that_many_lemmas_use.{differ, none_of}
 use Rattle.osi_fair.proofs.a_dr_for_what_is_gone.{Firsts, Holds as Kept_so, Known, before_going, next_holds}
+use Rattle.osi_fair.proofs.a_dc_follows_a_dr.{Informed, dc_known, first_informed, next_informed}
 use Rattle.osi_fair.proofs.a_dc_for_a_stray_dr_passes.{dc_goes}
 use Rattle.osi_fair.proofs.a_stray_dc_of_the_other_side_passes.{idle_passes, idle_peers}
 use Rattle.osi_fair.proofs.a_reference_names_one_connection.{no_item}
@@ -26,7 +27,7 @@ use Rattle.osi_fair.proofs.the_end_is_judged_as_the_other_side_is.{IsMild}
 use Rattle.osi_fair.proofs.names_stay_apart_though_one_is_lost.{AreNamedApart, end_begins, side_begins}
 use Rattle.osi_fair.proofs.what_a_calling_end_still_has.{call_after, over_not, unit_after}
 use Rattle.osi_fair.proofs.what_becomes_of_a_connection.{IsIdle, Told, comes_for}
-use Rattle.osi_fair.proofs.which_units_are_for_a_connection.{IsOf, ours_so}
+use Rattle.osi_fair.proofs.which_units_are_for_a_connection.{IsOf, is_dc, ours_so}
 use Rattle.osi_fair.proofs.what_the_other_side_closes.{IsOngoing, IsDr, IsPlain, closed_by}
 use Rattle.osi_fair.proofs.what_is_live_at_a_called_end.{IsLive}
 use Rattle.osi_fair.proofs.an_end_has_broken_no_rule.{mild_not, other_fine, own_fine, rubbish_fine}
@@ -43,6 +44,8 @@ pub record Joined (local : Local) (w : Whole) : Type 0 where
   pub peers : IsOngoing w.tap.course → AreNamedApart Right w.tap.connections
   -- the end has broken no rule
   pub fine : IsOngoing w.tap.course → w.tap.course.left_erred ≡ false
+  -- the tap knows of each DC that it puts
+  pub informed : Informed Left w
 
 orderly_calls : (call : UserCall) (s : State) → MayCall call s → IsOrderly s → IsOrderly (user_does call s)
 orderly_calls (connects calling called) s may h = orderly_asks calling called s may h
@@ -55,7 +58,7 @@ head_live : (w : Whole) (u : Value) (later : List Value) → w.coming ≡ u ∷ 
     IsDr u → (n : ℕ) → closed_by u ≡ Some n → IsLive w.end n
 head_live w u later e firsts = (subst (Firsts (IsLive w.end)) e firsts).0
 
-plain_of : (c : Course) → IsOngoing c → c.strays ≡ false → IsPlain c
+plain_of : (c : Course) → IsOngoing c → c.disconnects.strays ≡ false → IsPlain c
 plain_of c h strays = record { left = h.sure.left; right = h.sure.right; strays = strays; two = h.two }
 
 module _ (local : Local) (w : Whole) (j : Joined local w) where
@@ -63,15 +66,16 @@ module _ (local : Local) (w : Whole) (j : Joined local w) where
   known_so = record { peers = j.peers; selects = λ going. next_selects local w (j.followed going); fine = j.fine }
 
   -- a DR that the end takes is for a connection that it has, or a DR that closed nothing has passed
-  known_by : (b : Bool) → w.tap.course.strays ≡ b → IsOngoing w.tap.course → (u : Value) (later : List Value) → w.coming ≡ u ∷ later →
-      w.end.ended ≡ None → IsDr u → (n : ℕ) → closed_by u ≡ Some n → IsLive w.end n ⊎ (w.tap.course.strays ≡ true)
+  known_by : (b : Bool) → w.tap.course.disconnects.strays ≡ b → IsOngoing w.tap.course → (u : Value) (later : List Value) →
+      w.coming ≡ u ∷ later →
+      w.end.ended ≡ None → IsDr u → (n : ℕ) → closed_by u ≡ Some n → IsLive w.end n ⊎ (w.tap.course.disconnects.strays ≡ true)
   known_by b e going u later come was dr n k = grind (arith, head_live, plain_of)
 
   taking : (u : Value) (later : List Value) → w.coming ≡ u ∷ later → IsOngoing w.tap.course →
       Followed local (record w { end = react u w.end; put = w.put ++ put_for u w.end; coming = later })
   taking u later e going =
       whole_takes local w (j.followed going) j.kept.sane (j.peers going) (j.kept.offers going) j.orderly (j.local_is going) u later e
-      (grind (arith, none_of, over_takes)) (λ was. known_by w.tap.course.strays refl going u later e was)
+      (grind (arith, none_of, over_takes)) (λ was. known_by w.tap.course.disconnects.strays refl going u later e was)
       (known_so.selects going u later e)
 
   calling : (call : UserCall) → MayCall call w.end → IsOngoing w.tap.course →
@@ -108,7 +112,7 @@ module _ (local : Local) (w : Whole) (j : Joined local w) where
 -- judgement.
 abbrev pub IsFine : Whole → Value → Type 0
 IsFine w v = ((takes Left v w.tap).told.finding ≡ Kept) ⊎ (((takes Left v w.tap).told.finding ≡ TooMany)
-    ⊎ (((takes Left v w.tap).told.finding ≡ NotJudged) × ((w.tap.course.strays ≡ true) ⊎ (w.tap.course.loose ≡ true))))
+    ⊎ (((takes Left v w.tap).told.finding ≡ NotJudged) × ((w.tap.course.disconnects.strays ≡ true) ⊎ (w.tap.course.loose ≡ true))))
 
 pub fine_request : (w : Whole) (v : Value) →
     ((takes Left v w.tap).told.finding ≡ Kept) ⊎ ((takes Left v w.tap).told.finding ≡ TooMany) → IsFine w v
@@ -132,14 +136,15 @@ module _ (local : Local) (w : Whole) (j : Joined local w) (v : Value) (rest : Li
       w.tap.course.loose ≡ b → b ≡ true
   is_loose p c h lost b is = grind (arith, differ)
 
-  stray_goes : (m source : ℕ) → v ≡ disconnected m source → w.tap.course.strays ≡ true → Goes local w v rest
+  stray_goes : (m source : ℕ) → v ≡ disconnected m source → w.tap.course.disconnects.strays ≡ true → Goes local w v rest
   stray_goes m source is strays =
       subst (λ (u : Value). Goes local w u rest) (sym is) (goes_of local w (disconnected m source) rest
-      (dc_goes local w f j.kept.sane (j.peers going) m source rest (e ∙ ap (λ (u : Value). u ∷ rest) is) begun going.sure.left strays))
+      (dc_goes local w f j.kept.sane (j.peers going) m source rest (e ∙ ap (λ (u : Value). u ∷ rest) is) begun going.sure.left strays
+      (dc_known Left w v rest j.informed going.sure.right begun e (ap is_dc is))))
 
   -- of a connection that has lost its judgement
   lost_goes : (p : ℕ) (c : Connection) → slice_get w.tap.connections p ≡ Some c → c.is_judged ≡ false → (m source : ℕ) →
-      IsIgnored v w.tap ⊎ ((v ≡ disconnected m source) × (w.tap.course.strays ≡ true)) → Goes local w v rest
+      IsIgnored v w.tap ⊎ ((v ≡ disconnected m source) × (w.tap.course.disconnects.strays ≡ true)) → Goes local w v rest
   lost_goes p c at lost m source (inl ignored) = record {
     fine = inr (inr (ignored.found, inr (is_loose p c at lost w.tap.course.loose refl)));
     followed = ignored_passes local w f j.kept.sane (j.peers going) v rest e begun going.sure.left ignored;
@@ -197,6 +202,7 @@ next_joined local arrives w new (u, coming, is) j =
       followed = λ going. taking local w j u new.coming coming going;
       peers = j.peers;
       fine = j.fine;
+      informed = next_informed Left arrives w after (u, coming, refl) j.informed;
     })
 next_joined local (calls call) w new (may, is) j =
     let after = record w { end = user_does call w.end; put = w.put ++ put_by call w.end } in
@@ -208,6 +214,7 @@ next_joined local (calls call) w new (may, is) j =
       followed = λ going. calling local w j call may going;
       peers = j.peers;
       fine = j.fine;
+      informed = next_informed Left (calls call) w after (may, refl) j.informed;
     })
 next_joined local begins_own w new (some, not_begun, is) j =
     let after = record w { begun = true; tap = packet_begins Left w.tap } in
@@ -219,6 +226,7 @@ next_joined local begins_own w new (some, not_begun, is) j =
       followed = λ going. own_begins local w not_begun some (j.followed (before_going (packet Left) w.tap going));
       peers = λ going. end_begins Right w.tap.connections j.kept.sane.apart (j.peers (before_going (packet Left) w.tap going));
       fine = λ going. j.fine (before_going (packet Left) w.tap going);
+      informed = next_informed Left begins_own w after (some, not_begun, refl) j.informed;
     })
 next_joined local passes_own w new (v, put, begun, is) j =
     let after = record w { put = new.put; begun = false; tap = (takes Left v w.tap).state } in
@@ -230,6 +238,7 @@ next_joined local passes_own w new (v, put, begun, is) j =
       followed = λ going. (goes local w j v new.put put begun (before_going (passing Left v) w.tap going)).followed;
       peers = λ going. (goes local w j v new.put put begun (before_going (passing Left v) w.tap going)).peers;
       fine = λ going. own_keeps local w v new.put j put begun (before_going (passing Left v) w.tap going);
+      informed = next_informed Left passes_own w after (v, put, begun, refl) j.informed;
     })
 next_joined local begins_other w new is j =
     let after = record w { tap = packet_begins Right w.tap } in
@@ -241,6 +250,7 @@ next_joined local begins_other w new is j =
       followed = λ going. other_begins local w (j.followed (before_going (packet Right) w.tap going));
       peers = λ going. side_begins Right w.tap.connections j.kept.sane.apart (j.peers (before_going (packet Right) w.tap going));
       fine = λ going. j.fine (before_going (packet Right) w.tap going);
+      informed = next_informed Left begins_other w after refl j.informed;
     })
 next_joined local (passes_other v) w new (ranges, is) j =
     let after = record w { tap = (takes Right v w.tap).state; coming = w.coming ++ v ∷ [] } in
@@ -252,6 +262,7 @@ next_joined local (passes_other v) w new (ranges, is) j =
       followed = λ going. (other_goes local w j v ranges going).0;
       peers = λ going. (other_goes local w j v ranges going).1;
       fine = λ going. other_fine Left v w.tap (j.fine (before_going (passing Right v) w.tap going));
+      informed = next_informed Left (passes_other v) w after (ranges, refl) j.informed;
     })
 next_joined local passes_rubbish w new is j =
     let after = record w { tap = passes (rubbish Right) w.tap } in
@@ -263,6 +274,7 @@ next_joined local passes_rubbish w new is j =
       followed = λ going. rubbish_by local w j going;
       peers = λ going. rubbish_by local w j going;
       fine = λ going. rubbish_fine Left Right w.tap (j.fine (before_going (rubbish Right) w.tap going));
+      informed = next_informed Left passes_rubbish w after refl j.informed;
     })
 
 pub all_joined : (local : Local) (events : List Event) (w new : Whole) → HappenAlong Left w events new → Joined local w →
@@ -272,7 +284,7 @@ all_joined local (event ∷ events) w new (mid, first, more) j =
     all_joined local events mid new more (next_joined local event w mid first j)
 
 pub first_joined : (local : Local) → local.class2 ≡ true → Joined local (begin true local)
-first_joined local two = grind (arith, no_item, known, holds_first local, orderly_fresh true local)
+first_joined local two = grind (arith, no_item, known, holds_first local, orderly_fresh true local, first_informed Left true local)
 
 has_none : {A : Type 0} (a b : Bool) → a ≡ false → b ≡ true → (a || not b) ≡ true → A
 has_none h b h2 k e = grind arith
@@ -286,6 +298,6 @@ module _ (local : Local) (w : Whole) (lasts : w.end.ended ≡ None) (no_zero : l
 pub gone : (local : Local) (events : List Event) (w : Whole) (n source reason : ℕ) (user : List ℕ) (more : List Value) →
     local.class0 ≡ false → local.class2 ≡ true → HappenAlong Left (begin true local) events w →
     w.coming ≡ disconnect n source reason user ∷ more → w.end.ended ≡ None → value_at n w.end.live ≡ None →
-    is_stopped Left w.tap.course ≡ false → is_stopped Right w.tap.course ≡ false → w.tap.course.strays ≡ true
+    is_stopped Left w.tap.course ≡ false → is_stopped Right w.tap.course ≡ false → w.tap.course.disconnects.strays ≡ true
 gone local events w n source reason user more no_zero two along coming lasts none left right =
     grind (arith, not_selected, all_joined local events (begin true local) w along (first_joined local two), first_joined local two)

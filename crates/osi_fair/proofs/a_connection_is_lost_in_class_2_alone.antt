@@ -3,7 +3,8 @@
 use Rattle.osi_fair.proofs.Vocabulary.{arith, false, None, Option, Some, true, ℕ, ◌≡◌, ◌⊎◌, Value, Class, Two, is_applied, reach_of}
 use Rattle.osi_fair.proofs.Vocabulary.{asks_of, at_found, class_for, course_after, course_after_none, found_on, none_told, Outcome, reached}
 use Rattle.osi_fair.proofs.Vocabulary.{routed, Traffic as State, takes, unnamed_told, Connection, Course, Direction, Finding, Reach, Route}
-use Rattle.osi_fair.proofs.Vocabulary.{passes, Passing, noted}
+use Rattle.osi_fair.proofs.Vocabulary.{passes, Passing, noted, disconnect, refl, sym, ◌∙◌}
+use Rattle.osi_rules.specs.Traffic.{unnamed}
 use Rattle.osi_rules.specs.declared.findings.Reach.TheVariants as reach
 use Rattle.osi_fair.proofs.what_lasts_at_the_tap.{Lasts, lasts_passing}
 
@@ -29,11 +30,15 @@ changes_from : (k : Option Class) (c mid after : Course) → mid.loose ≡ c.loo
     Changes k c after
 changes_from k c mid after loose seen h = grind arith
 
-none_loose : (v : Value) (c : Course) → (course_after_none v c).loose ≡ c.loose
-none_loose v c = grind arith
+none_loose : (d : Direction) (v : Value) (c : Course) → (course_after_none d v c).loose ≡ c.loose
+none_loose d v c = grind arith
 
-none_seen : (v : Value) (c : Course) → (course_after_none v c).class_seen ≡ c.class_seen
-none_seen v c = grind arith
+none_seen : (d : Direction) (v : Value) (c : Course) → (course_after_none d v c).class_seen ≡ c.class_seen
+none_seen d v c = grind arith
+
+none_class : (d : Direction) (v : Value) (c : Course) → class_for d (course_after_none d v c) ≡ class_for d c
+none_class d (disconnect n source reason user) c = refl
+none_class d _ c = refl
 
 -- ---- by the way that a unit takes
 
@@ -44,7 +49,12 @@ to_none : (d : Direction) (f : Finding) (s : State) → Keeps d s (none_told d f
 to_none d f s = search (arith, told_changes, connection_by)
 
 to_unnamed : (d : Direction) (v : Value) (s : State) → Keeps d s (unnamed_told d v s)
-to_unnamed d v s = search (arith, changes_from, none_loose, none_seen, told_changes, connection_by)
+to_unnamed d v s =
+    let mid = course_after_none d v s.course in
+    let f = unnamed d s.course v in
+    let r = reach_of (class_for d mid) f in
+    changes_from (class_for d s.course) s.course mid (noted d f (reached d r mid)) (none_loose d v s.course) (none_seen d v s.course)
+    (told_changes d (class_for d s.course) f r mid (λ e. sym (none_class d v s.course) ∙ connection_by (class_for d mid) f e))
 
 to_one : (d : Direction) (v : Value) (s : State) (p : ℕ) (o : Option Connection) → Keeps d s (at_found d v s p o)
 to_one d v s p None = to_unnamed d v s

@@ -6,6 +6,8 @@ use Rattle.osi_fair.proofs.Vocabulary.{first_failed, is_due, is_named, at_found,
 use Rattle.osi_fair.proofs.Vocabulary.{routed, set, Traffic, takes, Connection, Left, Right, found, in_doubt, Broke, NotJudged, Whole}
 use Rattle.osi_rules.specs.declared.findings.Rule.TheVariants as rule
 use Rattle.osi_fair.proofs.small_facts_that_many_lemmas_use.{and_first, and_second, both, judged_same, or_last}
+use Rattle.osi_fair.proofs.Vocabulary.{knows_disconnect, may_answer}
+use Rattle.osi_fair.proofs.a_dc_follows_a_dr.{may_so}
 use Rattle.osi_fair.proofs.a_right_unit_is_not_blamed.{first_there}
 use Rattle.osi_fair.proofs.a_unit_that_is_not_judged_passes.{IsIgnored, Passed, ignored_passes, ignored_peers, own_goes}
 use Rattle.osi_fair.proofs.each_connection_has_its_line.{Followed, is_tracked}
@@ -37,7 +39,7 @@ not_due false told false h k = cc
 doubt_none : (loose : Bool) → (if loose then in_doubt NotJudged else NotJudged) ≡ NotJudged
 doubt_none loose = grind arith
 
-module _ (m source : ℕ) (s : Traffic) (strays : s.course.strays ≡ true) where
+module _ (m source : ℕ) (s : Traffic) (strays : may_answer Left s.course.disconnects ≡ true) where
   abbrev v : Value
   v = disconnected m source
 
@@ -78,7 +80,8 @@ due_on c m source sound named h = grind (arith, and_first, and_second, both, or_
 
 module _ (local : Local) (w : Whole) (f : Followed local w) (sane : IsSane w.tap) (peers : AreNamedApart Right w.tap.connections)
     (m source : ℕ) (rest : List Value) (e : w.put ≡ disconnected m source ∷ rest) (begun : w.begun ≡ true)
-    (left : w.tap.course.left_stopped ≡ false) (strays : w.tap.course.strays ≡ true) where
+    (left : w.tap.course.left_stopped ≡ false) (strays : w.tap.course.disconnects.strays ≡ true)
+    (knows : knows_disconnect Left w.tap.course.disconnects ≡ true) where
   abbrev dc : Value
   dc = disconnected m source
 
@@ -93,4 +96,4 @@ module _ (local : Local) (w : Whole) (f : Followed local w) (sane : IsSane w.tap
   passes_by (due p c at named h judged) = search (arith, own_goes, due_on c m source (sane.apart.sound p c at judged) named h)
 
   pub dc_goes : Passed local w dc rest
-  dc_goes = passes_by (dc_passes m source w.tap strays left)
+  dc_goes = passes_by (dc_passes m source w.tap (may_so Left w.tap.course.disconnects strays knows) left)

@@ -6,10 +6,13 @@ use Rattle.osi_fair.proofs.Vocabulary.{is_closing, is_open, at_found, Outcome, T
 use Rattle.osi_fair.proofs.Vocabulary.{Whole}
 use Rattle.osi_rules.specs.declared.findings.Rule.TheVariants as rule
 use Rattle.osi_fair.proofs.small_facts_that_many_lemmas_use.{and_false, differ, is_false}
+use Rattle.osi_fair.proofs.Vocabulary.{knows_disconnect, may_answer}
+use Rattle.osi_fair.proofs.a_dc_follows_a_dr.{may_so}
 use Rattle.osi_fair.proofs.a_unit_of_a_called_end_passes.{IsFineAt}
 use Rattle.osi_fair.proofs.each_connection_of_a_called_end.{AreStrays, Called, IsStray, Stand, answers}
 use Rattle.osi_fair.proofs.units_by_their_place.{Placed, first_at, units_at, values}
 use Rattle.osi_fair.proofs.what_a_called_end_closes_is_to_pass.{close_waits}
+use Rattle.osi_fair.proofs.which_units_are_for_a_connection.{is_dc}
 use Rattle.osi_fair.proofs.while_no_class_is_selected.{set_same}
 
 due_parts : (a b c : Bool) → (a && (b && c)) ≡ true → (a ≡ true) × (c ≡ true)
@@ -27,7 +30,7 @@ record Spared (u : Value) (s : Traffic) (o : Outcome) : Type 0 where
   finding : o.told.finding ≡ NotJudged
   state : o.state ≡ s
 
-module _ (m n : ℕ) (s : Traffic) (strays : s.course.strays ≡ true) where
+module _ (m n : ℕ) (s : Traffic) (strays : may_answer Right s.course.disconnects ≡ true) where
   found_spared : (q : ℕ) (o : Option Connection) → slice_get s.connections q ≡ o →
       ((c : Connection) → slice_get s.connections q ≡ Some c → c.is_judged ≡ true → is_due Right c n ≡ false) →
       Spared (disconnected m n) s (at_found Right (disconnected m n) s q o)
@@ -39,15 +42,19 @@ module _ (m n : ℕ) (s : Traffic) (strays : s.course.strays ≡ true) where
   spared right h = grind (arith, found_spared)
 
 module _ (local : Local) (w : Whole) (f : Called local w) (right : w.tap.course.right_stopped ≡ false) (u : Value) (rest : List Value)
-    (later : List Placed) (tagged : f.tagged ≡ (None, u) ∷ later) (rest_are : rest ≡ values later) where
+    (later : List Placed) (tagged : f.tagged ≡ (None, u) ∷ later) (rest_are : rest ≡ values later)
+    (knows : is_dc u ≡ true → knows_disconnect Right w.tap.course.disconnects ≡ true) where
   abbrev after : Traffic → Whole
   after t = record w { put = rest; begun = false; tap = t }
 
-  strays_all : AreStrays f.shut w.end f.refs f.home w.tap.course.strays ((None, u) ∷ later)
-  strays_all = subst (λ (l : List Placed). AreStrays f.shut w.end f.refs f.home w.tap.course.strays l) tagged f.strays
+  strays_all : AreStrays f.shut w.end f.refs f.home w.tap.course.disconnects.strays ((None, u) ∷ later)
+  strays_all = subst (λ (l : List Placed). AreStrays f.shut w.end f.refs f.home w.tap.course.disconnects.strays l) tagged f.strays
 
-  stray : IsStray f.shut w.end f.refs f.home w.tap.course.strays u later
+  stray : IsStray f.shut w.end f.refs f.home w.tap.course.disconnects.strays u later
   stray = strays_all.0
+
+  may : may_answer Right w.tap.course.disconnects ≡ true
+  may = may_so Right w.tap.course.disconnects stray.strays_is (knows (ap is_dc stray.is))
 
   begun_not : (i : ℕ) → (w.begun && first_at i f.tagged) ≡ false
   begun_not i = ap (λ (l : List Placed). w.begun && first_at i l) tagged ∙ and_false w.begun
@@ -98,4 +105,4 @@ module _ (local : Local) (w : Whole) (f : Called local w) (right : w.tap.course.
 
   pub stray_passes : IsFineAt u w.tap × Called local (after (takes Right u w.tap).state)
       × ((takes Right u w.tap).state.connections ≡ w.tap.connections)
-  stray_passes = grind (arith, stray, spared, no_due, stays)
+  stray_passes = grind (arith, stray, spared, no_due, stays, may)

@@ -32,8 +32,8 @@ module _ (local : Local) (w : Whole) (f : Followed local w) (sane : IsSane w.tap
   not_all g e h = cc (sym (ap (λ (x : Finding). reach_of (Some Two) x) e) ∙ h)
 
   line_takes : (c : Connection) → Sound c → is_tracked c ≡ true →
-      (g : Following local w.put w.begun w.tap.course.strays w.end w.coming c) → names g.r v ≡ true →
-      Following local w.put w.begun w.tap.course.strays w.end more c
+      (g : Following local w.put w.begun w.tap.course.disconnects.strays w.end w.coming c) → names g.r v ≡ true →
+      Following local w.put w.begun w.tap.course.disconnects.strays w.end more c
   line_takes c sound tracked g named =
       let line : Line = record g.line { coming = g.line.coming ++ v ∷ [] } in
       let is : finding_of Right w.tap.course false g.line.tap v ≡ NotJudged =
@@ -65,11 +65,11 @@ module _ (local : Local) (w : Whole) (f : Followed local w) (sane : IsSane w.tap
       }
 
   line_idle : (c : Connection) → Sound c → is_tracked c ≡ true →
-      (g : Following local w.put w.begun w.tap.course.strays w.end w.coming c) → (b : Bool) → names g.r v ≡ b →
-      Following local w.put w.begun w.tap.course.strays w.end more c
+      (g : Following local w.put w.begun w.tap.course.disconnects.strays w.end w.coming c) → (b : Bool) → names g.r v ≡ b →
+      Following local w.put w.begun w.tap.course.disconnects.strays w.end more c
   line_idle c sound tracked g true e = line_takes c sound tracked g e
   line_idle c sound tracked g false e =
-      following_other local w.put w.begun w.tap.course.strays w.tap.course.strays w.end w.coming c v (λ h. h) g e
+      following_other local w.put w.begun w.tap.course.disconnects.strays w.tap.course.disconnects.strays w.end w.coming c v (λ h. h) g e
 
   still_asking : (x : Connect) → IsAsking local w.end w.coming x → IsAsking local w.end more x
   still_asking x a = grind (arith, early_other, picked_more, all_add, is_dc)

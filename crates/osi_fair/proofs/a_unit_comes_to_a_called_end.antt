@@ -56,7 +56,7 @@ dc_applied due told strays h g e one all = grind arith
 reached_seen : (r : Reach) (c : Course) → (reached Left r c).class_seen ≡ c.class_seen
 reached_seen r c = grind arith
 
-reached_strays : (r : Reach) (c : Course) → (reached Left r c).strays ≡ c.strays
+reached_strays : (r : Reach) (c : Course) → (reached Left r c).disconnects.strays ≡ c.disconnects.strays
 reached_strays r c = grind arith
 
 lost_so : (v : Value) (applied : Bool) (c : Connection) → (connection_after Left v applied reach.Connection c).is_judged ≡ false
@@ -149,7 +149,7 @@ module _ (local : Local) (w : Whole) (f : Called local w) (apart : AreApart w.ta
   dc_not_request : IsDc v → (x : Connect) → v ≡ request x → ⊥
   dc_not_request (m, n, e) x h = cc (sym e ∙ h)
 
-  pub is_lost : IsDc v → w.tap.course.strays ≡ true → (takes Left v w.tap).state ≡ w.tap → Called local after
+  pub is_lost : IsDc v → w.tap.course.disconnects.strays ≡ true → (takes Left v w.tap).state ≡ w.tap → Called local after
   is_lost dc strays same = subst (λ (s : Traffic). Called local (record w { tap = s; coming = more })) (sym same) (record {
     tagged = f.tagged;
     put = f.put;
@@ -178,7 +178,7 @@ module _ (local : Local) (w : Whole) (f : Called local w) (apart : AreApart w.ta
     some = f.some;
     few = all_add (IsFor w.end.given) w.coming v f.few (λ m e. inr dc);
     untagged = all_add Untagged f.came (None, v) f.untagged (λ h. dc_not_request dc);
-    timely = λ none last. differ w.tap.course.strays strays none;
+    timely = λ none last. differ w.tap.course.disconnects.strays strays none;
   })
 
   -- ---- a unit for a connection
@@ -370,14 +370,15 @@ module _ (local : Local) (w : Whole) (f : Called local w) (apart : AreApart w.ta
         (is_open c.right.phase ≡ true → A) → A
     open_by_stand a b h k = grind (arith, silent_not, closed_not, sound, differ, is_both, refused_over, off_over, parts)
 
-    dr_so : (takes Left v w.tap).state.course.strays ≡ false → Timely w.end w.coming cs (values f.tagged) → (destination source reason : ℕ)
+    dr_so : (takes Left v w.tap).state.course.disconnects.strays ≡ false → Timely w.end w.coming cs (values f.tagged) →
+        (destination source reason : ℕ)
         (user : List ℕ) → v ≡ disconnect destination source reason user → TimelyNow
     dr_so none h destination source reason user e =
-        let strays : (w.tap.course.strays || (not (is_applied found_so) || is_stray Left c source)) ≡ false =
-        sym (ap (λ (k : Course). k.strays) course_is
+        let strays : (w.tap.course.disconnects.strays || (not (is_applied found_so) || is_stray Left c source)) ≡ false =
+        sym (ap (λ (k : Course). k.disconnects.strays) course_is
         ∙ reached_strays (reach_of w.tap.course.class_seen found_so) (course_after Left c v (is_applied found_so) w.tap.course)
-        ∙ ap (λ (u : Value). (course_after Left c u (is_applied found_so) w.tap.course).strays) e) ∙ none in
-        let both = or_right w.tap.course.strays (not (is_applied found_so) || is_stray Left c source) strays in
+        ∙ ap (λ (u : Value). (course_after Left c u (is_applied found_so) w.tap.course).disconnects.strays) e) ∙ none in
+        let both = or_right w.tap.course.disconnects.strays (not (is_applied found_so) || is_stray Left c source) strays in
         let applied = not_not (is_applied found_so) (or_left (not (is_applied found_so)) (is_stray Left c source) both) in
         let judged = applied_judged c.is_judged (found Left w.tap.course (uses_source Left cs v) c v) applied in
         let stray = or_right (not (is_applied found_so)) (is_stray Left c source) both in
@@ -398,12 +399,14 @@ module _ (local : Local) (w : Whole) (f : Called local w) (apart : AreApart w.ta
     still_near : next.is_judged ≡ true → far ≡ reach.Connection → ⊥
     still_near j e = grind (arith, differ, lost_so)
 
-    dc_so : (takes Left v w.tap).state.course.strays ≡ false → Timely w.end w.coming cs (values f.tagged) → (destination source : ℕ) →
+    dc_so : (takes Left v w.tap).state.course.disconnects.strays ≡ false → Timely w.end w.coming cs (values f.tagged) →
+        (destination source : ℕ) →
         v ≡ disconnected destination source → TimelyNow
     dc_so none h destination source e =
         grind (arith, timely_one, shuts_of, dr_for, judged_was, judged_same, dc_applied, lasts, still_near, near, differ, left_own)
 
-    timely_so : (takes Left v w.tap).state.course.strays ≡ false → Timely w.end w.coming cs (values f.tagged) → (u : Value) → v ≡ u →
+    timely_so : (takes Left v w.tap).state.course.disconnects.strays ≡ false → Timely w.end w.coming cs (values f.tagged) → (u : Value) →
+        v ≡ u →
         TimelyNow
     timely_so none h u e = grind (arith, not_cr, dr_so, dc_so, timely_nothing)
 
@@ -424,7 +427,8 @@ module _ (local : Local) (w : Whole) (f : Called local w) (apart : AreApart w.ta
       positive = f.positive;
       linked_at = f.linked_at;
       shut_given = f.shut_given;
-      strays = strays_more f.shut w.end f.refs f.home w.tap.course.strays (takes Left v w.tap).state.course.strays f.tagged lasts.strays
+      strays = strays_more f.shut w.end f.refs f.home w.tap.course.disconnects.strays (takes Left v w.tap).state.course.disconnects.strays
+          f.tagged lasts.strays
           f.strays;
       last = f.last;
       tops = λ i x there. top_by i x (item i x there);

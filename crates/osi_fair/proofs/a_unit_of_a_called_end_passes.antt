@@ -64,7 +64,7 @@ above_less given n v vs h = grind (arith, above_down)
 -- It is right, or not judged: a DR has passed that closed nothing, or a connection has lost its judgement.
 abbrev pub IsFineAt : Value → Traffic → Type 0
 IsFineAt u s = ((takes Right u s).told.finding ≡ Kept) ⊎ (((takes Right u s).told.finding ≡ NotJudged)
-    × ((s.course.strays ≡ true) ⊎ (s.course.loose ≡ true)))
+    × ((s.course.disconnects.strays ≡ true) ⊎ (s.course.loose ≡ true)))
 
 -- ---- the first unit passes
 
@@ -167,8 +167,9 @@ module _ (local : Local) (w : Whole) (f : Called local w) (apart : AreApart w.ta
         positive = f.positive;
         linked_at = f.linked_at;
         shut_given = f.shut_given;
-        strays = strays_more f.shut w.end f.refs f.home w.tap.course.strays (takes Right u w.tap).state.course.strays later lasts.strays
-            (subst (λ (l : List Placed). AreStrays f.shut w.end f.refs f.home w.tap.course.strays l) tagged f.strays).1;
+        strays = strays_more f.shut w.end f.refs f.home w.tap.course.disconnects.strays
+            (takes Right u w.tap).state.course.disconnects.strays later lasts.strays
+            (subst (λ (l : List Placed). AreStrays f.shut w.end f.refs f.home w.tap.course.disconnects.strays l) tagged f.strays).1;
         last = top;
         tops = λ i x there. top_by i x (item i x there);
         above = above;

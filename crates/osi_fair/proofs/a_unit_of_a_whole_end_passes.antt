@@ -110,11 +110,11 @@ module _ (local : Local) (w : Whole) (f : Followed local w) (sane : IsSane w.tap
       slice_get cs p ≡ Some c
   tracked_by x p c tracked h = grind arith
 
-  strays_still : (v : Value) → w.tap.course.strays ≡ true → (takes Left v w.tap).state.course.strays ≡ true
+  strays_still : (v : Value) → w.tap.course.disconnects.strays ≡ true → (takes Left v w.tap).state.course.disconnects.strays ≡ true
   strays_still v h = strays_last (passing Left v) w.tap h
 
-  spares_still : (v : Value) (r peer : ℕ) (spare : List Value) → AllByRecursion (IsSpare w.tap.course.strays r peer) spare →
-      AllByRecursion (IsSpare (takes Left v w.tap).state.course.strays r peer) spare
+  spares_still : (v : Value) (r peer : ℕ) (spare : List Value) → AllByRecursion (IsSpare w.tap.course.disconnects.strays r peer) spare →
+      AllByRecursion (IsSpare (takes Left v w.tap).state.course.disconnects.strays r peer) spare
   spares_still v r peer spare h = search (arith, all_so, strays_still)
 
   owned_still : (x : Connect) (v : Value) → IsOwned w.tap v → IsOwned (takes Left (request x) w.tap).state v
@@ -123,8 +123,8 @@ module _ (local : Local) (w : Whole) (f : Followed local w) (sane : IsSane w.tap
   owned_still x v (stray m source e strays) = stray m source e (strays_still (request x) strays)
 
   request_line : (x : Connect) (rest : List Value) (c : Connection) → w.put ≡ request x ∷ rest →
-      Following local w.put w.begun w.tap.course.strays w.end w.coming c →
-      Following local rest false (takes Left (request x) w.tap).state.course.strays w.end w.coming c
+      Following local w.put w.begun w.tap.course.disconnects.strays w.end w.coming c →
+      Following local rest false (takes Left (request x) w.tap).state.course.disconnects.strays w.end w.coming c
   request_line x rest c e g = followed_at g (ap (λ (l : List Value). ours g.r g.peer l) (sym e))
       (spares_still (request x) g.r g.peer g.spare g.spares)
       (ap (λ (l : List Value). w.begun && leads (is_ours g.r g.peer) l) e ∙ and_false w.begun) g.row
@@ -223,7 +223,7 @@ module _ (local : Local) (w : Whole) (f : Followed local w) (sane : IsSane w.tap
   module _ (u : Value) (rest : List Value) (p : ℕ) (c : Connection) (e : w.put ≡ u ∷ rest) (begun : w.begun ≡ true)
       (left : w.tap.course.left_stopped ≡ false) (at : slice_get cs p ≡ Some c) (tracked : is_tracked c ≡ true)
       (own : IsOf c.left.reference c.right.reference u) (judged : c.is_judged ≡ true) where
-    abbrev g : Following local w.put w.begun w.tap.course.strays w.end w.coming c
+    abbrev g : Following local w.put w.begun w.tap.course.disconnects.strays w.end w.coming c
     g = f.lines p c at tracked
 
     abbrev n : ℕ
@@ -238,7 +238,7 @@ module _ (local : Local) (w : Whole) (f : Followed local w) (sane : IsSane w.tap
     parts : (vs : List Value) × ((g.line.put ≡ u ∷ vs) × (ours g.r g.peer rest ≡ vs ++ g.spare))
     parts = put_first u (ours g.r g.peer rest) g.line.put g.spare
         (sym (picked_first (is_ours g.r g.peer) u rest named_by) ∙ ap (λ (l : List Value). ours g.r g.peer l) (sym e) ∙ g.put_is)
-        (no_spare local w.put w.coming w.begun w.tap.course.strays w.end c judged tracked g)
+        (no_spare local w.put w.coming w.begun w.tap.course.disconnects.strays w.end c judged tracked g)
 
     abbrev still : List Value
     still = parts.0
@@ -347,7 +347,7 @@ module _ (local : Local) (w : Whole) (f : Followed local w) (sane : IsSane w.tap
 
     -- ---- lines
 
-    line_next : Following local rest false after.tap.course.strays w.end w.coming next
+    line_next : Following local rest false after.tap.course.disconnects.strays w.end w.coming next
     line_next = record {
       r = g.r;
       peer = g.peer;
@@ -366,7 +366,7 @@ module _ (local : Local) (w : Whole) (f : Followed local w) (sane : IsSane w.tap
     }
 
     line_other : (i : ℕ) (x : Connection) → (i ≡ p → ⊥) → slice_get cs i ≡ Some x → is_tracked x ≡ true →
-        Following local rest false after.tap.course.strays w.end w.coming x
+        Following local rest false after.tap.course.disconnects.strays w.end w.coming x
     line_other i x other there is_there =
         let k = f.lines i x there is_there in
         let not_named : is_ours k.r k.peer u ≡ false = ours_not k.r n k.peer u (grind (arith, one_peer)) named in
@@ -377,7 +377,7 @@ module _ (local : Local) (w : Whole) (f : Followed local w) (sane : IsSane w.tap
 
     line_at : (i : ℕ) (x : Connection) → is_tracked x ≡ true →
         ((i ≡ p) × (x ≡ next)) ⊎ ((i ≡ p → ⊥) × (slice_get cs i ≡ Some x)) →
-        Following local rest false after.tap.course.strays w.end w.coming x
+        Following local rest false after.tap.course.disconnects.strays w.end w.coming x
     line_at i x is_there (inl (same, is)) = grind (arith, line_next)
     line_at i x is_there (inr (other, there)) = line_other i x other there is_there
 
@@ -406,7 +406,7 @@ module _ (local : Local) (w : Whole) (f : Followed local w) (sane : IsSane w.tap
 
     -- a unit that is still to pass for the connection that has just been closed is a spare DC
     abbrev IsSpareIf : Value → Type 0
-    IsSpareIf v = is_tracked next ≡ false → is_ours g.r g.peer v ≡ true → IsSpare w.tap.course.strays g.r g.peer v
+    IsSpareIf v = is_tracked next ≡ false → is_ours g.r g.peer v ≡ true → IsSpare w.tap.course.disconnects.strays g.r g.peer v
 
     of_next : (v : Value) → is_tracked next ≡ true → IsOf c.left.reference c.right.reference v → IsOwned after.tap v
     of_next v h is = search (arith, of, next_at, next_right, next_left)
@@ -433,10 +433,10 @@ module _ (local : Local) (w : Whole) (f : Followed local w) (sane : IsSane w.tap
     owned_rest true h a =
         all_so (λ v. IsOwned w.tap v) (λ v. IsOwned after.tap v) rest (λ v o. owned_next v (λ k. differ (is_tracked next) h k) o) a
     owned_rest false h a =
-        all_two (λ v. IsOwned w.tap v) (λ v. is_ours g.r g.peer v ≡ true → IsSpare w.tap.course.strays g.r g.peer v)
+        all_two (λ v. IsOwned w.tap v) (λ v. is_ours g.r g.peer v ≡ true → IsSpare w.tap.course.disconnects.strays g.r g.peer v)
         (λ v. IsOwned after.tap v) rest (λ v o spare. owned_next v (λ k. spare) o) a
-        (picked_each (IsSpare w.tap.course.strays g.r g.peer) (is_ours g.r g.peer) rest
-        (subst (AllByRecursion (IsSpare w.tap.course.strays g.r g.peer)) (sym (spare_left h)) g.spares))
+        (picked_each (IsSpare w.tap.course.disconnects.strays g.r g.peer) (is_ours g.r g.peer) rest
+        (subst (AllByRecursion (IsSpare w.tap.course.disconnects.strays g.r g.peer)) (sym (spare_left h)) g.spares))
 
     -- ---- the class, and the references that are settled
 

@@ -126,9 +126,9 @@ module _ (local : Local) (w : Whole) (f : Followed local w) (sane : IsSane w.tap
   calm_so = subst IsCalm course_is calm_after
 
   abbrev strays_after : Bool
-  strays_after = (takes Right v w.tap).state.course.strays
+  strays_after = (takes Right v w.tap).state.course.disconnects.strays
 
-  strays_on : w.tap.course.strays ≡ true → strays_after ≡ true
+  strays_on : w.tap.course.disconnects.strays ≡ true → strays_after ≡ true
   strays_on h = strays_last (passing Right v) w.tap h
 
   name_is : c.left.reference ≡ t.n
@@ -219,7 +219,7 @@ module _ (local : Local) (w : Whole) (f : Followed local w) (sane : IsSane w.tap
         tap = tap;
         spare = g.spare;
         put_is = g.put_is;
-        spares = spares_on w.tap.course.strays strays_after g.r g.peer g.spare strays_on g.spares;
+        spares = spares_on w.tap.course.disconnects.strays strays_after g.r g.peer g.spare strays_on g.spares;
         gone = g.gone;
         begun_is = g.begun_is;
         row = row_add local w.end w.coming g.r g.peer g.line line v (named_so g.r v dest) refl refl g.row;
@@ -381,7 +381,7 @@ module _ (local : Local) (w : Whole) (f : Followed local w) (sane : IsSane w.tap
   line_at : (i : ℕ) (x : Connection) → is_tracked x ≡ true → Next → Item i x → Following local w.put w.begun strays_after w.end more x
   line_at i x tracked k (inr (other, there)) =
       let g = f.lines i x there tracked in
-      following_other local w.put w.begun w.tap.course.strays strays_after w.end w.coming x v strays_on g
+      following_other local w.put w.begun w.tap.course.disconnects.strays strays_after w.end w.coming x v strays_on g
       (unlike_r i x g.r other there g.left)
   line_at i x tracked (goes_on a b right class line) (inl (same, is)) = grind arith
   line_at i x tracked (opened a silent b line row class) (inl (same, is)) = grind arith

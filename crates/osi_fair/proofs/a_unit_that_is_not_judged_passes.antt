@@ -44,9 +44,9 @@ module _ (local : Local) (w : Whole) (f : Followed local w) (sane : IsSane w.tap
   course = (takes Left u w.tap).state.course
 
   abbrev strays : Bool
-  strays = w.tap.course.strays
+  strays = w.tap.course.disconnects.strays
 
-  strays_on : strays ≡ true → course.strays ≡ true
+  strays_on : strays ≡ true → course.disconnects.strays ≡ true
   strays_on h = strays_last (passing Left u) w.tap h
 
   -- ---- the unit is of the line of this connection, which has lost its judgement
@@ -57,7 +57,7 @@ module _ (local : Local) (w : Whole) (f : Followed local w) (sane : IsSane w.tap
     ours_so_far = sym (picked_first (is_ours g.r g.peer) u rest mine) ∙ ap (λ (l : List Value). ours g.r g.peer l) (sym e) ∙ g.put_is
 
     spares_on : (spare : List Value) → AllByRecursion (IsSpare strays g.r g.peer) spare →
-        AllByRecursion (IsSpare course.strays g.r g.peer) spare
+        AllByRecursion (IsSpare course.disconnects.strays g.r g.peer) spare
     spares_on spare h = grind (arith, all_so, strays_on)
 
     -- a spare DC
@@ -68,7 +68,7 @@ module _ (local : Local) (w : Whole) (f : Followed local w) (sane : IsSane w.tap
       spare_head : IsSpare strays g.r g.peer u × AllByRecursion (IsSpare strays g.r g.peer) (ours g.r g.peer rest)
       spare_head = subst (AllByRecursion (IsSpare strays g.r g.peer)) spare_so g.spares
 
-      pop_spare : Following local rest false course.strays w.end w.coming c
+      pop_spare : Following local rest false course.disconnects.strays w.end w.coming c
       pop_spare = record {
         r = g.r;
         peer = g.peer;
@@ -98,7 +98,7 @@ module _ (local : Local) (w : Whole) (f : Followed local w) (sane : IsSane w.tap
         tap = after_finding Left (finding_of Left w.tap.course false g.line.tap u) u g.line.tap;
       }
 
-      pop_put : Following local rest false course.strays w.end w.coming c
+      pop_put : Following local rest false course.disconnects.strays w.end w.coming c
       pop_put = record {
         r = g.r;
         peer = g.peer;
@@ -127,7 +127,7 @@ module _ (local : Local) (w : Whole) (f : Followed local w) (sane : IsSane w.tap
           lost_ignored u w.tap g.peer p c left (f.seen p c at tracked there) (ours_is g.r g.peer u mine).named
           (name_first local w f sane peers g.peer p c at named) at lost
 
-    pop_by : (l : List Value) → g.line.put ≡ l → Following local rest false course.strays w.end w.coming c
+    pop_by : (l : List Value) → g.line.put ≡ l → Following local rest false course.disconnects.strays w.end w.coming c
     pop_by [] none = pop_spare none
     pop_by (v ∷ vs) some = pop_put v vs some
 
@@ -150,7 +150,7 @@ module _ (local : Local) (w : Whole) (f : Followed local w) (sane : IsSane w.tap
 
     line_by : (p : ℕ) (c : Connection) → slice_get cs p ≡ Some c → is_tracked c ≡ true →
         (g : Following local w.put w.begun strays w.end w.coming c) → (b : Bool) → is_ours g.r g.peer u ≡ b →
-        Following local rest false course.strays w.end w.coming c
+        Following local rest false course.disconnects.strays w.end w.coming c
     line_by p c at tracked g false other = followed_at g
         (sym (picked_rest (is_ours g.r g.peer) u rest other) ∙ ap (λ (l : List Value). ours g.r g.peer l) (sym e))
         (grind (arith, all_so, strays_on))
@@ -207,7 +207,7 @@ module _ (local : Local) (w : Whole) (f : Followed local w) (sane : IsSane w.tap
 -- It is right, or not judged: a DR has passed that closed nothing, or a connection has lost its judgement. All holds after it.
 pub record Passed (local : Local) (w : Whole) (u : Value) (rest : List Value) : Type 0 where
   pub fine : ((takes Left u w.tap).told.finding ≡ Kept) ⊎ (((takes Left u w.tap).told.finding ≡ NotJudged)
-      × ((w.tap.course.strays ≡ true) ⊎ (w.tap.course.loose ≡ true)))
+      × ((w.tap.course.disconnects.strays ≡ true) ⊎ (w.tap.course.loose ≡ true)))
   pub followed : Followed local (record w { put = rest; begun = false; tap = (takes Left u w.tap).state })
   pub peers : AreNamedApart Right (takes Left u w.tap).state.connections
 

@@ -44,7 +44,8 @@ is_over : (local : Local) (w : Whole) → Followed local w → (t : State) (late
     w.end.given ≤ t.given →
     Followed local (record w { end = t; coming = later })
 is_over local w f t later h early few up = record {
-  lines = λ i c at tracked. over_line local w.put w.begun w.tap.course.strays w.end t w.coming later c h (f.lines i c at tracked);
+  lines = λ i c at tracked. over_line local w.put w.begun w.tap.course.disconnects.strays w.end t w.coming later c h
+      (f.lines i c at tracked);
   waiting = λ i c at waits.
       grind (arith, over_not, f.waiting i c at waits);
   owned = f.owned;
@@ -81,7 +82,8 @@ module _ (local : Local) (w : Whole) (f : Followed local w) (sane : IsSane w.tap
 
   takes_by : (b : Bool) (u : Value) (later : List Value) → is_some (react u w.end).ended ≡ b → w.coming ≡ u ∷ later →
       ((react u w.end).ended ≡ None → w.end.ended ≡ None) →
-      (w.end.ended ≡ None → IsDr u → (m : ℕ) → closed_by u ≡ Some m → IsLive w.end m ⊎ (w.tap.course.strays ≡ true)) → SelectsTwo w.end u →
+      (w.end.ended ≡ None → IsDr u → (m : ℕ) → closed_by u ≡ Some m → IsLive w.end m ⊎ (w.tap.course.disconnects.strays ≡ true)) →
+          SelectsTwo w.end u →
       Followed local (after u later)
   takes_by true u later h e was live_dr selects =
       with_nothing local w (react u w.end) later (put_for u w.end) (ended_puts (is_some w.end.ended) u w.end refl offers h)
@@ -91,7 +93,8 @@ module _ (local : Local) (w : Whole) (f : Followed local w) (sane : IsSane w.tap
   takes_by false u later h e was live_dr selects = search (arith, no_end, end_takes)
 
   pub whole_takes : (u : Value) (later : List Value) → w.coming ≡ u ∷ later → ((react u w.end).ended ≡ None → w.end.ended ≡ None) →
-      (w.end.ended ≡ None → IsDr u → (m : ℕ) → closed_by u ≡ Some m → IsLive w.end m ⊎ (w.tap.course.strays ≡ true)) → SelectsTwo w.end u →
+      (w.end.ended ≡ None → IsDr u → (m : ℕ) → closed_by u ≡ Some m → IsLive w.end m ⊎ (w.tap.course.disconnects.strays ≡ true)) →
+          SelectsTwo w.end u →
       Followed local (after u later)
   whole_takes u later e was live_dr selects = takes_by (is_some (react u w.end).ended) u later refl e was live_dr selects
 

@@ -62,13 +62,14 @@ module _ (local : Local) (w : Whole) (f : Followed local w) (sane : IsSane w.tap
       let row = ap (λ (j : ℕ). value_at j t.live) same ∙ there in closes o row i (inr h) (is ∙ ap link_now (row ∙ h)) coming
 
   record Grown (c : Connection) : Type 0 where
-    grown : Following local (w.put ++ units) w.begun w.tap.course.strays t w.coming c
+    grown : Following local (w.put ++ units) w.begun w.tap.course.disconnects.strays t w.coming c
     own : AllOurs n c.right.reference units
 
   same_linked : (q r : ℕ) (l k : Standing) → Some (linked q l) ≡ Some (linked r k) → q ≡ r
   same_linked q r l k e = cc
 
-  grows : (p : ℕ) (c : Connection) → slice_get cs p ≡ Some c → (g : Following local w.put w.begun w.tap.course.strays w.end w.coming c) →
+  grows : (p : ℕ) (c : Connection) → slice_get cs p ≡ Some c → (g : Following local w.put w.begun w.tap.course.disconnects.strays w.end
+      w.coming c) →
       g.r ≡ n →
       (l : Standing) → value_at g.r w.end.live ≡ Some (linked g.peer l) → g.line.link ≡ Some l → those g.r w.coming ≡ g.line.coming →
       Grown c
@@ -104,7 +105,7 @@ module _ (local : Local) (w : Whole) (f : Followed local w) (sane : IsSane w.tap
       }
 
   grown_by : (p : ℕ) (c : Connection) → slice_get cs p ≡ Some c →
-      (g : Following local w.put w.begun w.tap.course.strays w.end w.coming c) → g.r ≡ n →
+      (g : Following local w.put w.begun w.tap.course.disconnects.strays w.end w.coming c) → g.r ≡ n →
       Row local w.end w.coming g.r g.peer g.line → Grown c
   grown_by p c at g same (over h) = differ (is_some w.end.ended) h (ap is_some was)
   grown_by p c at g same (talks l r is come_all) = grows p c at g same l r is come_all
@@ -130,14 +131,14 @@ module _ (local : Local) (w : Whole) (f : Followed local w) (sane : IsSane w.tap
   row_other r q line other (closes o there i h is come_all) = closes o (rows r other ∙ there) i h is come_all
 
   line_other : (p : ℕ) (c : Connection) → slice_get cs p ≡ Some c → is_tracked c ≡ true →
-      (g : Following local w.put w.begun w.tap.course.strays w.end w.coming c) → (g.r ≡ n → ⊥) →
-      Following local (w.put ++ units) w.begun w.tap.course.strays t w.coming c
+      (g : Following local w.put w.begun w.tap.course.disconnects.strays w.end w.coming c) → (g.r ≡ n → ⊥) →
+      Following local (w.put ++ units) w.begun w.tap.course.disconnects.strays t w.coming c
   line_other p c at tracked g other = followed_at g (put_other_peer p c at tracked g.r g.peer g.right (λ e. other (sym g.left ∙ e)) owner)
       g.spares (leads_more w.begun (is_ours g.r g.peer) w.put units f.some) (row_other g.r g.peer g.line other g.row)
 
   line_by : (p : ℕ) (c : Connection) → slice_get cs p ≡ Some c → is_tracked c ≡ true →
-      (g : Following local w.put w.begun w.tap.course.strays w.end w.coming c) → (b : Bool) → (g.r == n) ≡ b →
-      Following local (w.put ++ units) w.begun w.tap.course.strays t w.coming c
+      (g : Following local w.put w.begun w.tap.course.disconnects.strays w.end w.coming c) → (b : Bool) → (g.r == n) ≡ b →
+      Following local (w.put ++ units) w.begun w.tap.course.disconnects.strays t w.coming c
   line_by p c at tracked g true e = (grown_by p c at g (eqb-true g.r n e) g.row).grown
   line_by p c at tracked g false e = line_other p c at tracked g (unlike g.r n e)
 
@@ -231,8 +232,8 @@ module _ (local : Local) (w : Whole) (f : Followed local w) (sane : IsSane w.tap
   row_c m q line other (closes o there i h is come_all) = closes o (rows_c m other ∙ there) i h is come_all
 
   line_c : (p : ℕ) (c : Connection) → slice_get w.tap.connections p ≡ Some c →
-      Following local w.put w.begun w.tap.course.strays s w.coming c →
-      Following local (w.put ++ request x ∷ []) w.begun w.tap.course.strays t w.coming c
+      Following local w.put w.begun w.tap.course.disconnects.strays s w.coming c →
+      Following local (w.put ++ request x ∷ []) w.begun w.tap.course.disconnects.strays t w.coming c
   line_c p c at g = followed_at g (picked_other (is_ours g.r g.peer) w.put (request x) refl) g.spares
       (leads_more w.begun (is_ours g.r g.peer) w.put (request x ∷ []) f.some) (row_c g.r g.peer g.line (grind arith) g.row)
 

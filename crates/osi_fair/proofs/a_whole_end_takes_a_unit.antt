@@ -30,7 +30,7 @@ none_first (x ∷ xs) ys e = absurd (cc e)
 module _ (local : Local) (w : Whole) (f : Followed local w) (sane : IsSane w.tap) (peers : AreNamedApart Right w.tap.connections)
     (offers : OffersTwo w.end) (orderly : IsOrderly w.end) (local_is : w.end.local ≡ local) (was : w.end.ended ≡ None) (u : Value)
     (later : List Value) (come : w.coming ≡ u ∷ later) (lasts : (react u w.end).ended ≡ None)
-    (live_dr : IsDr u → (m : ℕ) → closed_by u ≡ Some m → IsLive w.end m ⊎ (w.tap.course.strays ≡ true)) (k : Named u w.end)
+    (live_dr : IsDr u → (m : ℕ) → closed_by u ≡ Some m → IsLive w.end m ⊎ (w.tap.course.disconnects.strays ≡ true)) (k : Named u w.end)
     (selects : SelectsTwo w.end u) where
   abbrev cs : List Connection
   cs = w.tap.connections
@@ -48,7 +48,7 @@ module _ (local : Local) (w : Whole) (f : Followed local w) (sane : IsSane w.tap
   n = k.n
 
   abbrev strays : Bool
-  strays = w.tap.course.strays
+  strays = w.tap.course.disconnects.strays
 
   abbrev after : Whole
   after = record w { end = t; put = w.put ++ units; coming = later }
@@ -332,7 +332,7 @@ module _ (local : Local) (w : Whole) (f : Followed local w) (sane : IsSane w.tap
 
 pub end_takes : (local : Local) (w : Whole) → Followed local w → IsSane w.tap → AreNamedApart Right w.tap.connections → OffersTwo w.end →
     IsOrderly w.end → w.end.local ≡ local → w.end.ended ≡ None → (u : Value) (later : List Value) → w.coming ≡ u ∷ later →
-    (react u w.end).ended ≡ None → (IsDr u → (m : ℕ) → closed_by u ≡ Some m → IsLive w.end m ⊎ (w.tap.course.strays ≡ true)) →
+    (react u w.end).ended ≡ None → (IsDr u → (m : ℕ) → closed_by u ≡ Some m → IsLive w.end m ⊎ (w.tap.course.disconnects.strays ≡ true)) →
     SelectsTwo w.end u →
     Followed local (record w { end = react u w.end; put = w.put ++ put_for u w.end; coming = later })
 end_takes local w f sane peers offers orderly local_is was u later come lasts live_dr selects =

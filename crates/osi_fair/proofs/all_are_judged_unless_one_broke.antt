@@ -2,7 +2,8 @@
 -- For the law on places.
 use Rattle.osi_fair.proofs.Vocabulary.{arith, [], ap, Bool, false, if◌then◌else◌, List, None, Option, refl, Some, sym, true, ℕ, ◌∙◌, ◌∷◌}
 use Rattle.osi_fair.proofs.Vocabulary.{◌≡◌, position_or_len, position, slice_get, Connect, Value, is_applied, reach_of, begins, is_live}
-use Rattle.osi_fair.proofs.Vocabulary.{is_named, asked_by, asks_by, asks_kept, at_place, class_for, connection_after, course_after}
+use Rattle.osi_fair.proofs.Vocabulary.{is_named, asked_by, asks_by, asks_kept, at_found, at_place, class_for, connection_after}
+use Rattle.osi_fair.proofs.Vocabulary.{course_after}
 use Rattle.osi_fair.proofs.Vocabulary.{found_on, fresh, is_stopped, none_told, one_told, Outcome, route, routed, Traffic as State}
 use Rattle.osi_fair.proofs.Vocabulary.{unnamed_told, Connection, Course, Direction, Finding, NotJudged, Route, Asks, Named, Only, Unnamed}
 use Rattle.osi_fair.proofs.Vocabulary.{all_passed, packet, passes, Passing, rubbish, unit}
@@ -41,9 +42,14 @@ to_one d p c v s at a h =
     each_set IsJudged s.connections p (connection_after d v applied how_far c) was
     ((grind (arith, sized_judged)) ∙ was p c at)
 
+by_item : (d : Direction) (v : Value) (s : State) (p : ℕ) (o : Option Connection) → slice_get s.connections p ≡ o → AreJudged s →
+    AreJudged (at_found d v s p o).state
+by_item d v s p None at a = to_unnamed d v s a
+by_item d v s p (Some c) at a = to_one d p c v s at a
+
 by_place : (d : Direction) (v : Value) (s : State) (p : Option ℕ) → AreJudged s → AreJudged (at_place d v s p).state
 by_place d v s None a = to_unnamed d v s a
-by_place d v s (Some p) a = grind (arith, to_unnamed, to_one)
+by_place d v s (Some p) a = by_item d v s p (slice_get s.connections p) refl a
 
 placed_judged : (x : Connect) (s : State) (p : Option ℕ) → AreJudged s → AreJudged (asks_kept x s p).state
 placed_judged x s (Some p) a h = each_set IsJudged s.connections p (asked_by x) (a h) refl

@@ -1,6 +1,7 @@
 -- An open end of class 2 is fair, over every list of what happens to it and to the tap: at left, and then at right, which is left
 -- with the sides of the tap exchanged.
 -- For the law of that name.
+use Rattle.osi_fair.proofs.Vocabulary.{Disconnects, false}
 use Rattle.osi_fair.proofs.Vocabulary.{[], ap, arith, Bool, inl, inr, List, subst, sym, true, ℕ, ◌-◌, ◌∙◌, ◌∷◌, ◌≡◌, ◌⊎◌, Value, fresh_two}
 use Rattle.osi_fair.proofs.Vocabulary.{two_standing, is_open, other, found, sent_on, Connection, Course, Direction, Left, Right, Finding}
 use Rattle.osi_fair.proofs.Vocabulary.{Broke, Kept, Half, Act, Acts, ActsAlong, after_finding, answers, begins_elsewhere}
@@ -9,7 +10,8 @@ use Rattle.osi_rules.specs.declared.findings.Rule.TheVariants as rule
 use Rattle.osi_fair.specs.Lines.{begins_own, passes_own, begins_other, passes_other}
 use Rattle.osi_fair.proofs.what_holds_of_a_line.{Holds, Tally, is_there}
 use Rattle.osi_fair.proofs.what_an_end_does_to_a_line.{moves_hold, closes_hold, answers_hold}
-use Rattle.osi_fair.proofs.what_passes_of_an_end.{begins_other_holds, first_is, is_kept, passes_own_holds}
+use Rattle.osi_fair.proofs.what_passes_of_an_end.{begins_other_holds, first_is as line_first, is_kept, passes_own_holds}
+use Rattle.osi_fair.proofs.small_facts_that_many_lemmas_use.{judged_same}
 use Rattle.osi_fair.proofs.what_each_unit_of_the_other_side_does.{passes_other_holds}
 use Rattle.osi_fair.proofs.Vocabulary.{if◌then◌else◌, finding_of}
 use Rattle.osi_fair.proofs.what_begins_to_pass_is_right.{first_right}
@@ -102,13 +104,35 @@ right_turned c (unit ∷ units) h = record {
 }
 
 -- what each side has broken is of the other one then
+abbrev turned_disconnects : Disconnects → Disconnects
+turned_disconnects k =
+    record { strays = k.strays; left = k.right; right = k.left; seen_by_left = k.seen_by_right; seen_by_right = k.seen_by_left }
+
 abbrev turned_course : Course → Course
-turned_course course = record course { left_erred = course.right_erred; right_erred = course.left_erred }
+turned_course course = record course {
+  disconnects = turned_disconnects course.disconnects;
+  left_erred = course.right_erred;
+  right_erred = course.left_erred;
+}
 
 found_other : (course : Course) (in_use : Bool) (c : Connection) (v : Value) →
     (found Left course in_use c v ≡ found Right (turned_course course) in_use (turned c) v)
     ⊎ (found Left course in_use c v ≡ Broke rule.WrongForm)
 found_other course in_use c v = grind arith
+
+own_turned : (r peer : ℕ) (course : Course) (in_use : Bool) (old new : Line) → Acts Right r peer (passes_own course in_use) old new →
+    old.tap.is_judged ≡ true → Holds r peer (turned_line old) →
+    Acts Left r peer (passes_own course in_use) (turned_line old) (turned_line new)
+own_turned r peer course in_use old new (unit, first, begun, new_is) was h =
+    let right = line_first (turned old.tap) old.put new.put unit first (h.under_way begun) in
+    let turned_kept = is_kept course in_use (turned old.tap) unit was right in
+    let kept : finding_of Right course in_use old.tap unit ≡ Kept =
+    judged_same old.tap.is_judged (found Right course in_use old.tap unit) was
+    ∙ kept_turned course in_use old.tap unit (right.kept course in_use) in
+    let tap_is = finding_turned Right (finding_of Right course in_use old.tap unit) unit old.tap
+    ∙ ap (λ (f : Finding). after_finding Left f unit (turned old.tap)) (kept ∙ sym turned_kept) in
+    (unit, first, begun,
+    ap turned_line new_is ∙ ap (λ (c : Connection). record (turned_line old) { put = new.put; begun = false; tap = c }) tap_is)
 
 other_keeps : (r peer : ℕ) (course : Course) (in_use : Bool) (unit : Value) (old new : Line) →
     Acts Right r peer (passes_other course in_use unit) old new → Keeps r peer (turned_line old) →
@@ -132,8 +156,9 @@ act_turned r peer begins_own old new (some, idle, new_is) h judged =
     act_keeps r peer begins_own (turned_line old) (turned_line new) (some, idle, ap turned_line new_is) h judged
 act_turned r peer (passes_own course in_use) old new (unit, first, begun, new_is) h judged =
     let still = sym (ap (λ (l : Line). l.tap.is_judged) new_is) ∙ judged in
+    let was = was_judged Right (finding_of Right course in_use old.tap unit) unit old.tap still in
     act_keeps r peer (passes_own course in_use) (turned_line old) (turned_line new)
-    (grind (arith, first_is, kept_turned, is_kept, finding_turned)) h judged
+    (own_turned r peer course in_use old new (unit, first, begun, new_is) was (h was)) h judged
 act_turned r peer begins_elsewhere old new (idle, new_is) h judged = grind (arith, act_keeps)
 act_turned r peer begins_other old new new_is h judged =
     act_keeps r peer begins_other (turned_line old) (turned_line new) (ap turned_line new_is) h judged

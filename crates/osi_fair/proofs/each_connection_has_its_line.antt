@@ -139,7 +139,7 @@ pub data IsOwned (s : Traffic) (v : Value) : Type 0 where
   asking : (x : Connect) → v ≡ request x → IsOwned s v
   of : (p : ℕ) (c : Connection) → slice_get s.connections p ≡ Some c → is_tracked c ≡ true →
       IsOf c.left.reference c.right.reference v → IsOwned s v
-  stray : (m source : ℕ) → v ≡ disconnected m source → s.course.strays ≡ true → IsOwned s v
+  stray : (m source : ℕ) → v ≡ disconnected m source → s.course.disconnects.strays ≡ true → IsOwned s v
 
 -- A CC that has come, if the end awaits it, or if no connection has lost its judgement: then it is for an open connection whose CR the end
 -- has put. Another CC for the same connection ends the judging of that.
@@ -161,7 +161,8 @@ abbrev pub AreSettled : List Connection → (all : List Value) → (given : ℕ)
 AreSettled cs all given v = (m source : ℕ) → v ≡ disconnected m source → IsSettled cs all given source
 
 pub record Followed (local : Local) (w : Whole) : Type 0 where
-  pub lines : HoldsOfEach (λ (c : Connection). is_tracked c ≡ true → Following local w.put w.begun w.tap.course.strays w.end w.coming c)
+  pub lines : HoldsOfEach (λ (c : Connection). is_tracked c ≡ true → Following local w.put w.begun w.tap.course.disconnects.strays w.end
+      w.coming c)
       w.tap.connections
   pub waiting : HoldsOfEach (λ (c : Connection). is_waiting c ≡ true → Waiting local w.end w.coming c) w.tap.connections
   pub owned : AllByRecursion (λ (v : Value). IsOwned w.tap v) w.put
@@ -332,15 +333,15 @@ seen_at local Right w f i x was tracked known = f.seen i x was tracked known
 
 pub followed_begins : (local : Local) (d : Direction) (w : Whole) (b : Bool) → (b ≡ true → w.put ≢ []) → Followed local w →
     ((i : ℕ) (c : Connection) → slice_get w.tap.connections i ≡ Some c → is_tracked c ≡ true →
-    Following local w.put w.begun w.tap.course.strays w.end w.coming c →
-    Following local w.put b w.tap.course.strays w.end w.coming (begins d c)) →
+    Following local w.put w.begun w.tap.course.disconnects.strays w.end w.coming c →
+    Following local w.put b w.tap.course.disconnects.strays w.end w.coming (begins d c)) →
     Followed local (record w { begun = b; tap = packet_begins d w.tap })
 followed_begins local d w b some f k = record {
   lines = λ i c at tracked.
       let (x, was, is) = after_map (begins d) w.tap.connections i c at in
       let before = sym (tracked_begins d x) ∙ ap is_tracked (sym is) ∙ tracked in
       subst (λ (s : Bool). Following local w.put b s w.end w.coming c) (sym (grind arith))
-      (subst (λ (e : Connection). Following local w.put b w.tap.course.strays w.end w.coming e) (sym is)
+      (subst (λ (e : Connection). Following local w.put b w.tap.course.disconnects.strays w.end w.coming e) (sym is)
       (k i x was before (f.lines i x was before)));
   waiting = grind (arith, after_map, waits_begun, waiting_begins);
   owned = all_so (λ v. IsOwned w.tap v) (λ v. IsOwned (packet_begins d w.tap) v) w.put (λ v. owned_at d w.tap v) f.owned;
@@ -383,7 +384,7 @@ pub own_begins : (local : Local) (w : Whole) → w.begun ≡ false → w.put ≢
     Followed local (record w { begun = true; tap = packet_begins Left w.tap })
 own_begins local w e some f =
     followed_begins local Left w true (λ h. some) f (λ i c at tracked g.
-    let s = w.tap.course.strays in
+    let s = w.tap.course.disconnects.strays in
     left_begins local w.put s w.end w.coming c (subst (λ (b : Bool). Following local w.put b s w.end w.coming c) e g))
 
 pub other_begins : (local : Local) (w : Whole) → Followed local w → Followed local (record w { tap = packet_begins Right w.tap })

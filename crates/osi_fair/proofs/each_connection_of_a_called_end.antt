@@ -231,7 +231,7 @@ pub record Called (local : Local) (w : Whole) : Type 0 where
   pub linked_at : w.end.ended ≡ None → (r peer : ℕ) (link : Standing) → value_at r w.end.live ≡ Some (linked peer link) →
       refs (home r) ≡ Some r
   pub shut_given : (q : ℕ) → shut q ≡ true → q ≤ w.end.given
-  pub strays : AreStrays shut w.end refs home w.tap.course.strays tagged
+  pub strays : AreStrays shut w.end refs home w.tap.course.disconnects.strays tagged
   pub last : ℕ
   pub tops : (p : ℕ) (c : Connection) → slice_get w.tap.connections p ≡ Some c → c.right.reference ≤ last
   pub above : AreAbove w.end.given last (values tagged)
@@ -246,7 +246,7 @@ pub record Called (local : Local) (w : Whole) : Type 0 where
   pub few : AllByRecursion (IsFor w.end.given) w.coming
   pub untagged : AllByRecursion Untagged came
   -- as long as each DR has closed something
-  pub timely : w.tap.course.strays ≡ false → w.end.ended ≡ None → Timely w.end w.coming w.tap.connections (values tagged)
+  pub timely : w.tap.course.disconnects.strays ≡ false → w.end.ended ≡ None → Timely w.end w.coming w.tap.connections (values tagged)
 
 -- ---- a packet begins
 
@@ -342,7 +342,7 @@ module _ (local : Local) (shut : ℕ → Bool) (end : State) (coming mine asks :
 map_none : (d : Direction) (o : Option Connection) → option_map (begins d) o ≡ None → o ≡ None
 map_none d o e = grind arith
 
-course_strays : (d : Direction) (s : Traffic) → (packet_begins d s).course.strays ≡ s.course.strays
+course_strays : (d : Direction) (s : Traffic) → (packet_begins d s).course.disconnects.strays ≡ s.course.disconnects.strays
 course_strays d s = grind arith
 
 pub first_some : (p : ℕ) (ts : List Placed) → first_at p ts ≡ true → units_at p ts ≢ []

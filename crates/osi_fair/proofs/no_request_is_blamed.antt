@@ -1,5 +1,6 @@
 -- No CR of a whole calling end is blamed, whatever happens.
 -- For the law of that name.
+use Rattle.osi_fair.proofs.Vocabulary.{Disconnects, no_disconnects}
 use Rattle.osi_fair.proofs.Vocabulary.{[], arith, Bool, false, List, refl, subst, sym, true, ◌∙◌, ◌∷◌, ◌≡◌, ◌⊎◌, Connect, request, Value}
 use Rattle.osi_fair.proofs.Vocabulary.{Local, is_stopped, Traffic, takes, Connection, Left, Right, Kept, TooMany, packet, rubbish}
 use Rattle.osi_fair.proofs.Vocabulary.{unit as passing, arrives, begin, calls, Event, HappenAlong, Happens, passes_rubbish, Whole}
@@ -43,7 +44,8 @@ pub holds_first : (local : Local) → Holds local (begin true local)
 holds_first local = record {
   newer = record { last = 0; below = λ i c at. no_item i c at; rise = tt; up = tt; given = omega arith };
   stage = λ goes.
-      quiet (record { lasts = refl; caller = refl; class = refl; live = refl }, refl) refl refl [] false refl (λ i c at. no_item i c at) tt;
+      quiet (record { lasts = refl; caller = refl; class = refl; live = refl }, refl) refl refl [] no_disconnects refl
+      (λ i c at. no_item i c at) tt;
 }
 
 -- ---- the CR that is passing
@@ -54,19 +56,19 @@ IsRightCr x s = Passed (takes Left (request x) s).told.finding
 some_cr : {A : Type 0} (w : Whole) (x : Connect) (rest : List Value) → w.put ≡ request x ∷ rest → w.put ≡ [] → A
 some_cr w x rest e none = absurd (cc (sym e ∙ none))
 
-while_calm : (x : Connect) (w : Whole) (cs : List Connection) (strays : Bool) (rest : List Value) → w.put ≡ request x ∷ rest → Newer w →
-    w.tap ≡ calm_tap cs strays → AllOver cs → IsRightCr x w.tap
-while_calm x w cs strays rest e newer tap all =
+while_calm : (x : Connect) (w : Whole) (cs : List Connection) (drs : Disconnects) (rest : List Value) → w.put ≡ request x ∷ rest → Newer w →
+    w.tap ≡ calm_tap cs drs → AllOver cs → IsRightCr x w.tap
+while_calm x w cs drs rest e newer tap all =
     let unused = subst (λ (t : Traffic). IsUnused x.source t) tap (next_unused x rest w e newer) in
-    grind (arith, calm_tap cs strays, calm_passes x cs strays all unused)
+    grind (arith, calm_tap cs drs, calm_passes x cs drs all unused)
 
 pub is_right : (local : Local) (x : Connect) (rest : List Value) (w : Whole) → w.put ≡ request x ∷ rest → w.begun ≡ true →
     GoesOn w.tap → Newer w → Stage local w → IsRightCr x w.tap
 is_right local x rest w e begun goes newer (ended none h) = some_cr w x rest e none
-is_right local x rest w e begun goes newer (quiet is none not_begun cs strays tap done dcs) = some_cr w x rest e none
-is_right local x rest w e begun goes newer (asks y put is offers cs strays tap done dcs all) = search (arith, while_calm)
-is_right local x rest w e begun goes newer (waits r is none not_begun cs strays tap p o offers waiting dcs) = some_cr w x rest e none
-is_right local x rest w e begun goes newer (refused r is none not_begun cs strays tap done dcs v more coming are refusal too) =
+is_right local x rest w e begun goes newer (quiet is none not_begun cs drs tap done dcs) = some_cr w x rest e none
+is_right local x rest w e begun goes newer (asks y put is offers cs drs tap done dcs all) = search (arith, while_calm)
+is_right local x rest w e begun goes newer (waits r is none not_begun cs drs tap p o offers waiting dcs) = some_cr w x rest e none
+is_right local x rest w e begun goes newer (refused r is none not_begun cs drs tap done dcs v more coming are refusal too) =
     some_cr w x rest e none
 is_right local x rest w e begun goes newer (answered r is none not_begun dcs n y more coming are class has after so z) =
     some_cr w x rest e none

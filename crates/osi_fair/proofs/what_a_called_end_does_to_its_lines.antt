@@ -90,7 +90,7 @@ module _ (local : Local) (w : Whole) (f : Called local w) (t : State) (units : L
     (left : (peer : ℕ) (k : Standing) → value_at n w.end.live ≡ Some (linked peer k) → Leaves n peer t)
     (come_is : coming ≡ values came) (few : AllByRecursion (IsFor w.end.given) coming) (untagged : AllByRecursion Untagged came)
     (no_cc : AllByRecursion (λ (v : Value). (m : ℕ) (x : Connect) → v ≡ confirm m x → ⊥) units)
-    (timely : w.tap.course.strays ≡ false → t.ended ≡ None → Timely t coming w.tap.connections (values f.tagged)) where
+    (timely : w.tap.course.disconnects.strays ≡ false → t.ended ≡ None → Timely t coming w.tap.connections (values f.tagged)) where
   abbrev s : State
   s = w.end
 
@@ -254,8 +254,8 @@ module _ (local : Local) (w : Whole) (f : Called local w) (t : State) (units : L
   stray_home : (m : ℕ) → f.shut m ≡ true → f.refs (f.home m) ≡ Some m → f.home m ≡ p → ⊥
   stray_home m h e same = grind (arith, number_is, index, shut_at)
 
-  stray_still : (v : Value) (later : List Placed) → IsStray f.shut s f.refs f.home w.tap.course.strays v later →
-      IsStray f.shut t f.refs f.home w.tap.course.strays v (later ++ all_at (Some p) units)
+  stray_still : (v : Value) (later : List Placed) → IsStray f.shut s f.refs f.home w.tap.course.disconnects.strays v later →
+      IsStray f.shut t f.refs f.home w.tap.course.disconnects.strays v (later ++ all_at (Some p) units)
   stray_still v later a = grind (arith, at_join, all_at, units_at, all_elsewhere, stray_home, append-nil)
 
   pub line_steps : Called local (record w { end = t; put = w.put ++ units; coming = coming })
@@ -274,8 +274,9 @@ module _ (local : Local) (w : Whole) (f : Called local w) (t : State) (units : L
     positive = f.positive;
     linked_at = λ lasts r peer k there. linked_by r peer k (r == n) refl there;
     shut_given = λ r e. subst (λ (j : ℕ). r ≤ j) (sym given) (f.shut_given r e);
-    strays = strays_keep f.shut f.shut s t f.refs f.refs f.home f.home w.tap.course.strays f.tagged (all_at (Some p) units) stray_still
-        (placed_not_stray f.shut t f.refs f.home w.tap.course.strays p units) f.strays;
+    strays = strays_keep f.shut f.shut s t f.refs f.refs f.home f.home w.tap.course.disconnects.strays f.tagged (all_at (Some p) units)
+        stray_still
+        (placed_not_stray f.shut t f.refs f.home w.tap.course.disconnects.strays p units) f.strays;
     last = f.last;
     tops = f.tops;
     above = subst (λ (j : ℕ). AreAbove j f.last (values tagged)) (sym given)

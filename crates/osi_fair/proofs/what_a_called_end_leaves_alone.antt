@@ -25,10 +25,11 @@ module _ (local : Local) (w : Whole) (f : Called local w) (t : State) (units : L
     (others : (m : ℕ) → (m ≡ n → ⊥) → those m coming ≡ those m w.coming) (asks : (p : ℕ) → units_at p came ≡ units_at p f.came)
     (shut : ℕ → Bool) (shut_was : (r : ℕ) → shut r ≡ true → (f.shut r ≡ true) ⊎ (r ≡ n)) (shut_still : (r : ℕ) → f.shut r ≡ true →
     shut r ≡ true)
-    (shut_given : (r : ℕ) → shut r ≡ true → r ≤ t.given) (strays : AreStrays shut t f.refs f.home w.tap.course.strays (all_at None units))
+    (shut_given : (r : ℕ) → shut r ≡ true → r ≤ t.given) (strays : AreStrays shut t f.refs f.home w.tap.course.disconnects.strays
+        (all_at None units))
     (come_is : coming ≡ values came) (few : AllByRecursion (IsFor w.end.given) coming) (untagged : AllByRecursion Untagged came)
     (no_cc : AllByRecursion (λ (v : Value). (m : ℕ) (x : Connect) → v ≡ confirm m x → ⊥) units)
-    (timely : w.tap.course.strays ≡ false → t.ended ≡ None → Timely t coming w.tap.connections (values f.tagged)) where
+    (timely : w.tap.course.disconnects.strays ≡ false → t.ended ≡ None → Timely t coming w.tap.connections (values f.tagged)) where
   abbrev s : State
   s = w.end
 
@@ -186,8 +187,8 @@ module _ (local : Local) (w : Whole) (f : Called local w) (t : State) (coming : 
   stand_over i c mine begun = stands_at local f.shut w.end t w.coming coming mine (units_at i f.came) (units_at i came) begun (f.refs i) c
       (λ x ask lasts. not_last lasts) (asks i) (λ r peer link come e row. over gone) (λ r e un lasts. not_last lasts)
 
-  stray_over : (v : Value) (later : List Placed) → IsStray f.shut w.end f.refs f.home w.tap.course.strays v later →
-      IsStray f.shut t f.refs f.home w.tap.course.strays v (later ++ [])
+  stray_over : (v : Value) (later : List Placed) → IsStray f.shut w.end f.refs f.home w.tap.course.disconnects.strays v later →
+      IsStray f.shut t f.refs f.home w.tap.course.disconnects.strays v (later ++ [])
   stray_over v later a = search (arith, append-nil)
 
   pub is_over : Called local (record w { end = t; coming = coming })
@@ -205,8 +206,8 @@ module _ (local : Local) (w : Whole) (f : Called local w) (t : State) (coming : 
     positive = f.positive;
     linked_at = λ lasts. not_last lasts;
     shut_given = λ r e. subst (λ (j : ℕ). r ≤ j) (sym given) (f.shut_given r e);
-    strays = subst (λ (l : List Placed). AreStrays f.shut t f.refs f.home w.tap.course.strays l) (append-nil f.tagged)
-        (strays_keep f.shut f.shut w.end t f.refs f.refs f.home f.home w.tap.course.strays f.tagged [] stray_over tt f.strays);
+    strays = subst (λ (l : List Placed). AreStrays f.shut t f.refs f.home w.tap.course.disconnects.strays l) (append-nil f.tagged)
+        (strays_keep f.shut f.shut w.end t f.refs f.refs f.home f.home w.tap.course.disconnects.strays f.tagged [] stray_over tt f.strays);
     last = f.last;
     tops = f.tops;
     above = subst (λ (j : ℕ). AreAbove j f.last (values f.tagged)) (sym given) f.above;

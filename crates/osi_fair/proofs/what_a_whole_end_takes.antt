@@ -50,7 +50,7 @@ pub record Owner (s : Traffic) (n : ℕ) (units : List Value) : Type 0 where
 pub record Answers (s : Traffic) (n : ℕ) (units : List Value) : Type 0 where
   pub m : ℕ
   pub is : units ≡ disconnected m n ∷ []
-  pub strays : s.course.strays ≡ true
+  pub strays : s.course.disconnects.strays ≡ true
 
 -- the reference was given, and its CR is answered
 pub record IsAnswered (end : State) (n : ℕ) : Type 0 where
@@ -119,8 +119,8 @@ module _ (local : Local) (w : Whole) (f : Followed local w) (sane : IsSane w.tap
     (asked_dc : is_dc u ≡ true → value_at n w.end.live ≡ Some asked → value_at n t.live ≡ Some asked)
     (asked_was : value_at n t.live ≡ Some asked → value_at n w.end.live ≡ Some asked)
     (mine : (p : ℕ) (c : Connection) → slice_get w.tap.connections p ≡ Some c → is_tracked c ≡ true →
-    (g : Following local w.put w.begun w.tap.course.strays w.end w.coming c) → g.r ≡ n →
-    Following local (w.put ++ units) w.begun w.tap.course.strays t later c)
+    (g : Following local w.put w.begun w.tap.course.disconnects.strays w.end w.coming c) → g.r ≡ n →
+    Following local (w.put ++ units) w.begun w.tap.course.disconnects.strays t later c)
     (mine_linked : (peer : ℕ) (link : Standing) → value_at n t.live ≡ Some (linked peer link) →
     Tracked w.tap.connections n × (t.class ≡ Some Two))
     (owner : Puts w.tap w.end n units) where
@@ -143,14 +143,14 @@ module _ (local : Local) (w : Whole) (f : Followed local w) (sane : IsSane w.tap
       search (arith, ours, append-nil, picked_join, is_ours, none_ours, one_peer, picked_other, dc_not_ours)
 
   line_other : (p : ℕ) (c : Connection) → slice_get cs p ≡ Some c → is_tracked c ≡ true →
-      (g : Following local w.put w.begun w.tap.course.strays w.end w.coming c) → (g.r ≡ n → ⊥) →
-      Following local (w.put ++ units) w.begun w.tap.course.strays t later c
+      (g : Following local w.put w.begun w.tap.course.disconnects.strays w.end w.coming c) → (g.r ≡ n → ⊥) →
+      Following local (w.put ++ units) w.begun w.tap.course.disconnects.strays t later c
   line_other p c at tracked g other = followed_at g (put_by p c at tracked g.r g.peer g.left g.right other owner) g.spares
       (leads_more w.begun (is_ours g.r g.peer) w.put units f.some) (row_later g.r g.peer g.line other g.row)
 
   line_by : (p : ℕ) (c : Connection) → slice_get cs p ≡ Some c → is_tracked c ≡ true →
-      (g : Following local w.put w.begun w.tap.course.strays w.end w.coming c) → (b : Bool) → (g.r == n) ≡ b →
-      Following local (w.put ++ units) w.begun w.tap.course.strays t later c
+      (g : Following local w.put w.begun w.tap.course.disconnects.strays w.end w.coming c) → (b : Bool) → (g.r == n) ≡ b →
+      Following local (w.put ++ units) w.begun w.tap.course.disconnects.strays t later c
   line_by p c at tracked g true e = mine p c at tracked g (eqb-true g.r n e)
   line_by p c at tracked g false e = line_other p c at tracked g (unlike g.r n e)
 

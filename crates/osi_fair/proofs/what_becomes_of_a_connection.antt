@@ -7,7 +7,7 @@ use Rattle.osi_fair.proofs.Vocabulary.{is_of_connection, passes_over, reach_of, 
 use Rattle.osi_fair.proofs.Vocabulary.{is_offered, Test, is_closing, is_named, is_open, is_refused, is_silent, at_place, class_for}
 use Rattle.osi_fair.proofs.Vocabulary.{connection_after, course_after, found, found_on, half_after, one_told, Outcome, reached, route_in}
 use Rattle.osi_fair.proofs.Vocabulary.{routed, Traffic, takes, unnamed_told, uses_source, Connection, Course, Right, Finding, Broke, Kept}
-use Rattle.osi_fair.proofs.Vocabulary.{NotJudged, Outside, TooMany, Reach, Rule, noted}
+use Rattle.osi_fair.proofs.Vocabulary.{NotJudged, Outside, TooMany, Reach, Rule, may_answer, noted}
 use Rattle.osi_rules.specs.declared.findings.Reach.TheVariants as reach
 use Rattle.osi_rules.specs.declared.findings.Rule.TheVariants as rule
 use Rattle.osi_fair.proofs.small_facts_that_many_lemmas_use.{and_first, and_second, differ, judged_same, open_or_closing}
@@ -37,7 +37,7 @@ pub record IsIdle (v : Value) (s : Traffic) (o : Outcome) : Type 0 where
   pub m : ℕ
   pub source : ℕ
   pub dc : v ≡ disconnected m source
-  pub strays : s.course.strays ≡ true
+  pub may : may_answer Right s.course.disconnects ≡ true
   pub same : o.state ≡ s
 
 -- ---- a unit for no connection

@@ -3,7 +3,7 @@
 use Rattle.osi_fair.proofs.Vocabulary.{arith, Bool, false, List, None, Some, true, ℕ, ◌≡◌, position, disconnect, disconnected, Value, Two}
 use Rattle.osi_fair.proofs.Vocabulary.{reach_of, is_named, is_silent, asks_of, class_for, found, is_stopped, none_told, Outcome, reached}
 use Rattle.osi_fair.proofs.Vocabulary.{routed, Traffic as State, takes, Connection, Course, Direction, Right, Finding, Kept, Reach, Route}
-use Rattle.osi_fair.proofs.Vocabulary.{passes, Passing}
+use Rattle.osi_fair.proofs.Vocabulary.{may_answer, passes, Passing}
 use Rattle.osi_rules.specs.declared.findings.Rule.TheVariants as rule
 use Rattle.osi_fair.proofs.small_facts_that_many_lemmas_use.{or_first}
 use Rattle.osi_fair.proofs.what_is_right_passes_each_test.{is_right}
@@ -17,33 +17,33 @@ refusal_right c course in_use destination source reason user h = grind (arith, i
 
 -- ---- a DC
 
-pub dc_spared : (d : Direction) (s : State) (n source : ℕ) → class_for d s.course ≡ Some Two → s.course.strays ≡ true →
+pub dc_spared : (d : Direction) (s : State) (n source : ℕ) → class_for d s.course ≡ Some Two → may_answer d s.course.disconnects ≡ true →
     IsNotBlamed (takes d (disconnected n source) s).told.finding
 dc_spared d s n source two h = grind arith
 
 -- ---- it lasts
 
-pub reached_strays : (d : Direction) (r : Reach) (c : Course) → c.strays ≡ true → (reached d r c).strays ≡ true
+pub reached_strays : (d : Direction) (r : Reach) (c : Course) → c.disconnects.strays ≡ true → (reached d r c).disconnects.strays ≡ true
 reached_strays d r c h = grind arith
 
 abbrev pub Strays : Outcome → Type 0
-Strays o = o.state.course.strays ≡ true
+Strays o = o.state.course.disconnects.strays ≡ true
 
-to_none : (d : Direction) (f : Finding) (s : State) → s.course.strays ≡ true → Strays (none_told d f s)
+to_none : (d : Direction) (f : Finding) (s : State) → s.course.disconnects.strays ≡ true → Strays (none_told d f s)
 to_none d f s h = reached_strays d (reach_of (class_for d s.course) f) s.course h
 
-asks : (d : Direction) (v : Value) (s : State) → s.course.strays ≡ true → Strays (asks_of d v s)
+asks : (d : Direction) (v : Value) (s : State) → s.course.disconnects.strays ≡ true → Strays (asks_of d v s)
 asks d v s h = grind (arith, to_none)
 
-by_route : (d : Direction) (v : Value) (s : State) (r : Route) → s.course.strays ≡ true → Strays (routed d v s r)
+by_route : (d : Direction) (v : Value) (s : State) (r : Route) → s.course.disconnects.strays ≡ true → Strays (routed d v s r)
 by_route d v s r h = search (arith, asks, to_none)
 
-pub strays_last : (p : Passing) (s : State) → s.course.strays ≡ true → (passes p s).course.strays ≡ true
+pub strays_last : (p : Passing) (s : State) → s.course.disconnects.strays ≡ true → (passes p s).course.disconnects.strays ≡ true
 strays_last p s h = grind (arith, to_none, by_route, reached_strays)
 
 -- ---- a DR for no connection
 
 pub dr_strays : (d : Direction) (s : State) (n source reason : ℕ) (user : List ℕ) → is_stopped d s.course ≡ false →
     class_for d s.course ≡ Some Two → position (is_named d n) s.connections ≡ None →
-    (takes d (disconnect n source reason user) s).state.course.strays ≡ true
+    (takes d (disconnect n source reason user) s).state.course.disconnects.strays ≡ true
 dr_strays d s n source reason user judged two none = grind arith

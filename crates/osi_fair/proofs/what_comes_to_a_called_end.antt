@@ -7,6 +7,7 @@ use Rattle.osi_fair.proofs.Vocabulary.{Class, Two, Zero, Local, value_at, linked
 use Rattle.osi_fair.proofs.Vocabulary.{is_over_by, is_refused, asked_by, asks_kept, Outcome, placed, takes, Connection, Course, Left, Right}
 use Rattle.osi_fair.proofs.Vocabulary.{first_failed, Kept, Phase, request_tests, Whole}
 use Rattle.osi_fair.proofs.small_facts_that_many_lemmas_use.{all_add, and_first, and_second, differ, no_number, set_none}
+use Rattle.osi_fair.proofs.a_dc_follows_a_dr.{may_strays}
 use Rattle.osi_fair.proofs.how_a_unit_of_right_passes.{strays_more}
 use Rattle.osi_fair.proofs.a_right_unit_is_not_blamed.{first_there}
 use Rattle.osi_fair.proofs.names_stay_apart_though_one_is_lost.{AreNamedApart, left_asked}
@@ -177,8 +178,8 @@ module _ (local : Local) (w : Whole) (f : Called local w) (apart : AreApart w.ta
           (f.home r == p) ≡ b → refs (f.home r) ≡ Some r
       linked_case r peer l lasts there b e = search (arith, eqb-true)
 
-      strays_case : (ts : List Placed) → AreStrays f.shut w.end f.refs f.home w.tap.course.strays ts →
-          AreStrays f.shut w.end (λ i. refs i) f.home w.tap.course.strays ts
+      strays_case : (ts : List Placed) → AreStrays f.shut w.end f.refs f.home w.tap.course.disconnects.strays ts →
+          AreStrays f.shut w.end (λ i. refs i) f.home w.tap.course.disconnects.strays ts
       strays_case [] h = tt
       strays_case ((None, u) ∷ ts) (one, rest) = search (arith, old_ref, strays_case ts rest)
       strays_case ((Some i, u) ∷ ts) (one, rest) = (tt, strays_case ts rest)
@@ -242,7 +243,7 @@ module _ (local : Local) (w : Whole) (f : Called local w) (apart : AreApart w.ta
   by_came (asks_so x e class kept is) = (by_place x e is (position is_free cs) refl, names_asked x e is kept)
   by_came (for_one n q c dest at name is) = search (arith, for_one_so, names_after)
   by_came (only q c at class is) = not_zero w.tap.course.class_seen f.class_seen class
-  by_came (lost dc strays same) = grind (arith, is_lost)
+  by_came (lost dc may same) = grind (arith, is_lost, may_strays Left w.tap.course.disconnects may)
 
   pub comes_so : w.tap.course.right_erred ≡ false → AllAfter
   comes_so fine = search (arith, by_came, came_so, calm local w f apart named v ranges calm_after)

@@ -171,7 +171,7 @@ module _ (w : Whole) (apart : AreApart w.tap.connections) (judged : HoldsOfEach 
   selecting_by local f (asks_so x e class kept is) = cr_not x kept f.class_seen f.p f.c f.at (grind (arith, differ, and_second))
   selecting_by local f (for_one n q e dest at named is) = selecting_one q e at is local f (grind (arith, item_is, named_not, differ))
   selecting_by local f (only q e at seen is) = grind arith
-  selecting_by local f (lost dc strays same) = selecting_same local same f
+  selecting_by local f (lost dc may same) = selecting_same local same f
 
   asks_zero : (f : Selected w) (x : Connect) → (w.tap.course.class_seen ≡ Some Zero → ⊥) →
       first_failed (request_tests w.tap x) ≡ Kept → (w.tap.course.class_seen ≡ None) ⊎ (w.tap.course.class_seen ≡ Some Zero) →
@@ -183,7 +183,7 @@ module _ (w : Whole) (apart : AreApart w.tap.connections) (judged : HoldsOfEach 
   selected_by_came f (asks_so x e class kept is) = asks_zero f x class kept f.class_seen
   selected_by_came f (for_one n q e dest at named is) = selected_one q e at is f
   selected_by_came f (only q e at seen is) = selected_one q e at is f
-  selected_by_came f (lost dc strays same) = selected_same same f
+  selected_by_came f (lost dc may same) = selected_same same f
 
   pub selecting_comes : w.tap.course.right_erred ≡ false → IsCalm (takes Left v w.tap).state.course → (local : Local) →
       Selecting local w → Selecting local after

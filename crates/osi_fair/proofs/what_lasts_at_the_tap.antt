@@ -12,7 +12,7 @@ pub record Lasts (a b : Course) : Type 0 where
   pub firm : b.loose ≡ false → a.loose ≡ false
   pub left : b.left_stopped ≡ false → a.left_stopped ≡ false
   pub right : b.right_stopped ≡ false → a.right_stopped ≡ false
-  pub strays : b.strays ≡ false → a.strays ≡ false
+  pub strays : b.disconnects.strays ≡ false → a.disconnects.strays ≡ false
   pub two : a.class ≡ Some Two → b.class ≡ Some Two
   pub seen : a.class ≡ Some Two → a.class_seen ≡ Some Two → b.class_seen ≡ Some Two
   pub left_fine : b.left_erred ≡ false → a.left_erred ≡ false
@@ -30,8 +30,8 @@ lasts_reached d r c = search (arith, lasts_same)
 lasts_told : (d : Direction) (f : Finding) (r : Reach) (c : Course) → Lasts c (noted d f (reached d r c))
 lasts_told d f r c = grind (arith, lasts_then, lasts_reached d r c)
 
-lasts_none : (v : Value) (c : Course) → Lasts c (course_after_none v c)
-lasts_none v o = search (arith, lasts_same)
+lasts_none : (d : Direction) (v : Value) (c : Course) → Lasts c (course_after_none d v c)
+lasts_none d v o = search (arith, lasts_same)
 
 -- ---- a CC that is right selects class 2 again
 
@@ -55,7 +55,7 @@ to_none : (d : Direction) (f : Finding) (s : State) → After s (none_told d f s
 to_none d f s = lasts_told d f (reach_of (class_for d s.course) f) s.course
 
 to_unnamed : (d : Direction) (v : Value) (s : State) → After s (unnamed_told d v s)
-to_unnamed d v s = search (arith, lasts_then, lasts_told, lasts_none v s.course)
+to_unnamed d v s = search (arith, lasts_then, lasts_told, lasts_none d v s.course)
 
 -- after a unit for a connection
 pub one_lasts : (d : Direction) (s : State) (c : Connection) (v : Value) →

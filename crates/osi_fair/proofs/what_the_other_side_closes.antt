@@ -24,7 +24,7 @@ pub use Rattle.osi_fair.proofs.small_facts_that_many_lemmas_use.{judged_same}
 pub record IsPlain (c : Course) : Type 0 where
   pub left : c.left_stopped ≡ false
   pub right : c.right_stopped ≡ false
-  pub strays : c.strays ≡ false
+  pub strays : c.disconnects.strays ≡ false
   pub two : c.class ≡ Some Zero → ⊥
 
 calm_of : (c : Course) → IsPlain c → IsCalm c
@@ -83,11 +83,11 @@ pub not_calm : {A : Type 0} (k : Option Class) (r : Rule) (c : Course) → passe
     IsCalm (reached Right (reach_of k (Broke r)) c) → A
 not_calm k r c e f h = differ (is_of_connection r) (soft k r c e h).1 f
 
-none_bad : {A : Type 0} (v : Value) (s : State) → s.course.strays ≡ false → s.course.left_erred ≡ false →
+none_bad : {A : Type 0} (v : Value) (s : State) → s.course.disconnects.strays ≡ false → s.course.left_erred ≡ false →
     IsPlain (unnamed_told Right v s).state.course → A
 none_bad v s plain fine h = search (arith, calm_of)
 
-reached_plain : (r : Reach) (c : Course) → (reached Right r c).strays ≡ false → c.strays ≡ false
+reached_plain : (r : Reach) (c : Course) → (reached Right r c).disconnects.strays ≡ false → c.disconnects.strays ≡ false
 reached_plain r c h = grind arith
 
 -- ---- a unit for a connection
@@ -103,7 +103,8 @@ still_open p q a b c h = grind arith
 
 module _ (L : ℕ → Type 0) (s : State) (q : ℕ) (c : Connection) (at : slice_get s.connections q ≡ Some c)
     (sound : Sound c) (started : IsStarted c) (distinct : AreDistinct s.connections)
-    (lively : HoldsOfEach (IsLively L) s.connections) (plain : s.course.strays ≡ false) (fine : s.course.left_erred ≡ false) where
+    (lively : HoldsOfEach (IsLively L) s.connections) (plain : s.course.disconnects.strays ≡ false) (fine : s.course.left_erred ≡ false)
+        where
   abbrev finding : Value → Finding
   finding v = found_on Right s c v
 
@@ -192,7 +193,7 @@ module _ (L : ℕ → Type 0) (s : State) (q : ℕ) (c : Connection) (at : slice
         let v = disconnect destination source reason user in
         let so = reached_plain (how_far v) (course_after Right c v (is_applied (finding v)) s.course) h.strays in
         let stray = or_right (not (is_applied (finding v))) (is_stray Right c source)
-        (or_right s.course.strays (not (is_applied (finding v)) || is_stray Right c source) so) in
+        (or_right s.course.disconnects.strays (not (is_applied (finding v)) || is_stray Right c source) so) in
         let opened = not_not (is_open c.right.phase) (grind (arith, or_left)) in
         let first = or_right (not (source == c.right.reference)) (is_closing c.left.phase) (grind (arith, or_right)) in
         let mine = still_open c.left.phase c.right.phase started first sound.left_closed opened in

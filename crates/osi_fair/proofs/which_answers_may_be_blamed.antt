@@ -18,7 +18,7 @@ module _ (d : Direction) (s : State) (n source reason : ℕ) (user : List ℕ) (
   Either o = Strays o ⊎ JustCloses d s n source
 
   by_stray : (p : ℕ) (c : Connection) (b : Bool) → position (is_named d n) s.connections ≡ Some p → slice_get s.connections p ≡ Some c →
-      (s.course.strays || (not (is_applied (found_on d s c (disconnect n source reason user))) || is_stray d c source)) ≡ b →
+      (s.course.disconnects.strays || (not (is_applied (found_on d s c (disconnect n source reason user))) || is_stray d c source)) ≡ b →
       Either (at_found d (disconnect n source reason user) s p (Some c))
   by_stray p c true first at h = grind (arith, reached_strays)
   by_stray p c false first at h = search (arith, not_any, not_stray, applied_judged, eqb-true)
@@ -32,5 +32,5 @@ module _ (d : Direction) (s : State) (n source reason : ℕ) (user : List ℕ) (
 
 pub dr_closes : (d : Direction) (s : State) (n source reason : ℕ) (user : List ℕ) → is_stopped d s.course ≡ false →
     class_for d s.course ≡ Some Two →
-    ((takes d (disconnect n source reason user) s).state.course.strays ≡ true) ⊎ JustCloses d s n source
+    ((takes d (disconnect n source reason user) s).state.course.disconnects.strays ≡ true) ⊎ JustCloses d s n source
 dr_closes d s n source reason user judged two = strays_or_closes d s n source reason user judged two

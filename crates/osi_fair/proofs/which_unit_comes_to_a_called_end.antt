@@ -6,7 +6,7 @@ use Rattle.osi_fair.proofs.Vocabulary.{disconnect, disconnected, error, request,
 use Rattle.osi_fair.proofs.Vocabulary.{reach_by, reach_of, reach_past, first_failed, is_free, is_live, is_named, asks_by, asks_kept}
 use Rattle.osi_fair.proofs.Vocabulary.{asks_of, at_found, at_place, none_told, one_told, Outcome, reached, request_tests, route, route_in}
 use Rattle.osi_fair.proofs.Vocabulary.{routed, Traffic, takes, unnamed_told, Connection, Course, Left, Right, Finding, Broke, Kept}
-use Rattle.osi_fair.proofs.Vocabulary.{NotJudged, TooMany, Rule, has_broken}
+use Rattle.osi_fair.proofs.Vocabulary.{NotJudged, TooMany, Rule, has_broken, may_answer}
 use Rattle.osi_rules.specs.declared.findings.Reach.TheVariants as reach
 use Rattle.osi_rules.specs.declared.findings.Rule.TheVariants as rule
 use Rattle.osi_fair.proofs.small_facts_that_many_lemmas_use.{differ}
@@ -48,7 +48,7 @@ pub data Came (v : Value) (s : Traffic) (o : Outcome) : Type 0 where
   -- class 0 has one connection
   only : (q : ℕ) (c : Connection) → slice_get s.connections q ≡ Some c → s.course.class_seen ≡ Some Zero → o ≡ one_told Left q c v s →
       Came v s o
-  lost : IsDc v → s.course.strays ≡ true → o.state ≡ s → Came v s o
+  lost : IsDc v → may_answer Left s.course.disconnects ≡ true → o.state ≡ s → Came v s o
 
 -- the tests of a CR
 request_by : (a b c d : Bool) (f : Finding) →

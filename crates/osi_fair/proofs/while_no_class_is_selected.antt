@@ -5,7 +5,8 @@ use Rattle.osi_fair.proofs.Vocabulary.{Some, subst, suc, sym, true, zero, ℕ, �
 use Rattle.osi_fair.proofs.Vocabulary.{slice_get, confirm, Connect, disconnect, disconnected, error, Value, is_applied, reach_of}
 use Rattle.osi_fair.proofs.Vocabulary.{code_named, first_failed, given_again, is_inside, is_offered, begins, is_free, is_named, is_over}
 use Rattle.osi_fair.proofs.Vocabulary.{is_refused, is_silent, asked_by, asks_by, at_found, at_place, class_of, closing_phase}
-use Rattle.osi_fair.proofs.Vocabulary.{connection_after, course_after, found, found_on, offer_of, Outcome, placed, reached, sent_on}
+use Rattle.osi_fair.proofs.Vocabulary.{Disconnects, connection_after, course_after, found, found_on, offer_of, Outcome, placed, reached}
+use Rattle.osi_fair.proofs.Vocabulary.{sent_on}
 use Rattle.osi_fair.proofs.Vocabulary.{Traffic as State, takes, unnamed_told, uses_source, Connection, Offer, Course, Direction, Left}
 use Rattle.osi_fair.proofs.Vocabulary.{Right, Finding, Broke, Kept, Outside, TooMany, Open, Silent, noted, is_break}
 use Rattle.osi_rules.specs.declared.findings.Reach.TheVariants as reach
@@ -46,11 +47,11 @@ added_there (z ∷ xs) x = added_there xs x
 
 -- ---- no class is selected, and both sides are judged
 
-abbrev pub calm : Bool → Course
-calm strays = record {
+abbrev pub calm : Disconnects → Course
+calm drs = record {
   class = None;
   class_seen = None;
-  strays = strays;
+  disconnects = drs;
   loose = false;
   left_stopped = false;
   right_stopped = false;
@@ -58,8 +59,8 @@ calm strays = record {
   right_erred = false;
 }
 
-abbrev pub calm_tap : List Connection → Bool → State
-calm_tap cs strays = record { connections = cs; course = calm strays }
+abbrev pub calm_tap : List Connection → Disconnects → State
+calm_tap cs drs = record { connections = cs; course = calm drs }
 
 -- left is still judged
 abbrev pub GoesOn : State → Type 0
@@ -74,12 +75,12 @@ IsDc (disconnected destination source) = Unit {0}
 IsDc _ = ⊥
 
 -- a unit for no connection is a DC, and changes nothing
-abbrev pub OnlyDc : Value → List Connection → Bool → State → Type 0
-OnlyDc v cs strays s = IsDc v × (s ≡ calm_tap cs strays)
+abbrev pub OnlyDc : Value → List Connection → Disconnects → State → Type 0
+OnlyDc v cs drs s = IsDc v × (s ≡ calm_tap cs drs)
 
-for_none : (cs : List Connection) (strays : Bool) (v : Value) → GoesOn (unnamed_told Right v (calm_tap cs strays)).state →
-    OnlyDc v cs strays (unnamed_told Right v (calm_tap cs strays)).state
-for_none cs strays v h = grind arith
+for_none : (cs : List Connection) (drs : Disconnects) (v : Value) → GoesOn (unnamed_told Right v (calm_tap cs drs)).state →
+    OnlyDc v cs drs (unnamed_told Right v (calm_tap cs drs)).state
+for_none cs drs v h = grind arith
 
 -- ---- none waits for an answer
 
@@ -90,12 +91,12 @@ named_where cs n q h = grind (arith, first_there, first_true)
 none_by : (cs : List Connection) (n : ℕ) (o : Option ℕ) → position (is_named Right n) cs ≡ o → HoldsOfEach IsDone cs → o ≡ None
 none_by cs n o e h = grind (arith, named_where)
 
-module _ (cs : List Connection) (strays : Bool) where
+module _ (cs : List Connection) (drs : Disconnects) where
   abbrev s : State
-  s = calm_tap cs strays
+  s = calm_tap cs drs
 
   -- if none waits, only a DC may come
-  pub done_takes : (v : Value) → HoldsOfEach IsDone cs → GoesOn (takes Right v s).state → OnlyDc v cs strays (takes Right v s).state
+  pub done_takes : (v : Value) → HoldsOfEach IsDone cs → GoesOn (takes Right v s).state → OnlyDc v cs drs (takes Right v s).state
   done_takes v done h = search (arith, none_by)
 
 -- ---- one waits for an answer
@@ -135,13 +136,13 @@ IsRefusal r (error destination cause) = destination ≡ r
 IsRefusal r _ = ⊥
 
 -- after the CC for the connection at this place, which may break a rule: it may select a larger size
-abbrev pub confirmed_tap : (p destination : ℕ) → Connect → Connection → List Connection → (strays erred : Bool) → State
-confirmed_tap p destination x c cs strays erred = record {
+abbrev pub confirmed_tap : (p destination : ℕ) → Connect → Connection → List Connection → (drs : Disconnects) (erred : Bool) → State
+confirmed_tap p destination x c cs drs erred = record {
   connections = set cs p (sent_on Right (confirm destination x) c);
   course = record {
     class = Some (class_of x);
     class_seen = None;
-    strays = strays;
+    disconnects = drs;
     loose = false;
     left_stopped = false;
     right_stopped = false;
@@ -151,18 +152,18 @@ confirmed_tap p destination x c cs strays erred = record {
 }
 
 -- a CC selects a class that is offered, a refusal leaves none that waits, and a DC changes nothing
-pub data Answer (r p : ℕ) (o : Offer) (cs : List Connection) (strays : Bool) (v : Value) (s : State) : Type 0 where
+pub data Answer (r p : ℕ) (o : Offer) (cs : List Connection) (drs : Disconnects) (v : Value) (s : State) : Type 0 where
   confirms : (destination : ℕ) (x : Connect) → v ≡ confirm destination x → (c : Connection) → slice_get cs p ≡ Some c → (erred : Bool) →
-      s ≡ confirmed_tap p destination x c cs strays erred → is_offered o None x ≡ true → is_inside x ≡ true → Answer r p o cs strays v s
-  refuses : IsRefusal r v → (after : List Connection) (more : Bool) → s ≡ calm_tap after more → HoldsOfEach IsDone after →
-      Answer r p o cs strays v s
-  says_nothing : OnlyDc v cs strays s → Answer r p o cs strays v s
+      s ≡ confirmed_tap p destination x c cs drs erred → is_offered o None x ≡ true → is_inside x ≡ true → Answer r p o cs drs v s
+  refuses : IsRefusal r v → (after : List Connection) (more : Disconnects) → s ≡ calm_tap after more → HoldsOfEach IsDone after →
+      Answer r p o cs drs v s
+  says_nothing : OnlyDc v cs drs s → Answer r p o cs drs v s
 
 -- the state after a unit for the connection at this place, by what is found of it
-abbrev by_finding : (p : ℕ) → Connection → List Connection → Bool → Value → Finding → State
-by_finding p c cs strays v f = record {
+abbrev by_finding : (p : ℕ) → Connection → List Connection → Disconnects → Value → Finding → State
+by_finding p c cs drs v f = record {
   connections = set cs p (connection_after Right v (is_applied f) (reach_of None f) c);
-  course = noted Right f (reached Right (reach_of None f) (course_after Right c v (is_applied f) (calm strays)));
+  course = noted Right f (reached Right (reach_of None f) (course_after Right c v (is_applied f) (calm drs)));
 }
 
 -- it is taken, and is an answer that the CR allows; or nothing more is judged
@@ -175,15 +176,16 @@ confirm_or : (a b i u loose l : Bool) →
     ∷ (l, Broke rule.LargerSize) ∷ []))
 confirm_or a b i u loose l = grind arith
 
-confirmed_by : (p destination : ℕ) (x : Connect) (c : Connection) (cs : List Connection) (strays offered inside : Bool) (f : Finding) →
-    Confirms offered inside f → GoesOn (by_finding p c cs strays (confirm destination x) f) →
-    (by_finding p c cs strays (confirm destination x) f ≡ confirmed_tap p destination x c cs strays (is_break f))
+confirmed_by : (p destination : ℕ) (x : Connect) (c : Connection) (cs : List Connection) (drs : Disconnects) (offered inside : Bool)
+    (f : Finding) →
+    Confirms offered inside f → GoesOn (by_finding p c cs drs (confirm destination x) f) →
+    (by_finding p c cs drs (confirm destination x) f ≡ confirmed_tap p destination x c cs drs (is_break f))
     × (offered ≡ true) × (inside ≡ true)
-confirmed_by p destination x c cs strays offered inside f k h = grind (arith, differ)
+confirmed_by p destination x c cs drs offered inside f k h = grind (arith, differ)
 
-module _ (r p : ℕ) (o : Offer) (cs : List Connection) (strays : Bool) (w : Waits r p o cs) where
+module _ (r p : ℕ) (o : Offer) (cs : List Connection) (drs : Disconnects) (w : Waits r p o cs) where
   abbrev t : State
-  t = calm_tap cs strays
+  t = calm_tap cs drs
 
   abbrev c : Connection
   c = w.c
@@ -195,15 +197,15 @@ module _ (r p : ℕ) (o : Offer) (cs : List Connection) (strays : Bool) (w : Wai
   silent_so = ap is_silent w.silent
 
   to_confirm : (destination : ℕ) (x : Connect) →
-      GoesOn (by_finding p c cs strays (confirm destination x) (finding (confirm destination x))) →
-      Answer r p o cs strays (confirm destination x) (by_finding p c cs strays (confirm destination x) (finding (confirm destination x)))
+      GoesOn (by_finding p c cs drs (confirm destination x) (finding (confirm destination x))) →
+      Answer r p o cs drs (confirm destination x) (by_finding p c cs drs (confirm destination x) (finding (confirm destination x)))
   to_confirm destination x h =
       let tests = confirm_or (is_silent c.right.phase) (is_offered c.offer None x) (is_inside x) (not (uses_source Right cs
       (confirm destination x))) false (nat_le (code_named x.parameters.size) c.offer.size_code) in
-      let is = judged_same c.is_judged (found Right (calm strays) (uses_source Right cs (confirm destination x)) c (confirm destination x))
+      let is = judged_same c.is_judged (found Right (calm drs) (uses_source Right cs (confirm destination x)) c (confirm destination x))
       w.judged in
       let so = subst (λ (f : Finding). Confirms (is_offered c.offer None x) (is_inside x) f) (sym is) tests in
-      let (after, offered, inside) = confirmed_by p destination x c cs strays (is_offered c.offer None x) (is_inside x)
+      let (after, offered, inside) = confirmed_by p destination x c cs drs (is_offered c.offer None x) (is_inside x)
       (finding (confirm destination x)) so h in
       confirms destination x refl c w.at (is_break (finding (confirm destination x))) after
       (ap (λ (y : Offer). is_offered y None x) (sym w.offer) ∙ offered) inside
@@ -216,45 +218,45 @@ module _ (r p : ℕ) (o : Offer) (cs : List Connection) (strays : Bool) (w : Wai
   refused_all : (new : Connection) → IsDone new → HoldsOfEach IsDone (set cs p new)
   refused_all new h i e at = refused_one new e i h (after_change cs p i new e at)
 
-  refusing : (v : Value) → IsRefusal r v → (f : Finding) → f ≡ Kept → (more : Bool) →
-      by_finding p c cs strays v Kept ≡ calm_tap (set cs p (connection_after Right v true reach.Nothing c)) more →
-      IsDone (connection_after Right v true reach.Nothing c) → Answer r p o cs strays v (by_finding p c cs strays v f)
+  refusing : (v : Value) → IsRefusal r v → (f : Finding) → f ≡ Kept → (more : Disconnects) →
+      by_finding p c cs drs v Kept ≡ calm_tap (set cs p (connection_after Right v true reach.Nothing c)) more →
+      IsDone (connection_after Right v true reach.Nothing c) → Answer r p o cs drs v (by_finding p c cs drs v f)
   refusing v is f kept more so done =
       refuses is (set cs p (connection_after Right v true reach.Nothing c)) more
-      (ap (λ (g : Finding). by_finding p c cs strays v g) kept ∙ so)
+      (ap (λ (g : Finding). by_finding p c cs drs v g) kept ∙ so)
       (refused_all (connection_after Right v true reach.Nothing c) done)
 
   to_disconnect : (destination source reason : ℕ) (user : List ℕ) → destination ≡ r →
-      Answer r p o cs strays (disconnect destination source reason user)
-      (by_finding p c cs strays (disconnect destination source reason user) (finding (disconnect destination source reason user)))
+      Answer r p o cs drs (disconnect destination source reason user)
+      (by_finding p c cs drs (disconnect destination source reason user) (finding (disconnect destination source reason user)))
   to_disconnect destination source reason user e =
       let v = disconnect destination source reason user in
       refusing v e (finding v)
       (grind (arith, judged_so))
-      (course_after Right c v true (calm strays)).strays refl
+      (course_after Right c v true (calm drs)).disconnects refl
       (w.judged, ap (λ (b : Bool). is_refused (closing_phase b c.right).phase) silent_so)
 
   to_error : (destination cause : ℕ) → destination ≡ r →
-      Answer r p o cs strays (error destination cause)
-      (by_finding p c cs strays (error destination cause) (finding (error destination cause)))
+      Answer r p o cs drs (error destination cause)
+      (by_finding p c cs drs (error destination cause) (finding (error destination cause)))
   to_error destination cause e =
       let v = error destination cause in
       refusing v e (finding v)
       (grind (arith, judged_so))
-      strays refl (w.judged, refl)
+      drs refl (w.judged, refl)
 
   to_dc : (destination source : ℕ) →
-      GoesOn (by_finding p c cs strays (disconnected destination source) (finding (disconnected destination source))) →
-      Answer r p o cs strays (disconnected destination source)
-      (by_finding p c cs strays (disconnected destination source) (finding (disconnected destination source)))
+      GoesOn (by_finding p c cs drs (disconnected destination source) (finding (disconnected destination source))) →
+      Answer r p o cs drs (disconnected destination source)
+      (by_finding p c cs drs (disconnected destination source) (finding (disconnected destination source)))
   to_dc destination source h = grind (arith, judged_same, set_same, differ)
 
   abbrev Answers : Value → State → Type 0
-  Answers v after = GoesOn after → Answer r p o cs strays v after
+  Answers v after = GoesOn after → Answer r p o cs drs v after
 
   at_named : (v : Value) (n : ℕ) (q : Option ℕ) → position (is_named Right n) cs ≡ q →
-      (n ≡ r → Answers v (by_finding p c cs strays v (finding v))) → Answers v (at_place Right v t q).state
-  at_named v n None e k h = says_nothing (for_none cs strays v h)
+      (n ≡ r → Answers v (by_finding p c cs drs v (finding v))) → Answers v (at_place Right v t q).state
+  at_named v n None e k h = says_nothing (for_none cs drs v h)
   at_named v n (Some q) e k h =
       let (same, is) = waits_named r p o cs w n q e in
       let there : at_place Right v t (Some q) ≡ at_found Right v t p (Some c) =
@@ -332,13 +334,14 @@ placed_waits x cs (Some q) e done =
     )
 
 -- a CR has passed, and waits for its answer
-pub record Asked (x : Connect) (strays : Bool) (s : State) : Type 0 where
+pub record Asked (x : Connect) (drs : Disconnects) (s : State) : Type 0 where
   pub after : List Connection
-  pub is : s ≡ calm_tap after strays
+  pub is : s ≡ calm_tap after drs
   pub place : ℕ
   pub waits : Waits x.source place (offer_of x) after
 
-pub asks_passed : (x : Connect) (cs : List Connection) (strays : Bool) (f : Finding) → (f ≡ Kept) ⊎ (f ≡ TooMany) → HoldsOfEach IsDone cs →
-    GoesOn (asks_by Left f x (calm_tap cs strays)).state → Asked x strays (asks_by Left f x (calm_tap cs strays)).state
-asks_passed x cs strays f (inl e) done h = grind (arith, placed_waits x cs (position is_free cs) refl done)
-asks_passed x cs strays f (inr e) done h = grind (arith, differ)
+pub asks_passed : (x : Connect) (cs : List Connection) (drs : Disconnects) (f : Finding) → (f ≡ Kept) ⊎ (f ≡ TooMany) →
+    HoldsOfEach IsDone cs →
+    GoesOn (asks_by Left f x (calm_tap cs drs)).state → Asked x drs (asks_by Left f x (calm_tap cs drs)).state
+asks_passed x cs drs f (inl e) done h = grind (arith, placed_waits x cs (position is_free cs) refl done)
+asks_passed x cs drs f (inr e) done h = grind (arith, differ)

@@ -29,6 +29,7 @@ ghost use Rattle.osi_tpdu.specs.Value.{Connect, IsConnect, Value, confirm, desti
 ghost use Rattle.osi_rules.specs.Sides.{begins, is_live, is_named, is_open, is_over, is_refused, is_silent, other, own, theirs, seen};
 ghost use Rattle.osi_rules.specs.Sides.{sends, uses};
 ghost use Rattle.osi_rules.specs.Traffic.{State as Traffic, asked_by, class_for, found, fresh, is_not_judged, is_stopped, offer_of};
+ghost use Rattle.osi_rules.specs.Traffic.{has_disconnected, knows_disconnect, may_answer};
 ghost use Rattle.osi_rules.specs.Traffic.{packet_begins, sent_on, silent_half, takes, uses_source};
 ghost use Rattle.osi_rules.specs.declared.connections.Connection.{Connection};
 ghost use Rattle.osi_rules.specs.declared.courses.Course.{Course};
@@ -219,22 +220,38 @@ pub fn a_right_unit_is_not_blamed()
 {}
 
 /// What an end answers without an open connection. A DR that refuses a CR is right (`refusal`). After a DR that closed nothing
-/// no DC is blamed (`dc`), whatever passes after it (`lasts`); a DR of the other side for no connection is such a one
-/// (`stray`), and so is each DR except one that just closes an open connection which is judged (`closes`).
+/// no DC is blamed whose sender knows a DR of the other side (`dc`), whatever passes after it (`lasts`); a DR of the other side
+/// for no connection is such a one (`stray`), and so is each DR except one that just closes an open connection which is judged
+/// (`closes`). A side knows a DR if it had passed when the current packet of this side began (`begins`); each DR of a side that
+/// is judged after it is noted (`noted`).
 pub fn what_belongs_to_no_open_connection()
     ensures refusal { (c : Connection) (course : Course) (in_use : Bool) (destination source reason : ℕ) (user : List ℕ) →
         is_silent c.right.phase ≡ true →
         found Direction.Right course in_use c (disconnect destination source reason user) ≡ Finding.Kept }
-    ensures dc { (d : Direction) (s : Traffic) (n source : ℕ) → class_for d s.course ≡ Some Two → s.course.strays ≡ true →
-        ((takes d (disconnected n source) s).told.finding ≡ Finding.Kept)
+    ensures dc { (d : Direction) (s : Traffic) (n source : ℕ) → class_for d s.course ≡ Some Two →
+        may_answer d s.course.disconnects ≡ true → ((takes d (disconnected n source) s).told.finding ≡ Finding.Kept)
         ⊎ ((takes d (disconnected n source) s).told.finding ≡ Finding.NotJudged) }
-    ensures lasts { (passing : Passing) (s : Traffic) → s.course.strays ≡ true → (passes passing s).course.strays ≡ true }
+    ensures lasts { (passing : Passing) (s : Traffic) → s.course.disconnects.strays ≡ true →
+        (passes passing s).course.disconnects.strays ≡ true }
     ensures stray { (d : Direction) (s : Traffic) (n source reason : ℕ) (user : List ℕ) → is_stopped d s.course ≡ false →
         class_for d s.course ≡ Some Two → position (is_named d n) s.connections ≡ None →
-        (takes d (disconnect n source reason user) s).state.course.strays ≡ true }
+        (takes d (disconnect n source reason user) s).state.course.disconnects.strays ≡ true }
     ensures closes { (d : Direction) (s : Traffic) (n source reason : ℕ) (user : List ℕ) → is_stopped d s.course ≡ false →
         class_for d s.course ≡ Some Two →
-        ((takes d (disconnect n source reason user) s).state.course.strays ≡ true) ⊎ JustCloses d s n source }
+        ((takes d (disconnect n source reason user) s).state.course.disconnects.strays ≡ true) ⊎ JustCloses d s n source }
+    ensures begins { (d : Direction) (s : Traffic) → knows_disconnect d (packet_begins d s).course.disconnects
+        ≡ has_disconnected (other d) s.course.disconnects }
+    ensures noted { (d : Direction) (s : Traffic) (n source reason : ℕ) (user : List ℕ) →
+        is_stopped d (takes d (disconnect n source reason user) s).state.course ≡ false →
+        has_disconnected d (takes d (disconnect n source reason user) s).state.course.disconnects ≡ true }
+{}
+
+/// An end sends a DC only after it was sent a DR, which had passed when the packet of the DC began. Take any run of a whole end,
+/// calling or called: if a DC of the end is passing, the tap knows a DR of the other side, as long as that side is judged.
+pub fn a_dc_follows_a_dr()
+    ensures { (d : Direction) (is_caller : Bool) (local : Local) (events : List Event) (w : Whole) (n source : ℕ) (rest : List Value) →
+        HappenAlong d (begin is_caller local) events w → w.begun ≡ true → w.put ≡ disconnected n source ∷ rest →
+        is_stopped (other d) w.tap.course ≡ false → knows_disconnect d w.tap.course.disconnects ≡ true }
 {}
 
 /// The units that a carrier puts (`specs/Putting`) are what it writes, each in a packet of its own: as it takes a unit
@@ -264,7 +281,7 @@ pub fn a_dr_for_what_is_gone_closed_nothing()
         local.class0 ≡ false → local.class2 ≡ true → HappenAlong Direction.Left (begin true local) events w →
         w.coming ≡ disconnect n source reason user ∷ more → w.end.ended ≡ None → value_at n w.end.live ≡ None →
         is_stopped Direction.Left w.tap.course ≡ false → is_stopped Direction.Right w.tap.course ≡ false →
-        w.tap.course.strays ≡ true }
+        w.tap.course.disconnects.strays ≡ true }
 {}
 
 /// A whole calling end is fair. Take any run of it, whatever classes it offers: any calls of its user, whatever units the other side
@@ -281,7 +298,7 @@ pub fn a_calling_end_is_fair()
         ((takes Direction.Left unit w.tap).told.finding ≡ Finding.Kept)
         ⊎ (((takes Direction.Left unit w.tap).told.finding ≡ Finding.TooMany)
         ⊎ (((takes Direction.Left unit w.tap).told.finding ≡ Finding.NotJudged)
-        × ((w.tap.course.strays ≡ true) ⊎ (w.tap.course.loose ≡ true)))) }
+        × ((w.tap.course.disconnects.strays ≡ true) ⊎ (w.tap.course.loose ≡ true)))) }
     ensures in_class_0 { (local : Local) (events : List Event) (w : Whole) (unit : Value) (rest : List Value) →
         HappenAlong Direction.Left (begin true local) events w → w.begun ≡ true → w.put ≡ unit ∷ rest →
         is_stopped Direction.Left w.tap.course ≡ false → w.tap.course.class ≡ Some Zero →
@@ -301,7 +318,7 @@ pub fn a_called_end_is_fair()
         is_stopped Direction.Left w.tap.course ≡ false →
         ((takes Direction.Right unit w.tap).told.finding ≡ Finding.Kept)
         ⊎ (((takes Direction.Right unit w.tap).told.finding ≡ Finding.NotJudged)
-        × ((w.tap.course.strays ≡ true) ⊎ (w.tap.course.loose ≡ true))) }
+        × ((w.tap.course.disconnects.strays ≡ true) ⊎ (w.tap.course.loose ≡ true))) }
     ensures in_class_0 { (local : Local) (events : List Event) (w : Whole) (unit : Value) (rest : List Value) →
         HappenAlong Direction.Right (begin false local) events w → w.begun ≡ true → w.put ≡ unit ∷ rest →
         is_stopped Direction.Right w.tap.course ≡ false → w.tap.course.loose ≡ false → w.tap.course.class ≡ Some Zero →

@@ -36,15 +36,15 @@ after_same d c (data2 destination number end user) applied course = (refl, refl)
 after_same d c (acknowledge credit destination number) applied course = (refl, refl)
 after_same d c (error destination cause) applied course = (refl, refl)
 
-none_same : (v : Value) (course : Course) → IsSame (course_after_none v course) course
-none_same (disconnect destination source reason user) course = (refl, refl)
-none_same (request r) course = (refl, refl)
-none_same (confirm destination r) course = (refl, refl)
-none_same (disconnected destination source) course = (refl, refl)
-none_same (data0 end user) course = (refl, refl)
-none_same (data2 destination number end user) course = (refl, refl)
-none_same (acknowledge credit destination number) course = (refl, refl)
-none_same (error destination cause) course = (refl, refl)
+none_same : (d : Direction) (v : Value) (course : Course) → IsSame (course_after_none d v course) course
+none_same d (disconnect destination source reason user) course = (refl, refl)
+none_same d (request r) course = (refl, refl)
+none_same d (confirm destination r) course = (refl, refl)
+none_same d (disconnected destination source) course = (refl, refl)
+none_same d (data0 end user) course = (refl, refl)
+none_same d (data2 destination number end user) course = (refl, refl)
+none_same d (acknowledge credit destination number) course = (refl, refl)
+none_same d (error destination cause) course = (refl, refl)
 
 noted_so : (d e : Direction) (f : Finding) (a b : Course) → IsSame a b → has_erred e (noted d f a) ≡ has_erred e (noted d f b)
 noted_so d Left f a b (l, r) = ap (λ (x : Bool). (is_break f && of_side d true false) || x) l
@@ -62,7 +62,7 @@ to_none d f s e =
 
 to_unnamed : (d : Direction) (v : Value) (s : State) → IsNoted d s (unnamed_told d v s)
 to_unnamed d v s e =
-    let c = course_after_none v s.course in
+    let c = course_after_none d v s.course in
     grind (arith, noted_so, joined, reached_same, none_same)
 
 to_one : (d : Direction) (p : ℕ) (c : Connection) (v : Value) (s : State) → IsNoted d s (one_told d p c v s)

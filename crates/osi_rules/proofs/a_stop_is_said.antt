@@ -37,16 +37,16 @@ keeps d c (data2 destination number end user) applied course e = refl
 keeps d c (acknowledge credit destination number) applied course e = refl
 keeps d c (error destination cause) applied course e = refl
 
-keeps_none : (v : Value) (course : Course) (e : Direction) → is_stopped e (course_after_none v course) ≡ is_stopped e course
-keeps_none (request r) course e = refl
-keeps_none (confirm destination r) course e = refl
-keeps_none (disconnect destination source reason user) course Left = refl
-keeps_none (disconnect destination source reason user) course Right = refl
-keeps_none (disconnected destination source) course e = refl
-keeps_none (data0 end user) course e = refl
-keeps_none (data2 destination number end user) course e = refl
-keeps_none (acknowledge credit destination number) course e = refl
-keeps_none (error destination cause) course e = refl
+keeps_none : (d : Direction) (v : Value) (course : Course) (e : Direction) → is_stopped e (course_after_none d v course) ≡ is_stopped e course
+keeps_none d (request r) course e = refl
+keeps_none d (confirm destination r) course e = refl
+keeps_none d (disconnect destination source reason user) course Left = refl
+keeps_none d (disconnect destination source reason user) course Right = refl
+keeps_none d (disconnected destination source) course e = refl
+keeps_none d (data0 end user) course e = refl
+keeps_none d (data2 destination number end user) course e = refl
+keeps_none d (acknowledge credit destination number) course e = refl
+keeps_none d (error destination cause) course e = refl
 
 then_says : (d : Direction) (r : Reach) (between old : Course) (e : Direction) → is_stopped e between ≡ is_stopped e old →
     is_stopped e (reached d r between) ≡ (stops_by d r e || is_stopped e old)
@@ -62,8 +62,8 @@ to_none d f s e = reached_says d (reach_of (class_for d s.course) f) s.course e
 
 to_unnamed : (d : Direction) (v : Value) (s : State) → IsSaid d s (unnamed_told d v s)
 to_unnamed d v s e =
-    let c = course_after_none v s.course in
-    then_says d (reach_of (class_for d c) (unnamed d s.course v)) c s.course e (keeps_none v s.course e)
+    let c = course_after_none d v s.course in
+    then_says d (reach_of (class_for d c) (unnamed d s.course v)) c s.course e (keeps_none d v s.course e)
 
 to_one : (d : Direction) (p : ℕ) (c : Connection) (v : Value) (s : State) → IsSaid d s (one_told d p c v s)
 to_one d p c v s e =

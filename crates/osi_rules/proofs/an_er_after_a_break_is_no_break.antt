@@ -4,7 +4,8 @@ use Rattle.std.proofs.Common.{arith}
 use Rattle.osi_rules.proofs.Vocabulary.{◌≡◌, ◌≢◌, ℕ, Bool, true, false, [], ◌∷◌, Option, Some, None, refl, if◌then◌else◌, slice_get}
 use Rattle.osi_rules.proofs.Vocabulary.{position, not, ◌||◌, Value, error, Class, Zero, Two, Connection, Direction, Left, Right, Finding}
 use Rattle.osi_rules.proofs.Vocabulary.{Broke, NotJudged, Route, is_break, first_failed, error_tests, is_named, is_silent, other, State}
-use Rattle.osi_rules.proofs.Vocabulary.{Outcome, at_found, at_place, class_for, has_erred, in_doubt, is_stopped, none_told, one_told, route}
+use Rattle.osi_rules.proofs.Vocabulary.{Outcome, at_found, at_place, class_for, has_erred, in_doubt, is_stopped, may_answer, none_told, one_told}
+use Rattle.osi_rules.proofs.Vocabulary.{route}
 use Rattle.osi_rules.proofs.Vocabulary.{route_in, routed, takes, unnamed_by, unnamed_told}
 use Rattle.osi_rules.specs.declared.findings.Rule.TheVariants as rule
 
@@ -43,7 +44,8 @@ module _ (n cause : ℕ) (s : State) where
     by_none : IsMild (unnamed_told d (error n cause) s)
     by_none =
         report_mild (has_erred (other d) s.course)
-        (if s.course.loose then in_doubt (unnamed_by s.course.strays (error n cause)) else unnamed_by s.course.strays (error n cause)) erred
+        (if s.course.loose then in_doubt (unnamed_by (may_answer d s.course.disconnects) (error n cause))
+        else unnamed_by (may_answer d s.course.disconnects) (error n cause)) erred
 
     by_item : (p : ℕ) (c : Option Connection) → IsMild (at_found d (error n cause) s p c)
     by_item p None = by_none

@@ -135,14 +135,14 @@ acknowledge_tests d c number credit = open_tests d c
 abbrev pub disconnect_tests : Direction → Connection → List Test
 disconnect_tests d c = (is_silent (own d c).phase || is_open (own d c).phase, Broke rule.Closed) ∷ []
 
--- DC: it answers a DR that closes the connection, and its SRC-REF is its sender's reference (X.224 section 6.7). A DR that
--- closed nothing may be answered by another DC. A connection that its sender has not answered has no DR to answer.
+-- DC: it answers a DR that closes the connection, and its SRC-REF is its sender's reference (X.224 section 6.7). It is not
+-- judged if it may answer a DR that closed nothing. A connection that its sender has not answered has no DR to answer.
 abbrev pub is_due : Direction → Connection → (source : ℕ) → Bool
 is_due d c source = is_open (own d c).phase && (is_closing (seen d c).phase && (source == (own d c).reference))
 
-abbrev pub disconnected_tests : Direction → Connection → (source : ℕ) → (strays : Bool) → List Test
-disconnected_tests d c source strays =
-    (is_due d c source || not strays, NotJudged) ∷ (not (is_silent (own d c).phase), Broke rule.UnknownReference)
+abbrev pub disconnected_tests : Direction → Connection → (source : ℕ) → (may_answer : Bool) → List Test
+disconnected_tests d c source may_answer =
+    (is_due d c source || not may_answer, NotJudged) ∷ (not (is_silent (own d c).phase), Broke rule.UnknownReference)
     ∷ (is_due d c source, Broke rule.NothingToAnswer) ∷ []
 
 -- ER: it refuses the CR, or answers a break of the other side. Which break that is is not looked at, so after any it is not

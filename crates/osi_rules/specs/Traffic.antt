@@ -10,6 +10,7 @@ use Rattle.osi_rules.specs.declared.connections.Offer.{Offer}
 use Rattle.osi_rules.specs.declared.courses.Course.{Course}
 use Rattle.osi_rules.specs.declared.directions.Direction.{Direction}
 use Rattle.osi_rules.specs.declared.directions.Direction.TheVariants.{Left, Right}
+use Rattle.osi_rules.specs.declared.disconnects.Disconnects.{Disconnects}
 use Rattle.osi_rules.specs.declared.findings.Finding.{Finding}
 use Rattle.osi_rules.specs.declared.findings.Finding.TheVariants.{Kept, Broke, TooMany, NotJudged}
 use Rattle.osi_rules.specs.declared.findings.Meaning.{Meaning}
@@ -35,11 +36,15 @@ pub record State : Type 0 where
   pub connections : List Connection
   pub course : Course
 
+-- no DR has passed
+abbrev pub no_disconnects : Disconnects
+no_disconnects = record { strays = false; left = false; right = false; seen_by_left = false; seen_by_right = false }
+
 abbrev pub fresh_course : Course
 fresh_course = record {
   class = None;
   class_seen = None;
-  strays = false;
+  disconnects = no_disconnects;
   loose = false;
   left_stopped = false;
   right_stopped = false;
@@ -50,12 +55,40 @@ fresh_course = record {
 abbrev pub fresh : State
 fresh = record { connections = []; course = fresh_course }
 
--- ---- what is of no single connection
-
 -- that of left or that of right
 abbrev pub of_side : {A : Type 0} → Direction → A → A → A
 of_side Left left right = left
 of_side Right left right = right
+
+-- ---- the DRs that a DC may answer
+
+-- a DR of this side has passed
+abbrev pub has_disconnected : Direction → Disconnects → Bool
+has_disconnected d k = of_side d k.left k.right
+
+-- one of the other side had passed when the current packet of this side began
+abbrev pub knows_disconnect : Direction → Disconnects → Bool
+knows_disconnect d k = of_side d k.seen_by_left k.seen_by_right
+
+-- A DR has passed that does not just close an open connection: a DC of a side that knows a DR of the other side may answer
+-- it, whatever references the DC has.
+abbrev pub may_answer : Direction → Disconnects → Bool
+may_answer d k = k.strays && knows_disconnect d k
+
+-- a packet of this side begins
+abbrev pub disconnects_begin : Direction → Disconnects → Disconnects
+disconnects_begin Left k = record k { seen_by_left = k.right }
+disconnects_begin Right k = record k { seen_by_right = k.left }
+
+-- after a DR of this side; `stray`: it does not just close an open connection
+abbrev pub with_disconnect : Direction → (stray : Bool) → Disconnects → Disconnects
+with_disconnect d stray k = record k {
+  strays = k.strays || stray;
+  left = of_side d true k.left;
+  right = of_side d k.right true;
+}
+
+-- ---- what is of no single connection
 
 -- nothing more of this side is judged
 abbrev pub is_stopped : Direction → Course → Bool
@@ -71,8 +104,8 @@ class_for d c = of_side d c.class_seen c.class
 
 -- a packet of this side begins
 abbrev pub course_begins : Direction → Course → Course
-course_begins Left c = record c { class_seen = c.class }
-course_begins Right c = c
+course_begins Left c = record c { class_seen = c.class; disconnects = disconnects_begin Left c.disconnects }
+course_begins Right c = record c { disconnects = disconnects_begin Right c.disconnects }
 
 abbrev pub stops : Direction → Course → Course
 stops Left c = record c { left_stopped = true }
@@ -144,7 +177,7 @@ route d c v = route_in (class_for d c) d (has_broken (other d) c) v
 abbrev pub found : Direction → Course → (in_use : Bool) → Connection → Value → Finding
 found Right course in_use c (confirm destination content) = first_failed (confirm_tests c course.class in_use course.loose content)
 found d course in_use c (disconnect destination source reason user) = first_failed (disconnect_tests d c)
-found d course in_use c (disconnected destination source) = first_failed (disconnected_tests d c source course.strays)
+found d course in_use c (disconnected destination source) = first_failed (disconnected_tests d c source (may_answer d course.disconnects))
 found d course in_use c (data0 end user) = first_failed (data0_tests d c (length user))
 found d course in_use c (data2 destination number end user) = first_failed (data2_tests d c number (length user))
 found d course in_use c (acknowledge credit destination number) = first_failed (acknowledge_tests d c number credit)
@@ -209,13 +242,14 @@ class_of c = if c.class == 2 then Two else Zero
 abbrev pub course_after : Direction → Connection → Value → (applied : Bool) → Course → Course
 course_after d c (confirm destination content) true course = record course { class = Some (class_of content) }
 course_after d c (disconnect destination source reason user) applied course =
-    record course { strays = course.strays || (not applied || is_stray d c source) }
+    record course { disconnects = with_disconnect d (not applied || is_stray d c source) course.disconnects }
 course_after d c v applied course = course
 
 -- a DR for no connection is such a one too
-abbrev pub course_after_none : Value → Course → Course
-course_after_none (disconnect destination source reason user) course = record course { strays = true }
-course_after_none v course = course
+abbrev pub course_after_none : Direction → Value → Course → Course
+course_after_none d (disconnect destination source reason user) course =
+    record course { disconnects = with_disconnect d true course.disconnects }
+course_after_none d v course = course
 
 -- ---- what a unit means, and what has passed after it
 
@@ -261,9 +295,9 @@ one_told d place c v s =
     }
 
 -- a unit for a reference of no connection
-abbrev pub unnamed_by : (strays : Bool) → Value → Finding
+abbrev pub unnamed_by : (may_answer : Bool) → Value → Finding
 unnamed_by true (disconnected destination source) = NotJudged
-unnamed_by strays v = Broke rule.UnknownReference
+unnamed_by may_answer v = Broke rule.UnknownReference
 
 -- it breaks no rule if a connection that is not judged any more has got the reference since
 abbrev pub in_doubt : Finding → Finding
@@ -278,10 +312,11 @@ is_report other_erred v = false
 abbrev pub unnamed : Direction → Course → Value → Finding
 unnamed d course v =
     if is_report (has_erred (other d) course) v then NotJudged
-    else (if course.loose then in_doubt (unnamed_by course.strays v) else unnamed_by course.strays v)
+    else (if course.loose then in_doubt (unnamed_by (may_answer d course.disconnects) v)
+    else unnamed_by (may_answer d course.disconnects) v)
 
 abbrev pub unnamed_told : Direction → Value → State → Outcome
-unnamed_told d v s = none_told d (unnamed d s.course v) (record s { course = course_after_none v s.course })
+unnamed_told d v s = none_told d (unnamed d s.course v) (record s { course = course_after_none d v s.course })
 
 abbrev pub at_found : Direction → Value → State → (place : ℕ) → Option Connection → Outcome
 at_found d v s place None = unnamed_told d v s

@@ -4,6 +4,7 @@ ghost use Rattle.std.specs.Prelude.{◌≡◌};
 ghost use Rattle.osi_rules.specs.Traffic.{fresh_course, is_stopped, has_erred, has_broken, class_for, course_begins, reached, noted};
 
 use crate::directions::Direction;
+use crate::disconnects::Disconnects;
 use crate::findings::{Finding, Reach};
 use osi_class::Class;
 
@@ -14,8 +15,8 @@ pub struct Course {
     pub(crate) class: Option<Class>,
     /// The class that a CC had selected when left's current packet began.
     pub(crate) class_seen: Option<Class>,
-    /// A DR has passed that does not just close an open connection.
-    pub(crate) strays: bool,
+    /// The DRs that have passed.
+    pub(crate) disconnects: Disconnects,
     /// A connection is not judged any more: units may have references that it got since.
     pub(crate) loose: bool,
     /// Nothing more of left is judged.
@@ -36,7 +37,7 @@ impl Course {
         Course {
             class: None,
             class_seen: None,
-            strays: false,
+            disconnects: Disconnects::new(),
             loose: false,
             left_stopped: false,
             right_stopped: false,
@@ -86,6 +87,7 @@ impl Course {
     pub(crate) fn begin(&mut self, direction: Direction)
         ensures { self.new ≡ course_begins direction self.old }
     {
+        self.disconnects.begin(direction);
         match direction {
             Direction::Left => self.class_seen = self.class,
             Direction::Right => {}

@@ -179,7 +179,11 @@ impl Connection {
         match unit {
             Tpdu::Cc(answer) => self.find_answer(direction, course, in_use, answer),
             Tpdu::Dr(_) => self.disconnect(direction),
-            Tpdu::Dc(answer) => self.disconnected(direction, answer.source, course.strays),
+            Tpdu::Dc(answer) => self.disconnected(
+                direction,
+                answer.source,
+                course.disconnects.may_answer(direction),
+            ),
             Tpdu::Dt0(data) => self.data0(direction, data.user.len()),
             Tpdu::Dt2(data) => self.data2(direction, data.number, data.user.len()),
             Tpdu::Ak(ack) => self.acknowledge(direction, ack.number, ack.credit),
@@ -237,21 +241,24 @@ impl Course {
                     ..self
                 }
             }
-            Tpdu::Dr(request) => Course {
-                strays: self.strays || !applied || connection.is_stray(direction, request.source),
-                ..self
-            },
+            Tpdu::Dr(request) => {
+                let stray = !applied || connection.is_stray(direction, request.source);
+                Course {
+                    disconnects: self.disconnects.with(direction, stray),
+                    ..self
+                }
+            }
             _ => self,
         }
     }
 
-    /// After a unit for no connection.
-    pub(crate) fn after_none(self, unit: &Tpdu<'_>) -> Course
-        ensures { result ≡ course_after_none (value unit.now) self }
+    /// After a unit of this side for no connection.
+    pub(crate) fn after_none(self, direction: Direction, unit: &Tpdu<'_>) -> Course
+        ensures { result ≡ course_after_none direction (value unit.now) self }
     {
         match unit {
             Tpdu::Dr(_) => Course {
-                strays: true,
+                disconnects: self.disconnects.with(direction, true),
                 ..self
             },
             _ => self,

@@ -36,6 +36,7 @@
 mod connections;
 mod courses;
 mod directions;
+mod disconnects;
 mod effects;
 mod findings;
 mod halves;

@@ -91,13 +91,14 @@ pub(crate) fn route_for(direction: Direction, course: &Course, unit: &Tpdu<'_>) 
     }
 }
 
-/// What is found of a unit for a reference of no connection, as long as all connections are judged.
-fn unnamed_by(strays: bool, unit: &Tpdu<'_>) -> Finding
-    ensures { result ≡ unnamed_by strays (value unit.now) }
+/// What is found of a unit for a reference of no connection, as long as all connections are judged. `may_answer`: a DR has
+/// closed nothing, which a DC may answer.
+fn unnamed_by(may_answer: bool, unit: &Tpdu<'_>) -> Finding
+    ensures { result ≡ unnamed_by may_answer (value unit.now) }
 {
     match unit {
         Tpdu::Dc(_) => {
-            if strays {
+            if may_answer {
                 return Finding::NotJudged;
             }
             Finding::Broke(Rule::UnknownReference)
@@ -133,7 +134,7 @@ pub(crate) fn unnamed(direction: Direction, course: &Course, unit: &Tpdu<'_>) ->
     if is_report(course.has_erred(direction.other()), unit) {
         return Finding::NotJudged;
     }
-    let finding = unnamed_by(course.strays, unit);
+    let finding = unnamed_by(course.disconnects.may_answer(direction), unit);
     if course.loose {
         return in_doubt(finding);
     }

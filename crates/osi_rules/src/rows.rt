@@ -238,14 +238,19 @@ impl Connection {
         own.phase.is_open() && self.seen(direction).phase.is_closing() && source == own.reference
     }
 
-    /// DC. `source`: its SRC-REF. `strays`: a DR has closed nothing, which this DC may answer.
-    pub(crate) fn disconnected(&self, direction: Direction, source: u16, strays: bool) -> Finding
-        ensures { result ≡ first_failed (disconnected_tests direction self.now source strays) }
+    /// DC. `source`: its SRC-REF. `may_answer`: a DR has closed nothing, which this DC may answer.
+    pub(crate) fn disconnected(
+        &self,
+        direction: Direction,
+        source: u16,
+        may_answer: bool,
+    ) -> Finding
+        ensures { result ≡ first_failed (disconnected_tests direction self.now source may_answer) }
     {
         if self.is_due(direction, source) {
             return Finding::Kept;
         }
-        if strays {
+        if may_answer {
             return Finding::NotJudged;
         }
         let answered = !self.own(direction).phase.is_silent();

@@ -169,7 +169,7 @@ impl Traffic {
         ensures { outcome result self.new ≡ unnamed_told direction (value unit.now) self.old }
     {
         let finding = unnamed(direction, &self.course, unit);
-        self.course = self.course.after_none(unit);
+        self.course = self.course.after_none(direction, unit);
         self.tell(direction, finding)
     }
 

@@ -167,6 +167,50 @@ const STRAY: [Step; 7] = [
     Step::Sends(RIGHT, CLOSED, KEPT),
 ];
 
+/// A CR of reference 2, the DR of right that refuses it, and DCs for it, of left and of right.
+const REQUEST_2: &[u8] = &[6, 0xe3, 0, 0, 0, 2, 0x20];
+
+const REFUSE_2: &[u8] = &[6, 0x80, 0, 2, 0, 0, 128];
+
+const REFUSED_2: &[u8] = &[5, 0xc0, 0, 9, 0, 2];
+
+const REFUSED_BACK: &[u8] = &[5, 0xc0, 0, 2, 0, 9];
+
+/// A DC of left with any references answers a DR that refuses a CR, if that had passed when its packet began. It does not
+/// answer one of its own side.
+const REFUSED: [Step; 4] = [
+    Step::Sends(LEFT, REQUEST_2, KEPT),
+    Step::Sends(RIGHT, REFUSE_2, KEPT),
+    Step::Sends(LEFT, REFUSED_2, UNSEEN),
+    Step::Sends(RIGHT, REFUSED_BACK, Finding::Broke(Rule::UnknownReference)),
+];
+
+const REFUSED_EARLY: [Step; 4] = [
+    Step::Sends(LEFT, REQUEST_2, KEPT),
+    Step::Begins(LEFT),
+    Step::Sends(RIGHT, REFUSE_2, KEPT),
+    Step::Passes(LEFT, REFUSED_2, Finding::Broke(Rule::UnknownReference)),
+];
+
+/// The same in class 2, beside an open connection.
+const REFUSED_IN_2: [Step; 6] = [
+    Step::Sends(LEFT, REQUEST, KEPT),
+    Step::Sends(RIGHT, CONFIRM, KEPT),
+    Step::Sends(LEFT, REQUEST_2, KEPT),
+    Step::Sends(RIGHT, REFUSE_2, KEPT),
+    Step::Sends(LEFT, REFUSED_2, UNSEEN),
+    Step::Sends(RIGHT, REFUSED_BACK, Finding::Broke(Rule::UnknownReference)),
+];
+
+const REFUSED_EARLY_IN_2: [Step; 6] = [
+    Step::Sends(LEFT, REQUEST, KEPT),
+    Step::Sends(RIGHT, CONFIRM, KEPT),
+    Step::Sends(LEFT, REQUEST_2, KEPT),
+    Step::Begins(LEFT),
+    Step::Sends(RIGHT, REFUSE_2, KEPT),
+    Step::Passes(LEFT, REFUSED_2, Finding::Broke(Rule::UnknownReference)),
+];
+
 const IN_USE: [Step; 4] = [
     Step::Sends(LEFT, REQUEST, KEPT),
     Step::Sends(RIGHT, CONFIRM, KEPT),
@@ -275,7 +319,7 @@ const REFUSED_LATER: [Step; 6] = [
     Step::Sends(RIGHT, CONFIRM, KEPT),
     Step::Sends(LEFT, CLOSE, KEPT),
     Step::Sends(LEFT, CLOSE, Finding::Broke(Rule::Closed)),
-    Step::Sends(LEFT, &[6, 0xe3, 0, 0, 0, 2, 0x20], KEPT),
+    Step::Sends(LEFT, REQUEST_2, KEPT),
     Step::Sends(RIGHT, &[4, 0x70, 0, 2, 0], KEPT),
 ];
 
@@ -293,7 +337,7 @@ const REPORTED_0: [Step; 4] = [
 
 const CALLED_ASKS: [Step; 1] = [Step::Sends(RIGHT, REQUEST, Finding::Broke(Rule::UnexpectedUnit))];
 
-const ROWS: [&[Step]; 21] = [
+const ROWS: [&[Step]; 25] = [
     &CREDIT,
     &NUMBERS,
     &EARLY,
@@ -301,6 +345,10 @@ const ROWS: [&[Step]; 21] = [
     &CLOSING,
     &OTHER_SOURCE,
     &STRAY,
+    &REFUSED,
+    &REFUSED_EARLY,
+    &REFUSED_IN_2,
+    &REFUSED_EARLY_IN_2,
     &IN_USE,
     &NEGOTIATING,
     &TOO_EARLY,

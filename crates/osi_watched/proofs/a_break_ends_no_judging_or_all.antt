@@ -167,17 +167,21 @@ module _ (d : Side) (at : ℕ) (v : Value) (c : Course) where
   pub far_of : (f : Finding) → o.told.finding ≡ f → o.told.reach ≡ reach_of (class_for (way_of d) c.traffic.course) f
   far_of f is = reach_so.far ∙ ap (reach_of (class_for (way_of d) c.traffic.course)) is
 
-  -- one that is no break ends no judging, or all
-  pub none_ends : IsNoBreak o.told.finding → IsJudged c → IsJudged next ⊎ IsOver next
-  none_ends none j = grind (arith, nothing_ends, far_of, all_ends)
-
-  -- how far it reaches then
+  -- how far one that is no break reaches
   pub mild_reach : (f : Finding) → o.told.finding ≡ f → IsNoBreak f → (o.told.reach ≡ reach.Nothing) ⊎ (o.told.reach ≡ reach.Everything)
   mild_reach Kept is none = inl (far_of Kept is)
   mild_reach NotJudged is none = inl (far_of NotJudged is)
   mild_reach TooMany is none = inr (far_of TooMany is)
   mild_reach (Broke rule) is none = absurd none
   mild_reach Outside is none = absurd none
+
+  -- it ends no judging, or all
+  ends_by : (o.told.reach ≡ reach.Nothing) ⊎ (o.told.reach ≡ reach.Everything) → IsJudged c → IsJudged next ⊎ IsOver next
+  ends_by (inl is) j = inl (nothing_ends is j)
+  ends_by (inr is) j = inr (all_ends is)
+
+  pub none_ends : IsNoBreak o.told.finding → IsJudged c → IsJudged next ⊎ IsOver next
+  none_ends none j = ends_by (mild_reach o.told.finding refl none) j
 
   -- a unit that is no break of its side leaves it without one
   own_by : (f : Finding) → IsNoBreak f → (marks_of d (noted_by d at v o.told (cause_of f) mid)).broke ≡ (marks_of d c).broke

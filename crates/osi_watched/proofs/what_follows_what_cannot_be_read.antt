@@ -6,6 +6,7 @@ use Rattle.osi_watched.proofs.Vocabulary.{IsOctets, packet_of, ArePackets, units
 use Rattle.osi_watched.proofs.Vocabulary.{Passed, Direction, packets_joined, TurnOf, TurnsOf, packets_on, packets_then, CanBeWritten}
 use Rattle.osi_watched.proofs.Vocabulary.{read_again, all_did, Deeds, all_units, Takes, Turn, packet_passes, units_pass, unread, advanced}
 use Rattle.osi_watched.proofs.Vocabulary.{counted, faulty, Front, front_of, gathered, looks, partial, Streamed, whole, after, begun}
+use Rattle.osi_watched.proofs.Vocabulary.{Left, Right, looked_at}
 use Rattle.osi_watched.proofs.Vocabulary.{octet_passes, stream_of, with_stream, BadPacket, Joint, Step, TakesTurn, AreOctets, IsOctet}
 use Rattle.osi_watched.proofs.Vocabulary.{arith, IsNoFront, TpktFault, units_by, Course, IsNoPacket, LaterAlong, LaterSteps}
 use Rattle.osi_tap.specs.Streams.{ended}
@@ -43,8 +44,43 @@ spent_passes : (d : Direction) (x : ℕ) (s : State) → (stream_of d s).spent �
     octet_passes (of d x) s ≡ with_stream d (counted 1 (stream_of d s)) s
 spent_passes d x s spent = grind (arith, looks)
 
+-- octets of the other direction
+left_looked : (t : Streamed) (f : Front) (held : List ℕ) (s : State) → s.left.spent ≡ true →
+    (looked_at Right t f (begun Right held s)).left.spent ≡ true
+left_looked t partial [] s h = h
+left_looked t (faulty fault) [] s h = h
+left_looked t (whole unit) [] s h = h
+left_looked t partial (o ∷ held) s h = h
+left_looked t (faulty fault) (o ∷ held) s h = h
+left_looked t (whole unit) (o ∷ held) s h = h
+
+right_looked : (t : Streamed) (f : Front) (held : List ℕ) (s : State) → s.right.spent ≡ true →
+    (looked_at Left t f (begun Left held s)).right.spent ≡ true
+right_looked t partial [] s h = h
+right_looked t (faulty fault) [] s h = h
+right_looked t (whole unit) [] s h = h
+right_looked t partial (o ∷ held) s h = h
+right_looked t (faulty fault) (o ∷ held) s h = h
+right_looked t (whole unit) (o ∷ held) s h = h
+
+left_by : (x : ℕ) (s : State) → s.left.spent ≡ true → (b : Bool) →
+    (let t = gathered (x ∷ []) s.right in
+    (if b then with_stream Right (counted 1 s.right) s else looked_at Right t (front_of t.held) (begun Right s.right.held s)).left.spent ≡
+        true)
+left_by x s h true = h
+left_by x s h false = let t = gathered (x ∷ []) s.right in left_looked t (front_of t.held) s.right.held s h
+
+right_by : (x : ℕ) (s : State) → s.right.spent ≡ true → (b : Bool) →
+    (let t = gathered (x ∷ []) s.left in
+    (if b then with_stream Left (counted 1 s.left) s else looked_at Left t (front_of t.held) (begun Left s.left.held s)).right.spent ≡ true)
+right_by x s h true = h
+right_by x s h false = let t = gathered (x ∷ []) s.left in right_looked t (front_of t.held) s.left.held s h
+
 pub spent_stays : (e : Direction) (o : Passed) (s : State) → (stream_of e s).spent ≡ true → (stream_of e (octet_passes o s)).spent ≡ true
-spent_stays e o s h = grind (arith, spent_passes)
+spent_stays Left (of Left x) s h = ap (λ (t : State). t.left.spent) (spent_passes Left x s h) ∙ h
+spent_stays Right (of Right x) s h = ap (λ (t : State). t.right.spent) (spent_passes Right x s h) ∙ h
+spent_stays Left (of Right x) s h = left_by x s h s.right.spent
+spent_stays Right (of Left x) s h = right_by x s h s.left.spent
 
 abbrev pub later_octet : (d : Direction) (o : Passed) (capture : Capture) (s : State) (j : Joint) →
     LaterComes d capture (octet_passes o s) j →

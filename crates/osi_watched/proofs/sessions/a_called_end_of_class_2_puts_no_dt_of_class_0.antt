@@ -87,7 +87,7 @@ module _ (local : Local) (w : Whole) (f : Called local w) where
   stand_two p c (past silent up none asks un off) = subst (AllByRecursion IsNotZero) (sym none) tt
 
   one_two : (front rest : List Placed) (o : Option ℕ) (v : Value) → f.tagged ≡ front ++ (o, v) ∷ rest →
-      StrayIf f.shut w.end f.refs f.home w.tap.course.strays o v rest → IsNotZero v
+      StrayIf f.shut w.end f.refs f.home w.tap.course.disconnects.strays o v rest → IsNotZero v
   one_two front rest None v is stray = λ end user e. let no : disconnected stray.m stray.n ≡ data0 end user = sym stray.is ∙ e in cc
   one_two front rest (Some p) v is stray = by (slice_get w.tap.connections p) refl
     where
@@ -103,7 +103,8 @@ module _ (local : Local) (w : Whole) (f : Called local w) where
       by None e = among (subst (AllByRecursion IsNotZero) (sym (f.beyond p e).0) tt)
       by (Some c) e = among (stand_two p c (f.stands p c e))
 
-  all_two : (front rest : List Placed) → f.tagged ≡ front ++ rest → AreStrays f.shut w.end f.refs f.home w.tap.course.strays rest →
+  all_two : (front rest : List Placed) → f.tagged ≡ front ++ rest → AreStrays f.shut w.end f.refs f.home w.tap.course.disconnects.strays
+      rest →
       AllByRecursion IsNotZero (values rest)
   all_two front [] is strays = tt
   all_two front (m ∷ rest) is strays = (

@@ -258,15 +258,16 @@ module _ (local : Local) (deeds : ℕ → Deeds) (b : ℕ) (end : Carrier) (put 
           distinct = distinct_after coming v c h new;
           below = unit_up Left Right b at v c h.all.places up h.below;
           quiet = grind (arith, none_zero, class_was v c, zero_stays (passing way.Right v) c.traffic class);
-          zero = grind (
-            arith,
-            still,
-            unit_knows Right at v c,
-            unit_joins Right at v c,
-            one_passes Left Right z.r (IsGone end) at v c.traffic c.sessions z.one h.all.places still,
-            all_of_both (IsCcFor z.r) coming (v ∷ []) z.ccs (cc_for, tt),
-            order_more coming v z.order later,
-          );
+          zero = λ e. record {
+            r = z.r;
+            one = subst (λ (s : State). HasOne Left z.r (IsGone end) s (after v c).sessions) (sym (unit_knows Right at v c))
+                (subst (λ (t : Sessions). HasOne Left z.r (IsGone end) (takes way.Right v c.traffic).state t)
+                (sym (unit_joins Right at v c))
+                (one_passes Left Right z.r (IsGone end) at v c.traffic c.sessions z.one h.all.places still));
+            amid_is = z.amid_is;
+            ccs = all_of_both (IsCcFor z.r) coming (v ∷ []) z.ccs (cc_for, tt);
+            order = order_more coming v z.order later;
+          };
         }
 
   -- ---- before it

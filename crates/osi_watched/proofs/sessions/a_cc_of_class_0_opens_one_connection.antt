@@ -1,5 +1,6 @@
 -- A CC of class 0 opens the connection that the end has asked for, or answers; at the tap no other one has a reference that the end still
 -- uses. For the session of the connection of an end in class 0.
+use Rattle.osi_rules.specs.declared.disconnects.Disconnects.{Disconnects}
 use Rattle.osi_watched.proofs.Vocabulary.{arith, ◌≡◌, ◌∙◌, ◌⊎◌, inl, inr, refl, sym, ap, subst, ℕ, Bool, true, false, if◌then◌else◌, List}
 use Rattle.osi_watched.proofs.Vocabulary.{[], ◌∷◌, Option, Some, None, ◌==◌, slice_get, eqb-true, Connect, Value, confirm, Class}
 use Rattle.osi_watched.proofs.Vocabulary.{Connection, Offer, Finding, Broke, NotJudged, Outside, Reach, Half, Phase, is_applied}
@@ -104,8 +105,8 @@ module _ (n : ℕ) (x : Connect) (at : ℕ) (c : Course) (places : HaveSamePlace
   effect = has_effect n x s goes class firm judged mild
 
   -- the one that waits for its answer has this reference
-  pub awaits_this : (r p : ℕ) (o : Offer) (cs : List Connection) (strays : Bool) → s ≡ calm_tap cs strays → Waits r p o cs → n ≡ r
-  awaits_this r p o cs strays tap w =
+  pub awaits_this : (r p : ℕ) (o : Offer) (cs : List Connection) (drs : Disconnects) → s ≡ calm_tap cs drs → Waits r p o cs → n ≡ r
+  awaits_this r p o cs drs tap w =
       let (k, here, one) = at_same s.connections t.live effect.place effect.connection places effect.there in
       let mine : Some k.calling ≡ Some n =
       joined_named side.Right unit c n effect.place effect.connection k places refl effect.told effect.there effect.judged here in

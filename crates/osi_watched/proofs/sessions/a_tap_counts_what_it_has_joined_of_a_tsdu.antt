@@ -8,7 +8,7 @@ use Rattle.osi_watched.proofs.Vocabulary.{disconnected, error, request, longest_
 use Rattle.osi_watched.proofs.Vocabulary.{is_applied, begins, own, State, asked_by, begun_after, closing_phase, connection_after, found_on}
 use Rattle.osi_watched.proofs.Vocabulary.{half_after, meaning_if, meant, takes, after_add, after_change, All, Joined, Sessions, adds, asked}
 use Rattle.osi_watched.proofs.Vocabulary.{spoken, taken, user_of, Cause, Course, marks_of, way_of, Spoken, added, begun_octets}
-use Rattle.osi_watched.proofs.Vocabulary.{HaveSamePlaces}
+use Rattle.osi_watched.proofs.Vocabulary.{HaveSamePlaces, moved, unread_mark, unread_moment}
 use Rattle.osi_rules.specs.declared.findings.Reach.TheVariants as reach
 use Rattle.osi_rules.specs.declared.findings.Rule.TheVariants as rule
 use Rattle.osi_rules.specs.Traffic as traffic
@@ -180,7 +180,13 @@ abbrev pub Counted : Course → Type 0
 Counted c = AreCounted c.traffic c.sessions
 
 unread_counts : (b : Bool) (d : Direction) (at : ℕ) (k : Cause) (c : Course) → Counted c → Counted (unread_if b d at k c)
-unread_counts b d at k c h = search (arith, refuses, refused_traffic, marked_leaves)
+unread_counts true d at k c h = h
+unread_counts false d at k c h =
+    subst (λ (s : State). AreCounted s (refuses d at k c).sessions) (sym (refused_traffic d at k c))
+    (subst (AreCounted (traffic.refused (way_of d) c.traffic))
+    (sym (marked_leaves (unread_mark d at k) (traffic.refused_reach (way_of d) c.traffic)
+    (moved (unread_moment d at k c.sessions) (record c { traffic = traffic.refused (way_of d) c.traffic }))))
+    (record { places = h.places; each = h.each; room = h.room }))
 
 pub counted_claim : IsClaim Counted
 counted_claim = record {

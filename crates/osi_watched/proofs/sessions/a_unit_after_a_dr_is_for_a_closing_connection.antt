@@ -88,7 +88,8 @@ module _ (d : Way) (v : Value) (s : State) where
 
   found_goes : (i : ℕ) (o : Option Connection) → slice_get s.connections i ≡ o → IsFound (at_found d v s i o).told.finding →
       Goes d v s (at_found d v s i o)
-  found_goes i None e h = absurd (unnamed_not (is_report (traffic.has_erred (sides.other d) s.course) v) s.course.loose s.course.strays v h)
+  found_goes i None e h = absurd (unnamed_not (is_report (traffic.has_erred (sides.other d) s.course) v) s.course.loose
+      (traffic.may_answer d s.course.disconnects) v h)
   found_goes i (Some c) e h = record {
     follows = on_follows c h;
     placed = λ none. cc none;

@@ -1,5 +1,6 @@
 -- Once class 0 is selected and an end has taken the CC, it has its one connection open in class 0, or is over.
 -- For the sessions of an end after a break of the other side in class 0.
+use Rattle.osi_rules.specs.declared.disconnects.Disconnects.{Disconnects}
 use Rattle.osi_watched.proofs.Vocabulary.{ap, Bool, is_some, List, None, Some, subst, sym, true, ℕ, ◌++◌, ◌∙◌, ◌∷◌, ◌≡◌, AllByRecursion}
 use Rattle.osi_watched.proofs.Vocabulary.{confirm, Connect, Value, Standing, Zero, Local, Carrier, Traffic as State, Connection, Left}
 use Rattle.osi_watched.proofs.Vocabulary.{Right, Direction, answered, known, quiet, refused, IsInZero, calm_tap, Whole, Joint, IsFirm}
@@ -32,8 +33,9 @@ open_in limit s c begun units still lasts class live h = grind (arith, over_none
 
 -- ---- a calling end
 
-calm_not : {A : Type 0} (w : Whole) (cs : List Connection) (strays : Bool) → w.tap ≡ calm_tap cs strays → w.tap.course.class ≡ Some Zero → A
-calm_not w cs strays tap class = none_some w.tap.course.class Zero (ap (λ (t : State). t.course.class) tap) class
+calm_not : {A : Type 0} (w : Whole) (cs : List Connection) (drs : Disconnects) → w.tap ≡ calm_tap cs drs → w.tap.course.class ≡ Some Zero →
+    A
+calm_not w cs drs tap class = none_some w.tap.course.class Zero (ap (λ (t : State). t.course.class) tap) class
 
 cc_alone : {A : Type 0} (n : ℕ) (x : Connect) (dcs more coming : List Value) → coming ≡ dcs ++ confirm n x ∷ more →
     AllByRecursion MayBeFollowed coming → A
@@ -43,10 +45,10 @@ module _ (local : Local) (w : Whole) (c : Carrier) (still : w.end.ended ≡ None
     (live : w.end.live ≡ c.live) (is : w.tap.course.class ≡ Some Zero) where
   calling_open : Stage local w → AllByRecursion MayBeFollowed w.coming → IsOpenIn c
   calling_open (ended none h) all = over_none w.end.ended h still
-  calling_open (quiet there none not_begun cs strays tap done dcs) all = calm_not w cs strays tap is
-  calling_open (asks x put there offers cs strays tap done dcs begun) all = calm_not w cs strays tap is
-  calling_open (waits r there none not_begun cs strays tap p o offers waiting dcs) all = calm_not w cs strays tap is
-  calling_open (refused r there none not_begun cs strays tap done dcs u more coming are refusal too) all = calm_not w cs strays tap is
+  calling_open (quiet there none not_begun cs drs tap done dcs) all = calm_not w cs drs tap is
+  calling_open (asks x put there offers cs drs tap done dcs begun) all = calm_not w cs drs tap is
+  calling_open (waits r there none not_begun cs drs tap p o offers waiting dcs) all = calm_not w cs drs tap is
+  calling_open (refused r there none not_begun cs drs tap done dcs u more coming are refusal too) all = calm_not w cs drs tap is
   calling_open (answered r there none not_begun dcs n x more coming are k has after so z) all = cc_alone n x dcs more w.coming coming all
   calling_open (zero has z) all = open_in z.tap.limit w.end c z.tap.c.left.begun w.put still lasts class live z.goes
   calling_open (known two seen has) all = zero_two w.tap.course.class is two

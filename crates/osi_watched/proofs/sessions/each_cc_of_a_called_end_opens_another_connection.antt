@@ -163,7 +163,7 @@ module _ (local : Local) (w : Whole) (t : Sessions) (f : Called local w) (apart 
       not_empty (units_at p front) (units_at p rest) v (sym (place_parts p front rest v is) ∙ none)
 
   cc_one : (n r : ℕ) (front rest : List Placed) (o : Option ℕ) (v : Value) → f.tagged ≡ front ++ (o, v) ∷ rest →
-      StrayIf f.shut w.end f.refs f.home w.tap.course.strays o v rest → IsCc n r v → CcAt n r ((o, v) ∷ rest)
+      StrayIf f.shut w.end f.refs f.home w.tap.course.disconnects.strays o v rest → IsCc n r v → CcAt n r ((o, v) ∷ rest)
   cc_one n r front rest None v is stray mine = absurd (subst (IsCc n r) stray.is mine)
   cc_one n r front rest (Some p) v is stray mine = by (slice_get w.tap.connections p) refl
     where
@@ -172,7 +172,7 @@ module _ (local : Local) (w : Whole) (t : Sessions) (f : Called local w) (apart 
       by (Some c) e = cc_by n r p c front rest v e is mine (f.stands p c e)
 
   cc_among : (n r : ℕ) (front rest : List Placed) → f.tagged ≡ front ++ rest →
-      AreStrays f.shut w.end f.refs f.home w.tap.course.strays rest → HasCc n r (values rest) → CcAt n r rest
+      AreStrays f.shut w.end f.refs f.home w.tap.course.disconnects.strays rest → HasCc n r (values rest) → CcAt n r rest
   cc_among n r front [] is strays h = absurd h
   cc_among n r front (m ∷ rest) is strays (inl h) = cc_one n r front rest m.0 m.1 is strays.0 h
   cc_among n r front (m ∷ rest) is strays (inr h) =
@@ -263,7 +263,8 @@ module _ (local : Local) (w : Whole) (t : Sessions) (f : Called local w) (apart 
       not_empty (units_at p front) (units_at p rest) v (sym (place_parts p front rest v is) ∙ none)
 
   ordered_one : (n r : ℕ) (front rest : List Placed) (o : Option ℕ) (v : Value) → f.tagged ≡ front ++ (o, v) ∷ rest →
-      StrayIf f.shut w.end f.refs f.home w.tap.course.strays o v rest → IsNotZero v → is_for (Some n) v ≡ true → CcAt n r rest → ⊥
+      StrayIf f.shut w.end f.refs f.home w.tap.course.disconnects.strays o v rest → IsNotZero v → is_for (Some n) v ≡ true → CcAt n r rest →
+          ⊥
   ordered_one n r front rest None v is stray zero mine k = differ (is_for (Some n) v) mine (ap (is_for (Some n)) stray.is)
   ordered_one n r front rest (Some p) v is stray zero mine k = by (slice_get w.tap.connections p) refl
     where
@@ -272,7 +273,8 @@ module _ (local : Local) (w : Whole) (t : Sessions) (f : Called local w) (apart 
       by (Some c) e = ordered_by n r p c front rest v e is zero mine k (f.stands p c e)
 
   all_ordered : (front rest : List Placed) → f.tagged ≡ front ++ rest →
-      AreStrays f.shut w.end f.refs f.home w.tap.course.strays rest → AllByRecursion IsNotZero (values rest) → AreOrdered (values rest)
+      AreStrays f.shut w.end f.refs f.home w.tap.course.disconnects.strays rest → AllByRecursion IsNotZero (values rest) →
+          AreOrdered (values rest)
   all_ordered front [] is strays zero = tt
   all_ordered front (m ∷ rest) is strays zero =
       let next : f.tagged ≡ (front ++ m ∷ []) ++ rest = is ∙ sym (append_assoc front (m ∷ []) rest) in (
@@ -332,7 +334,7 @@ module _ (local : Local) (w : Whole) (t : Sessions) (f : Called local w) (apart 
   two_at p c (past silent up none asks un off) = subst (AllByRecursion AnswersTwo) (sym none) tt
 
   two_one : (front rest : List Placed) (o : Option ℕ) (v : Value) → f.tagged ≡ front ++ (o, v) ∷ rest →
-      StrayIf f.shut w.end f.refs f.home w.tap.course.strays o v rest → AnswersTwo v
+      StrayIf f.shut w.end f.refs f.home w.tap.course.disconnects.strays o v rest → AnswersTwo v
   two_one front rest None v is stray = subst AnswersTwo (sym stray.is) tt
   two_one front rest (Some p) v is stray = by (slice_get w.tap.connections p) refl
     where
@@ -343,7 +345,7 @@ module _ (local : Local) (w : Whole) (t : Sessions) (f : Called local w) (apart 
           (subst (AllByRecursion AnswersTwo) (place_parts p front rest v is) (two_at p c (f.stands p c e)))
 
   all_two : (front rest : List Placed) → f.tagged ≡ front ++ rest →
-      AreStrays f.shut w.end f.refs f.home w.tap.course.strays rest → AllByRecursion AnswersTwo (values rest)
+      AreStrays f.shut w.end f.refs f.home w.tap.course.disconnects.strays rest → AllByRecursion AnswersTwo (values rest)
   all_two front [] is strays = tt
   all_two front (m ∷ rest) is strays = (
     two_one front rest m.0 m.1 is strays.0,

@@ -1,6 +1,7 @@
 -- What the stage of a whole calling end says until class 2 is selected: which unit of it passes, how it is when a CC comes, what it has put
 -- in class 0, and what has come for a connection that may still open.
 -- For the session of the connection of an end in class 0.
+use Rattle.osi_rules.specs.declared.disconnects.Disconnects.{Disconnects}
 use Rattle.osi_watched.proofs.Vocabulary.{[], ap, Bool, length, List, None, Option, refl, Some, subst, sym, true, ℕ, ◌∙◌, ◌∷◌, ◌≡◌}
 use Rattle.osi_watched.proofs.Vocabulary.{eqb-true, AllByRecursion, confirm, Connect, data0, request, Value, Class, Two, Zero, Local}
 use Rattle.osi_watched.proofs.Vocabulary.{has_given, Traffic as State, takes, Connection, Offer, early, past, stage_at, stage_is, IsOver}
@@ -22,8 +23,8 @@ class_not k a b h e apart = absurd (let same : a ≡ b = cc in apart same)
 zero_two : Zero ≡ Two → ⊥
 zero_two e = cc
 
-calm_class : (w : Whole) (cs : List Connection) (strays : Bool) → w.tap ≡ calm_tap cs strays → w.tap.course.class ≡ None
-calm_class w cs strays tap = ap (λ (t : State). t.course.class) tap
+calm_class : (w : Whole) (cs : List Connection) (drs : Disconnects) → w.tap ≡ calm_tap cs drs → w.tap.course.class ≡ None
+calm_class w cs drs tap = ap (λ (t : State). t.course.class) tap
 
 -- ---- DTs of class 0
 
@@ -58,18 +59,18 @@ first_of v x rest more put e h = let same : v ∷ rest ≡ x ∷ more = sym e �
 -- the end is over, or its one CR waits for the answer
 pub data AwaitsAnswer (local : Local) (w : Whole) : Type 0 where
   gone : IsOver w.end → AwaitsAnswer local w
-  awaits : (r p : ℕ) (o : Offer) (cs : List Connection) (strays : Bool) → Calling local (one r) w.end → w.tap ≡ calm_tap cs strays →
+  awaits : (r p : ℕ) (o : Offer) (cs : List Connection) (drs : Disconnects) → Calling local (one r) w.end → w.tap ≡ calm_tap cs drs →
       Waits r p o cs → AwaitsAnswer local w
 
 module _ (local : Local) (w : Whole) where
   pub own_unit : (v : Value) (rest : List Value) → Stage local w → w.put ≡ v ∷ rest → w.begun ≡ true →
       (w.tap.course.class ≡ Some Two → ⊥) → PassesOwn w v
   own_unit v rest (ended none h) e begun not_two = some_put v rest w.put e none
-  own_unit v rest (quiet is none not_begun cs strays tap done dcs) e begun not_two = some_put v rest w.put e none
-  own_unit v rest (asks x put is offers cs strays tap done dcs all) e begun not_two =
-      asking x (first_of v (request x) rest [] w.put e put) (calm_class w cs strays tap)
-  own_unit v rest (waits r is none not_begun cs strays tap p o offers waiting dcs) e begun not_two = some_put v rest w.put e none
-  own_unit v rest (refused r is none not_begun cs strays tap done dcs u more coming are refusal too) e begun not_two =
+  own_unit v rest (quiet is none not_begun cs drs tap done dcs) e begun not_two = some_put v rest w.put e none
+  own_unit v rest (asks x put is offers cs drs tap done dcs all) e begun not_two =
+      asking x (first_of v (request x) rest [] w.put e put) (calm_class w cs drs tap)
+  own_unit v rest (waits r is none not_begun cs drs tap p o offers waiting dcs) e begun not_two = some_put v rest w.put e none
+  own_unit v rest (refused r is none not_begun cs drs tap done dcs u more coming are refusal too) e begun not_two =
       some_put v rest w.put e none
   own_unit v rest (answered r is none not_begun dcs n x more coming are class has after so z) e begun not_two = grind (arith, some_put)
   own_unit v rest (zero has z) e begun not_two =
@@ -82,10 +83,10 @@ module _ (local : Local) (w : Whole) where
   pub cc_comes : (n : ℕ) (x : Connect) → Stage local w → w.tap.course.class ≡ None → GoesOn (takes Right (confirm n x) w.tap).state →
       (w.put ≡ []) × AwaitsAnswer local w
   cc_comes n x (ended none h) class goes = (none, gone h)
-  cc_comes n x (quiet is none not_begun cs strays tap done dcs) class goes = grind (arith, done_takes)
-  cc_comes n x (asks y put is offers cs strays tap done dcs all) class goes = grind (arith, done_takes)
-  cc_comes n x (waits r is none not_begun cs strays tap p o offers waiting dcs) class goes = (none, awaits r p o cs strays is tap waiting)
-  cc_comes n x (refused r is none not_begun cs strays tap done dcs u more coming are refusal too) class goes = grind (arith, done_takes)
+  cc_comes n x (quiet is none not_begun cs drs tap done dcs) class goes = grind (arith, done_takes)
+  cc_comes n x (asks y put is offers cs drs tap done dcs all) class goes = grind (arith, done_takes)
+  cc_comes n x (waits r is none not_begun cs drs tap p o offers waiting dcs) class goes = (none, awaits r p o cs drs is tap waiting)
+  cc_comes n x (refused r is none not_begun cs drs tap done dcs u more coming are refusal too) class goes = grind (arith, done_takes)
   cc_comes n x (answered r is none not_begun dcs m y more coming are k has after so z) class goes = grind (arith, none_some)
   cc_comes n x (zero has z) class goes = none_some w.tap.course.class Zero class z.tap.class
   cc_comes n x (known two seen has) class goes = none_some w.tap.course.class Two class two
@@ -94,10 +95,10 @@ module _ (local : Local) (w : Whole) where
 
   pub dts_put : Stage local w → w.tap.course.class ≡ Some Zero → AllByRecursion IsDt0 w.put
   dts_put (ended none h) class = none_all none
-  dts_put (quiet is none not_begun cs strays tap done dcs) class = none_all none
-  dts_put (asks x put is offers cs strays tap done dcs all) class = grind (arith, none_some, calm_class)
-  dts_put (waits r is none not_begun cs strays tap p o offers waiting dcs) class = none_all none
-  dts_put (refused r is none not_begun cs strays tap done dcs u more coming are refusal too) class = none_all none
+  dts_put (quiet is none not_begun cs drs tap done dcs) class = none_all none
+  dts_put (asks x put is offers cs drs tap done dcs all) class = grind (arith, none_some, calm_class)
+  dts_put (waits r is none not_begun cs drs tap p o offers waiting dcs) class = none_all none
+  dts_put (refused r is none not_begun cs drs tap done dcs u more coming are refusal too) class = none_all none
   dts_put (answered r is none not_begun dcs n x more coming are k has after so z) class = none_all none
   dts_put (zero has z) class = search (arith, all_data, zero_puts)
   dts_put (known two seen has) class = class_not w.tap.course.class Zero Two class two zero_two

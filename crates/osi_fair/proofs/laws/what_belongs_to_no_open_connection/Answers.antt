@@ -1,4 +1,5 @@
 use Rattle.osi_fair.proofs.what_belongs_to_no_open_connection.{dc_spared, dr_strays, refusal_right, strays_last}
+use Rattle.osi_fair.proofs.a_dc_follows_a_dr.{begins_knows, dr_noted}
 use Rattle.osi_fair.proofs.which_answers_may_be_blamed.{dr_closes}
 use Rattle.osi_fair.proofs.laws.what_belongs_to_no_open_connection.Goals as goal
 
@@ -16,3 +17,9 @@ returns-clause-stray c = dr_strays
 
 pub returns-clause-closes : goal.returns-clause-closes
 returns-clause-closes c = dr_closes
+
+pub returns-clause-begins : goal.returns-clause-begins
+returns-clause-begins c = begins_knows
+
+pub returns-clause-noted : goal.returns-clause-noted
+returns-clause-noted c d s n source reason user = dr_noted n source reason user s d
