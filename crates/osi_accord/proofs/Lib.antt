@@ -3,12 +3,12 @@ mod Vocabulary
 -- Two sides that are explained apart from each other run together.
 pub mod two_runs_are_one
 pub mod a_pair_explains_both_sides
--- What passed before an octet of a capture, and in which order TSDUs pass.
-pub mod what_passes_first
-pub mod the_tsdus_of_a_side_rise
-pub mod tsdus_of_both_sides_in_order
--- What counts as passed before a TSDU stands before it.
-pub mod what_had_passed_stands_before
+-- The TSDUs of a connection have an order, in which they passed.
+pub mod what_both_sides_said_has_an_order
+pub mod one_connection_has_a_number
+pub mod what_passed_by_then_stands_in_front
+-- So two sides of a connection that kept the protocol run together.
+pub mod two_kept_sides_run_together
 -- What a side may send is what a call sends, but for liberties.
 pub mod what_an_ac_selects
 pub mod what_may_be_said_is_called

@@ -1,14 +1,14 @@
 -- What the proofs of this crate take from the library, from the crates below and from its own definitions.
 pub use Rattle.std.proofs.Common.{Bool, List, None, Ok, Option, Some, [], ap, append-nil, arith, cond, drop, false, get_or, if◌then◌else◌}
-pub use Rattle.std.proofs.Common.{inl, inr, leb, length, length-append, map, nat_le, not, option_map, refl, subst, suc, sym, take, true}
-pub use Rattle.std.proofs.Common.{unwrap_or, zero, ℕ, ◌&&◌, ◌++◌, ◌+◌, ◌-◌, ◌<◌, ◌==◌, ◌||◌, ◌∙◌, ◌∷◌, ◌≡◌, ◌≤◌, ◌⊎◌}
+pub use Rattle.std.proofs.Common.{inl, inr, leb, length, length-append, map, nat_le, not, option_map, refl, subst, suc, set, slice_get, sym, take, true}
+pub use Rattle.std.proofs.Common.{unwrap_or, zero, ℕ, ◌&&◌, ◌++◌, ◌+◌, ◌-◌, ◌<◌, ◌==◌, ◌||◌, ◌∙◌, ◌∷◌, ◌≡◌, ◌≤◌, ◌⊎◌, ◌^◌}
 pub use Rattle.std.proofs.Math.Seq.{get_or-append_seam, take-append_seam}
 pub use Rattle.std.proofs.lemmas.Bool.{and_parts, eqb-true, lt-leb}
 pub use Rattle.std.proofs.lemmas.Bool.Decides.{leb_tells}
 pub use Rattle.std.proofs.lemmas.Grind.{flat_map-append}
-pub use Rattle.std.proofs.lemmas.List.{append_assoc, take-append-drop}
+pub use Rattle.std.proofs.lemmas.List.{append_assoc, length-map, length-set, map-append, take-append-drop, take-append-le}
 pub use Rattle.std.proofs.lemmas.List.Elements.{filter-append}
-pub use Rattle.std.specs.List.{AllByRecursion, filter, flat_map}
+pub use Rattle.std.specs.List.{AllByRecursion, filter, find, flat_map}
 pub use Rattle.osi_spdu.specs.Sizes.{are_sizes}
 pub use Rattle.osi_spdu.specs.declared.fields.TsduMaximumSize.{TsduMaximumSize}
 pub use Rattle.osi_spdu.specs.declared.settings.TokenSetting.{TokenSetting}
@@ -48,21 +48,30 @@ pub use Rattle.osi_machine.specs.Machine.{Ending, Entry, HasNumber, Step, calls,
 pub use Rattle.osi_machine.specs.Sayings.{one_or_none, said_in, units_in}
 pub use Rattle.osi_machine.specs.Tables.{Line, Seat, Tables, refusal, run, step}
 pub use Rattle.osi_machine.specs.Worlds.{Message, Transport, accepts, class_0, gone, linked, replied, unit}
-pub use Rattle.osi_judge.proofs.captured.one_more_packet_passes.{OneOrNone, sent_one}
 pub use Rattle.osi_judge.proofs.honest.a_caller_is_explained.{front_told}
-pub use Rattle.osi_judge.specs.Captures.{Capture, of, other, passed_before}
+pub use Rattle.osi_judge.specs.Captures.{Capture, Passed, other}
 pub use Rattle.osi_judge.specs.Explaining.{Explains, IsExplained, Remark, Told, remark, remarks, remarks_of}
-pub use Rattle.osi_judge.specs.Tapping.{IsFoundIn, had_passed, heard, tell, told}
-pub use Rattle.osi_judge.specs.Transport.{Handshake, IsSent, Move, Sent, Stage, first_of, moved, packet_length, refused, sent_from}
-pub use Rattle.osi_judge.specs.Transport.{stage_behind, stopped}
 pub use Rattle.osi_judge.specs.declared.directions.Direction.{Direction}
 pub use Rattle.osi_judge.specs.declared.directions.Direction.TheVariants.{Left, Right}
-pub use Rattle.osi_judge.specs.declared.findings.Finding.TheVariants.{Broke}
-pub use Rattle.osi_accord.specs.Accords.{Accords, AreInOrder, Sending, Turn, end_of, sending, sending_of, told_by, tsdus_by, turn, words_in}
+pub use Rattle.osi_judge.specs.declared.findings.Finding.TheVariants.{Broke, Kept}
+pub use Rattle.osi_tpkt.specs.Stream.{offset_of}
+pub use Rattle.osi_tpdu.specs.Value.{Value}
+pub use Rattle.osi_tap.proofs.a_claim_on_connections_holds_of_captures.{IsClaim, after_kept}
+pub use Rattle.osi_tap.proofs.a_piece_comes_to_what_its_octets_do.{after_more}
+pub use Rattle.osi_tap.proofs.what_is_kept_of_a_side_is_what_passed.{found_at}
+pub use Rattle.osi_tap.specs.Connections.{Joined, Sessions, adds_all, adds_if, all_begin, asked, changed, count, has_number, meant}
+pub use Rattle.osi_tap.specs.Connections.{none, numbered, packet_begins, placed, source_of, spoken, taken, taken_at}
+pub use Rattle.osi_tap.specs.Holding.{HoldsFound, line_in}
+pub use Rattle.osi_tap.specs.Lines.{Spoken, before, begun_octets, heard, silent, told, told_of}
+pub use Rattle.osi_tap.specs.Tapping.{begin_within}
+pub use Rattle.osi_tap.specs.declared.connections.Connection.{Connection}
+pub use Rattle.osi_tap.specs.declared.rooms.Room.{Room}
+pub use Rattle.osi_accord.specs.Accords.{Accords, AreInOrder, Sending, Turn, end_of, octets_told, own, sending, sending_of, told_by}
+pub use Rattle.osi_accord.specs.Accords.{tsdus_by, turn, words_in}
 pub use Rattle.osi_accord.specs.Liberties.{IsCall, as_called, has_size_of, has_sizes_of, is_called}
 pub use Rattle.osi_accord.specs.Machines.{AreWritten, IsByCall, IsCoreCall, IsMessage, Plays, TakesNoLiberty, Utterance, connect_of}
 pub use Rattle.osi_accord.specs.Machines.{is_connect, sent_at, side_at, utters}
 pub use Rattle.osi_accord.specs.Pairs.{Pair, Party, channel_of, has_taken, pair_of, party_of, session_of, with_channel, with_session}
-pub use Rattle.osi_accord.specs.Taps.{AllFrom, ArePassed, IsAccord, Passage, passage, place, sending_in, sendings_in, sent_by}
+pub use Rattle.osi_accord.specs.Taps.{AreTold, BeginWith, IsAccord, IsFoundOn, connection_in}
 pub use Rattle.osi_accord.specs.Wholes.{CallsAndAnswers, IsAnyCall, IsByAnyCall, PlaysWhole, end_if, its_own, start_0, uttered_at}
 pub use Rattle.osi_accord.specs.Wholes.{uttered_by, uttered_in}

@@ -10,7 +10,6 @@ use Rattle.osi_accord.proofs.Vocabulary.{IsMessage, side_at, TakesNoLiberty, Utt
 use Rattle.osi_accord.proofs.Vocabulary.{session_of, with_channel, with_session, CallsAndAnswers, IsAnyCall, IsByAnyCall, its_own}
 use Rattle.osi_accord.proofs.Vocabulary.{PlaysWhole, start_0, uttered_at, uttered_by, uttered_in, arith, Step}
 use Rattle.osi_session.specs.Moves.{react}
-use Rattle.osi_machine.specs.Core as machine
 use Rattle.osi_machine.specs.Sayings.{said_at}
 use Rattle.osi_accord.specs.Accords as accord
 use Rattle.osi_accord.proofs.messages_of_a_run.{AsMessages, IsRest, message_first, same_said, says_nothing, IsDue, same_pair, first_word}

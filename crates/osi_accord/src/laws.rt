@@ -1,6 +1,6 @@
 //! Laws of two sides of a capture. Each function does nothing: its clauses are the laws.
 
-ghost use Rattle.std.specs.Prelude.{◌≡◌, ℕ, true, List, ◌∷◌, length, map, None};
+ghost use Rattle.std.specs.Prelude.{◌≡◌, ◌<◌, ◌-◌, ◌^◌, ℕ, true, List, ◌∷◌, length, map, None, Some};
 ghost use Rattle.std.specs.List.{AllByRecursion};
 ghost use Rattle.osi_message.specs.Meanings.{Meaning};
 ghost use Rattle.osi_message.specs.Sendable.{IsSendable};
@@ -19,15 +19,16 @@ ghost use Rattle.osi_judge.specs.declared.directions.Direction.{Direction};
 ghost use Rattle.osi_judge.specs.declared.findings.Finding.{Finding};
 ghost use Rattle.osi_judge.specs.Captures.{Capture};
 ghost use Rattle.osi_judge.specs.Explaining.{IsExplained};
-ghost use Rattle.osi_judge.specs.Tapping.{IsFoundIn};
+ghost use Rattle.osi_tap.specs.declared.connections.Connection.{Connection};
+ghost use Rattle.osi_tap.specs.declared.rooms.Room.{Room};
+ghost use Rattle.osi_tap.specs.Holding.{HoldsFound, line_in};
 ghost use Rattle.osi_accord.specs.Accords.{Accords, AreInOrder, Sending, Turn, end_of, sending_of, told_by, tsdus_by};
 ghost use Rattle.osi_accord.specs.Liberties.{IsCall, as_called, is_called};
 ghost use Rattle.osi_accord.specs.Machines.{AreWritten, IsMessage, Plays, TakesNoLiberty, Utterance, connect_of, side_at, utters};
 ghost use Rattle.osi_accord.specs.Pairs.{Pair, pair_of};
-ghost use Rattle.osi_accord.specs.Taps.{IsAccord, Passage};
+ghost use Rattle.osi_accord.specs.Taps.{IsAccord, IsFoundOn, connection_in};
 ghost use Rattle.osi_accord.specs.Wholes.{CallsAndAnswers, PlaysWhole, start_0, uttered_by, uttered_in};
 
-use osi_judge::laws::a_capture_has_one_reading;
 use osi_message::laws::what_is_sent_is_read;
 use osi_session::laws::{an_empty_token_item_changes_nothing, messages_do_what_they_did};
 
@@ -44,18 +45,25 @@ pub fn two_explained_sides_are_a_pair()
         × IsExplained right (tsdus_by Direction.Left turns) (told_by Direction.Right turns) }
 {}
 
-/// If the judge finds that both sides of a capture kept the protocol, there are two sessions, a calling and a called one, that
-/// make this capture (`pair`). They send all its whole TSDUs, in the order in which their first octets passed. A side takes a
-/// TSDU after the other side has sent it, and before it sends a TSDU it takes only those that had passed as a whole before that
-/// one. And if there are two such sessions, the judge blames neither side (`only`).
+/// If a tap finds that both sides of a connection kept the protocol, there are two sessions, a calling and a called one, that make
+/// what passed on it (`pair`), in class 0 and in class 2, among any number of other connections. They send all its whole TSDUs that
+/// the tap judges, in the order in which these had passed as a whole. A side takes a TSDU after the other side has sent it, and before
+/// it sends a TSDU it takes only those that had passed as a whole before the first packet of that one. And if there are two such
+/// sessions, the tap blames neither side (`only`). What the tap finds of a side is what it tells of a connection that it has with
+/// this number (`told`, [`osi_tap::Tap::connection`], [`osi_tap::Connection::finding`]).
+///
+/// A tap judges all TSDUs that passed, but for those after a break of transport that ends the judging of their side or of the
+/// connection, and those beyond its bound, if it has one ([`osi_tap::Connection::is_over`]). It is assumed that the number of the
+/// connection is below 2^64 - 1: a tap counts no further.
 pub fn two_kept_sides_are_a_pair()
-    ensures pair { (capture : Capture) → IsFoundIn Direction.Left capture Finding.Kept → IsFoundIn Direction.Right capture Finding.Kept →
-        (passages : List Passage) × IsAccord capture passages }
-    ensures only { (d : Direction) (capture : Capture) (passages : List Passage) (i : ℕ) → IsAccord capture passages →
-        IsFoundIn d capture (Finding.Broke i) → ⊥ }
-{
-    a_capture_has_one_reading();
-}
+    ensures pair { (room : Room) (number : ℕ) (capture : Capture) → number < 2 ^ 64 - 1 →
+        IsFoundOn Direction.Left room number capture Finding.Kept → IsFoundOn Direction.Right room number capture Finding.Kept →
+        (turns : List Turn) × IsAccord room number capture turns }
+    ensures only { (d : Direction) (room : Room) (number : ℕ) (capture : Capture) (turns : List Turn) (i : ℕ) →
+        IsAccord room number capture turns → IsFoundOn d room number capture (Finding.Broke i) → ⊥ }
+    ensures told { (d : Direction) (room : Room) (number : ℕ) (capture : Capture) (c : Connection) →
+        HoldsFound (Some c) (connection_in room number capture) → IsFoundOn d room number capture (line_in d c).side.finding }
+{}
 
 /// If a side may send a message, a session of this product in the same state allows a call that sends this message, and the call
 /// leads to the same state. The judge takes liberties beyond that, because X.225 does. The message may differ from the one that

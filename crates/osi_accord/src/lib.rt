@@ -1,5 +1,5 @@
-//! Two sides of a capture that kept the protocol are two sessions that make this capture. The crate has definitions and laws;
-//! nothing here runs.
+//! Two sides of a connection that kept the protocol are two sessions that make what passed on it. The crate has definitions and
+//! laws; nothing here runs.
 //!
 //! Read it if you want to know what it means that `osi judge` blames nobody. The judge looks at each side apart from the
 //! other: it asks whether some session explains what the side sent, by what had passed of the other side before. That could
@@ -12,9 +12,10 @@
 //!   (`Takes`, `CanSay`).
 //! - [`laws::two_explained_sides_are_a_pair`]: two sides that are explained apart from each other have such a run, and only
 //!   such sides have one. All that is needed is that each TSDU that counts as passed before another one stands before it.
-//! - `IsAccord` (`specs/Taps.antt`) is such a run for a capture. The TSDUs are sent in the order in which their first octets
-//!   passed, and before a TSDU its side takes only what had passed as a whole. [`laws::two_kept_sides_are_a_pair`]: if the
-//!   judge finds that both sides kept the protocol there is one, and if there is one the judge blames neither side.
+//! - `IsAccord` (`specs/Taps.antt`) is such a run for a connection of a capture, of class 0 or 2, as a tap reads it (`osi_tap`).
+//!   The TSDUs are sent in the order in which they had passed as a whole, and before a TSDU its side takes only what had passed
+//!   before it. [`laws::two_kept_sides_are_a_pair`]: if a tap finds that both sides kept the protocol there is one, and if there is
+//!   one the tap blames neither side.
 //!
 //! The judge is wider than the sessions of this product, because X.225 allows more than they do. Three laws say by how much:
 //!
@@ -27,8 +28,8 @@
 //!   of a session of this product, is a run of the machine of whole connections (`Tables` of `osi_machine`), in class 0. It may
 //!   have refusals, releases and aborts.
 //!
-//! The laws speak of one connection of class 0, and of its sessions. They don't speak of the transport units around the TSDUs,
-//! nor of a TSDU whose last packet is not in the capture.
+//! The laws speak of one connection, and of its sessions. They don't speak of the transport units around the TSDUs, nor of a TSDU
+//! whose last packet is not in the capture.
 #![tactic(auto)]
 
 pub mod laws;
