@@ -1,3 +1,2 @@
-pub mod a_failure_is_remembered
 pub mod reads_one_after_the_other_read_all
 pub mod writes_one_after_the_other_append

@@ -3,8 +3,8 @@ use Rattle.std.proofs.Common.{ℕ, ◌≡◌, ◌<◌, ◌≤◌, Option, Some, 
 use Rattle.std.proofs.lemmas.List.{append_assoc, append-nil}
 use Rattle.std.specs.Option.{IfSome}
 use Rattle.std.specs.Io.KnownBytes.{Appends, Consumes}
-use Rattle.osi_commands.specs.Judging.{Judges, Finds, FindsPart}
-use Rattle.osi_commands.specs.Show.{BeginsToAppend, IsRead}
+use Rattle.osi_commands.specs.Judging.{Judges, Finds}
+use Rattle.osi_commands.specs.Show.{IsRead}
 
 pub consumes-append : (a b c : Option (List ℕ)) (xs ys : List ℕ) → Consumes a b xs → Consumes b c ys → Consumes a c (xs ++ ys)
 consumes-append None b c xs ys h k = tt
@@ -35,11 +35,3 @@ found_whole None new written now input lines status h k j b = tt
 found_whole (Some x) new written now input lines status h k j b =
     subst (λ (text : List ℕ). Finds text written now status) (all_read (Some x) new input h k j.short)
     (record { lines = lines; judges = j; written = b })
-
--- A prefix of what is found of it is written: for `judge`.
-pub found_in_part : (old new written now : Option (List ℕ)) (input lines : List ℕ) (status : ℕ) → Consumes old new input → IsRead new input
-    → Judges input lines status → BeginsToAppend written now lines → IfSome old (λ text. FindsPart text written now)
-found_in_part None new written now input lines status h k j b = tt
-found_in_part (Some x) new written now input lines status h k j b =
-    subst (λ (text : List ℕ). FindsPart text written now) (all_read (Some x) new input h k j.short)
-    (record { lines = lines; status = status; judges = j; begun = b })

@@ -1,5 +1,7 @@
 //! Why a job fails.
 
+use crate::watched::Watch;
+
 /// Why a job failed.
 #[derive(Clone, Copy)]
 pub enum ToolFault {
@@ -12,4 +14,13 @@ pub enum ToolFault {
     Write,
     /// An allocation failed.
     OutOfMemory,
+}
+
+/// Why a job failed, and what became of its reader and its writer.
+#[derive(Clone, Copy)]
+pub struct Failure {
+    /// Why it failed.
+    pub fault: ToolFault,
+    /// Whether a read failed, and whether a write did.
+    pub watch: Watch,
 }

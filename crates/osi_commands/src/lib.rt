@@ -1,8 +1,6 @@
 //! What the program `osi` does with a reader and a writer: it lists a capture, judges one, or runs a script.
 //!
 //! ```text
-//! let mut reader = WatchedReader::new(input);
-//! let mut writer = WatchedWriter::new(output);
 //! let status = show(alloc, &mut reader, &mut writer)?;    // or judge, or pair
 //! ```
 //!
@@ -11,9 +9,11 @@
 //!
 //! - [`show`], [`judge`] and [`pair`] read all of the input, at most 16,777,216 octets, make the whole text, and then write
 //!   it. So nothing is written for an input that can't be read, and a write that fails leaves a prefix of the text.
-//! - [`WatchedReader`] and [`WatchedWriter`] remember whether a call failed, so that the contracts can say when a fault is
-//!   reported. An interrupted call is repeated.
-//! - [`ToolFault`] says why nothing, or not all, was done.
+//! - [`ToolFault`] says why nothing, or not all, was done. It comes in a [`Failure`], with what the [`Watch`] remembers: whether a
+//!   read failed, and whether a write did. So the contracts can say when a fault is reported. An interrupted call is
+//!   repeated.
+//!
+//! Any reader and any writer will do. A [`Watch`] passes beside them from call to call; it is made in each of the three.
 //!
 //! What it leaves to others: the script of a capture, and which job comes when (`osi_tool`), and the words of the command
 //! line (`osi_words`).
@@ -26,9 +26,9 @@ mod showing;
 mod texts;
 mod watched;
 
-pub use faults::ToolFault;
+pub use faults::{Failure, ToolFault};
 pub use judging::judge;
 pub use pairing::pair;
 pub use showing::{read_input, show};
 pub use texts::LONGEST_INPUT;
-pub use watched::{WatchedReader, WatchedWriter};
+pub use watched::Watch;

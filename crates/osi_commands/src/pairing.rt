@@ -1,13 +1,13 @@
 //! `osi pair`: reading, running and writing.
 
-ghost use Rattle.std.specs.Prelude.{◌≡◌, ◌<◌, ◌≤◌, ◌⊎◌, ◌↔◌, true, length, Err, IfOk, IfSome};
+ghost use Rattle.std.specs.Prelude.{◌≡◌, ◌<◌, ◌≤◌, ◌⊎◌, ◌↔◌, true, length, Err, IfOk, IfErr, IfSome, IsErrAnd};
 ghost use Rattle.osi_commands.specs.Pairing.{Tells, Pairs, PairsPart};
 ghost use Rattle.osi_commands.specs.Show.{FailsToRead, TakesAtMost};
 
-use crate::faults::ToolFault;
+use crate::faults::{Failure, ToolFault};
 use crate::showing::read_input;
 use crate::texts::LONGEST_INPUT;
-use crate::watched::{WatchedReader, WatchedWriter};
+use crate::watched::Watch;
 use osi_transcript::{Transcript, transcribe};
 use std::alloc::Global;
 use std::io::{Read, Write};
@@ -31,33 +31,55 @@ fn transcript_of(alloc: Global, text: &[u8]) -> Result<Transcript, ToolFault>
     }
 }
 
+/// Runs the script that a reader gives, and remembers which call failed.
+fn pair_watched<R: Read, W: Write>(
+    alloc: Global,
+    watch: &mut Watch,
+    reader: &mut R,
+    writer: &mut W,
+) -> Result<u8, ToolFault>
+    ensures told { IfOk result (λ status. IfSome (R.remaining reader.old) (λ text.
+        Pairs text (W.contents writer.old) (W.contents writer.new) status)) }
+    ensures status { IfOk result (λ status. status < 2) }
+    ensures most { TakesAtMost 16777217 (R.remaining reader.old) (R.remaining reader.new) }
+    ensures long { IfSome (R.remaining reader.old) (λ text. 16777216 < length text →
+        IsErrAnd result (λ fault. (fault ≡ ToolFault.Input) ⊎ (fault ≡ ToolFault.OutOfMemory))) }
+    ensures input { IfErr result (λ fault. fault ≡ ToolFault.Input →
+        FailsToRead watch.new.read_failed (R.remaining reader.old) × (writer.new ≡ writer.old)) }
+    ensures bad_hex { IfErr result (λ fault. fault ≡ ToolFault.BadHex → ⊥) }
+    ensures write { IfErr result (λ fault. fault ≡ ToolFault.Write → (watch.new.write_failed ≡ true)
+        × IfSome (R.remaining reader.old) (λ text. PairsPart text (W.contents writer.old) (W.contents writer.new))) }
+    ensures memory { IfErr result (λ fault. fault ≡ ToolFault.OutOfMemory → writer.new ≡ writer.old) }
+{
+    let input = read_input(alloc, watch, reader)?;
+    let transcript = transcript_of(alloc, input.as_slice())?;
+    watch.write_text(writer, transcript.lines.as_slice())?;
+    Ok(transcript.status)
+}
+
 /// Runs the script that a reader gives on two ends, and writes its transcript. The whole text is made before the first
 /// write.
 ///
 /// [`ToolFault::Input`] means that a read failed or the input is too long. [`ToolFault::Write`] means that a write
 /// failed; what was written is a prefix of the transcript. [`ToolFault::OutOfMemory`] means that memory ran out
 /// anywhere, also in an end of the script.
-pub fn pair<R: Read, W: Write>(
-    alloc: Global,
-    reader: &mut WatchedReader<R>,
-    writer: &mut WatchedWriter<W>,
-) -> Result<u8, ToolFault>
-    ensures told { IfOk result (λ status. IfSome (R.remaining reader.old.inner) (λ text.
-        Pairs text (W.contents writer.old.inner) (W.contents writer.new.inner) status)) }
+pub fn pair<R: Read, W: Write>(alloc: Global, reader: &mut R, writer: &mut W) -> Result<u8, Failure>
+    ensures told { IfOk result (λ status. IfSome (R.remaining reader.old) (λ text.
+        Pairs text (W.contents writer.old) (W.contents writer.new) status)) }
     ensures status { IfOk result (λ status. status < 2) }
-    ensures most { TakesAtMost 16777217 (R.remaining reader.old.inner) (R.remaining reader.new.inner) }
-    ensures long { IfSome (R.remaining reader.old.inner) (λ text. 16777216 < length text →
-        (result ≡ Err ToolFault.Input) ⊎ (result ≡ Err ToolFault.OutOfMemory)) }
-    ensures input { result ≡ Err ToolFault.Input →
-        FailsToRead reader.new.has_failed (R.remaining reader.old.inner) × (writer.new ≡ writer.old) }
-    ensures bad_hex { result ≡ Err ToolFault.BadHex → ⊥ }
-    ensures write { result ≡ Err ToolFault.Write → (writer.new.has_failed ≡ true)
-        × IfSome (R.remaining reader.old.inner) (λ text.
-        PairsPart text (W.contents writer.old.inner) (W.contents writer.new.inner)) }
-    ensures memory { result ≡ Err ToolFault.OutOfMemory → writer.new ≡ writer.old }
+    ensures most { TakesAtMost 16777217 (R.remaining reader.old) (R.remaining reader.new) }
+    ensures long { IfSome (R.remaining reader.old) (λ text. 16777216 < length text →
+        IsErrAnd result (λ f. (f.fault ≡ ToolFault.Input) ⊎ (f.fault ≡ ToolFault.OutOfMemory))) }
+    ensures input { IfErr result (λ f. f.fault ≡ ToolFault.Input →
+        FailsToRead f.watch.read_failed (R.remaining reader.old) × (writer.new ≡ writer.old)) }
+    ensures bad_hex { IfErr result (λ f. f.fault ≡ ToolFault.BadHex → ⊥) }
+    ensures write { IfErr result (λ f. f.fault ≡ ToolFault.Write → (f.watch.write_failed ≡ true)
+        × IfSome (R.remaining reader.old) (λ text. PairsPart text (W.contents writer.old) (W.contents writer.new))) }
+    ensures memory { IfErr result (λ f. f.fault ≡ ToolFault.OutOfMemory → writer.new ≡ writer.old) }
 {
-    let input = read_input(alloc, reader)?;
-    let transcript = transcript_of(alloc, input.as_slice())?;
-    writer.write_text(transcript.lines.as_slice())?;
-    Ok(transcript.status)
+    let mut watch = Watch::new();
+    match pair_watched(alloc, &mut watch, reader, writer) {
+        Ok(status) => Ok(status),
+        Err(fault) => Err(Failure { fault, watch }),
+    }
 }

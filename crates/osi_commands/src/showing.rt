@@ -1,13 +1,13 @@
 //! `osi show`: reading, listing and writing.
 
-ghost use Rattle.std.specs.Prelude.{◌≡◌, ◌<◌, ◌≤◌, ◌⊎◌, ◌++◌, true, length, Err, Ok, IfOk, IfErr, IfSome, OnOk};
+ghost use Rattle.std.specs.Prelude.{◌≡◌, ◌<◌, ◌≤◌, ◌⊎◌, ◌++◌, true, length, Ok, IfOk, IfErr, IfSome, IsErrAnd, OnOk};
 ghost use Rattle.std.specs.Io.KnownBytes.{Consumes};
 ghost use Rattle.osi_listing.specs.Capture.{IsNoCapture};
 ghost use Rattle.osi_commands.specs.Show.{FailsToRead, IsRead, Shows, ShowsPart, TakesAtMost};
 
-use crate::faults::ToolFault;
+use crate::faults::{Failure, ToolFault};
 use crate::texts::{LONGEST_INPUT, list_text};
-use crate::watched::{WatchedReader, WatchedWriter};
+use crate::watched::Watch;
 use std::alloc::Global;
 use std::io::{Read, Write};
 
@@ -18,20 +18,21 @@ const PIECE: usize = 16384;
 /// failed.
 pub fn read_input<R: Read>(
     alloc: Global,
-    reader: &mut WatchedReader<R>,
+    watch: &mut Watch,
+    reader: &mut R,
 ) -> Result<Vec<u8>, ToolFault>
-    ensures ok { IfOk result (λ input. Consumes (R.remaining reader.old.inner) (R.remaining reader.new.inner) input.items
-        × IsRead (R.remaining reader.new.inner) input.items) }
-    ensures most { TakesAtMost 16777217 (R.remaining reader.old.inner) (R.remaining reader.new.inner) }
-    ensures input { result ≡ Err ToolFault.Input → reader.new.has_failed ≡ true }
-    ensures bad_hex { result ≡ Err ToolFault.BadHex → ⊥ }
-    ensures write { result ≡ Err ToolFault.Write → ⊥ }
+    ensures ok { IfOk result (λ input. Consumes (R.remaining reader.old) (R.remaining reader.new) input.items
+        × IsRead (R.remaining reader.new) input.items) }
+    ensures most { TakesAtMost 16777217 (R.remaining reader.old) (R.remaining reader.new) }
+    ensures input { IfErr result (λ fault. fault ≡ ToolFault.Input → watch.new.read_failed ≡ true) }
+    ensures bad_hex { IfErr result (λ fault. fault ≡ ToolFault.BadHex → ⊥) }
+    ensures write { IfErr result (λ fault. fault ≡ ToolFault.Write → ⊥) }
 {
     let mut input = Vec::new(alloc);
     let mut piece = [0; PIECE];
     'reads: while input.len() <= LONGEST_INPUT {
         let room = (LONGEST_INPUT + 1 - input.len()).min(PIECE);
-        let count = reader.read(&mut piece[..room])?;
+        let count = watch.read(reader, &mut piece[..room])?;
         if count == 0 {
             return Ok(input);
         }
@@ -51,32 +52,55 @@ fn keep(input: &mut Vec<u8>, piece: &[u8]) -> Result<(), ToolFault>
     Ok(())
 }
 
+/// Lists what a reader gives, and remembers which call failed.
+fn show_watched<R: Read, W: Write>(
+    alloc: Global,
+    watch: &mut Watch,
+    reader: &mut R,
+    writer: &mut W,
+) -> Result<u8, ToolFault>
+    ensures shown { IfOk result (λ status. IfSome (R.remaining reader.old) (λ text.
+        Shows text (W.contents writer.old) (W.contents writer.new) status)) }
+    ensures status { IfOk result (λ status. status < 2) }
+    ensures most { TakesAtMost 16777217 (R.remaining reader.old) (R.remaining reader.new) }
+    ensures long { IfSome (R.remaining reader.old) (λ text. 16777216 < length text →
+        IsErrAnd result (λ fault. (fault ≡ ToolFault.Input) ⊎ (fault ≡ ToolFault.OutOfMemory))) }
+    ensures input { IfErr result (λ fault. fault ≡ ToolFault.Input →
+        FailsToRead watch.new.read_failed (R.remaining reader.old) × (writer.new ≡ writer.old)) }
+    ensures bad_hex { IfErr result (λ fault. fault ≡ ToolFault.BadHex →
+        IfSome (R.remaining reader.old) IsNoCapture × (writer.new ≡ writer.old)) }
+    ensures write { IfErr result (λ fault. fault ≡ ToolFault.Write → (watch.new.write_failed ≡ true)
+        × IfSome (R.remaining reader.old) (λ text. ShowsPart text (W.contents writer.old) (W.contents writer.new))) }
+    ensures memory { IfErr result (λ fault. fault ≡ ToolFault.OutOfMemory → writer.new ≡ writer.old) }
+{
+    let input = read_input(alloc, watch, reader)?;
+    let listed = list_text(alloc, input.as_slice())?;
+    watch.write_text(writer, listed.lines.as_slice())?;
+    Ok(listed.status)
+}
+
 /// Lists the capture that a reader gives. The whole text is made before the first write.
 ///
 /// [`ToolFault::Input`] means that a read failed or the input is too long, and [`ToolFault::Write`] that
-/// a write failed: what was written then is a prefix of the listing.
-pub fn show<R: Read, W: Write>(
-    alloc: Global,
-    reader: &mut WatchedReader<R>,
-    writer: &mut WatchedWriter<W>,
-) -> Result<u8, ToolFault>
-    ensures shown { IfOk result (λ status. IfSome (R.remaining reader.old.inner) (λ text.
-        Shows text (W.contents writer.old.inner) (W.contents writer.new.inner) status)) }
+/// a write failed: what was written then is a prefix of the listing. After another fault nothing was written.
+pub fn show<R: Read, W: Write>(alloc: Global, reader: &mut R, writer: &mut W) -> Result<u8, Failure>
+    ensures shown { IfOk result (λ status. IfSome (R.remaining reader.old) (λ text.
+        Shows text (W.contents writer.old) (W.contents writer.new) status)) }
     ensures status { IfOk result (λ status. status < 2) }
-    ensures most { TakesAtMost 16777217 (R.remaining reader.old.inner) (R.remaining reader.new.inner) }
-    ensures long { IfSome (R.remaining reader.old.inner) (λ text. 16777216 < length text →
-        (result ≡ Err ToolFault.Input) ⊎ (result ≡ Err ToolFault.OutOfMemory)) }
-    ensures input { result ≡ Err ToolFault.Input →
-        FailsToRead reader.new.has_failed (R.remaining reader.old.inner) × (writer.new ≡ writer.old) }
-    ensures bad_hex { result ≡ Err ToolFault.BadHex →
-        IfSome (R.remaining reader.old.inner) IsNoCapture × (writer.new ≡ writer.old) }
-    ensures write { result ≡ Err ToolFault.Write → (writer.new.has_failed ≡ true)
-        × IfSome (R.remaining reader.old.inner) (λ text.
-        ShowsPart text (W.contents writer.old.inner) (W.contents writer.new.inner)) }
-    ensures memory { result ≡ Err ToolFault.OutOfMemory → writer.new ≡ writer.old }
+    ensures most { TakesAtMost 16777217 (R.remaining reader.old) (R.remaining reader.new) }
+    ensures long { IfSome (R.remaining reader.old) (λ text. 16777216 < length text →
+        IsErrAnd result (λ f. (f.fault ≡ ToolFault.Input) ⊎ (f.fault ≡ ToolFault.OutOfMemory))) }
+    ensures input { IfErr result (λ f. f.fault ≡ ToolFault.Input →
+        FailsToRead f.watch.read_failed (R.remaining reader.old) × (writer.new ≡ writer.old)) }
+    ensures bad_hex { IfErr result (λ f. f.fault ≡ ToolFault.BadHex →
+        IfSome (R.remaining reader.old) IsNoCapture × (writer.new ≡ writer.old)) }
+    ensures write { IfErr result (λ f. f.fault ≡ ToolFault.Write → (f.watch.write_failed ≡ true)
+        × IfSome (R.remaining reader.old) (λ text. ShowsPart text (W.contents writer.old) (W.contents writer.new))) }
+    ensures memory { IfErr result (λ f. f.fault ≡ ToolFault.OutOfMemory → writer.new ≡ writer.old) }
 {
-    let input = read_input(alloc, reader)?;
-    let listed = list_text(alloc, input.as_slice())?;
-    writer.write_text(listed.lines.as_slice())?;
-    Ok(listed.status)
+    let mut watch = Watch::new();
+    match show_watched(alloc, &mut watch, reader, writer) {
+        Ok(status) => Ok(status),
+        Err(fault) => Err(Failure { fault, watch }),
+    }
 }

@@ -1,11 +1,11 @@
 //! Which job runs what.
 
-ghost use Rattle.std.specs.Prelude.{◌≡◌, ◌<◌, ◌⊎◌, true, length, Err, IfOk, IfSome};
+ghost use Rattle.std.specs.Prelude.{◌≡◌, ◌<◌, ◌⊎◌, true, length, IfOk, IfErr, IfSome, IsErrAnd};
 ghost use Rattle.osi_tool.specs.Doing.{Does, BeginsToDo, IsUnreadable};
 ghost use Rattle.osi_commands.specs.Show.{FailsToRead, TakesAtMost};
 
 use crate::witnessing::witness;
-use osi_commands::{ToolFault, WatchedReader, WatchedWriter, judge, pair, show};
+use osi_commands::{Failure, ToolFault, judge, pair, show};
 use osi_words::Job;
 use std::alloc::Global;
 use std::io::{Read, Write};
@@ -18,23 +18,22 @@ use std::io::{Read, Write};
 pub fn do_job<R: Read, W: Write>(
     alloc: Global,
     job: Job,
-    reader: &mut WatchedReader<R>,
-    writer: &mut WatchedWriter<W>,
-) -> Result<u8, ToolFault>
-    ensures done { IfOk result (λ status. IfSome (R.remaining reader.old.inner) (λ text.
-        Does job text (W.contents writer.old.inner) (W.contents writer.new.inner) status)) }
+    reader: &mut R,
+    writer: &mut W,
+) -> Result<u8, Failure>
+    ensures done { IfOk result (λ status. IfSome (R.remaining reader.old) (λ text.
+        Does job text (W.contents writer.old) (W.contents writer.new) status)) }
     ensures status { IfOk result (λ status. status < 2) }
-    ensures most { TakesAtMost 16777217 (R.remaining reader.old.inner) (R.remaining reader.new.inner) }
-    ensures long { IfSome (R.remaining reader.old.inner) (λ text. 16777216 < length text →
-        (result ≡ Err ToolFault.Input) ⊎ (result ≡ Err ToolFault.OutOfMemory)) }
-    ensures input { result ≡ Err ToolFault.Input →
-        FailsToRead reader.new.has_failed (R.remaining reader.old.inner) × (writer.new ≡ writer.old) }
-    ensures bad_hex { result ≡ Err ToolFault.BadHex →
-        IfSome (R.remaining reader.old.inner) (IsUnreadable job) × (writer.new ≡ writer.old) }
-    ensures write { result ≡ Err ToolFault.Write → (writer.new.has_failed ≡ true)
-        × IfSome (R.remaining reader.old.inner) (λ text.
-        BeginsToDo job text (W.contents writer.old.inner) (W.contents writer.new.inner)) }
-    ensures memory { result ≡ Err ToolFault.OutOfMemory → writer.new ≡ writer.old }
+    ensures most { TakesAtMost 16777217 (R.remaining reader.old) (R.remaining reader.new) }
+    ensures long { IfSome (R.remaining reader.old) (λ text. 16777216 < length text →
+        IsErrAnd result (λ f. (f.fault ≡ ToolFault.Input) ⊎ (f.fault ≡ ToolFault.OutOfMemory))) }
+    ensures input { IfErr result (λ f. f.fault ≡ ToolFault.Input →
+        FailsToRead f.watch.read_failed (R.remaining reader.old) × (writer.new ≡ writer.old)) }
+    ensures bad_hex { IfErr result (λ f. f.fault ≡ ToolFault.BadHex →
+        IfSome (R.remaining reader.old) (IsUnreadable job) × (writer.new ≡ writer.old)) }
+    ensures write { IfErr result (λ f. f.fault ≡ ToolFault.Write → (f.watch.write_failed ≡ true)
+        × IfSome (R.remaining reader.old) (λ text. BeginsToDo job text (W.contents writer.old) (W.contents writer.new))) }
+    ensures memory { IfErr result (λ f. f.fault ≡ ToolFault.OutOfMemory → writer.new ≡ writer.old) }
 {
     match job {
         Job::Show => show(alloc, reader, writer),

@@ -15,9 +15,10 @@
 //! The program only joins other crates: `osi_words` reads the arguments, `osi_commands` reads the input and writes a listing,
 //! a judgement or a transcript, and `osi_witness` finds the script of a capture. Its own part is small:
 //!
-//! - `do_job` (`doing.rt`) does one `Job`: it reads all of the input, at most 16,777,216 octets, makes the whole text,
-//!   and then writes it. So nothing is written for an input that can't be read, and a write that fails leaves a prefix
-//!   of the text.
+//! - `job` is the `Job` that the words name.
+//! - `show`, `judge`, `pair` and `witness` each do one, with any reader and any writer: they read all of the input, at most
+//!   16,777,216 octets, make the whole text, and then write it. So nothing is written for an input that can't be read, and
+//!   a write that fails leaves a prefix of the text. `do_job` (`doing.rt`) does the one that a `Job` names.
 //! - `Ending` (`endings.rt`) is the status and the line on standard error.
 //!
 //! The contract of `do_job` says that exactly the text of its job is written, and for each fault when it comes and
@@ -32,14 +33,16 @@ mod witnessing;
 
 ghost use Rattle.std.specs.Prelude.{◌<◌, IfOk};
 
-use doing::do_job;
+pub use doing::do_job;
 use endings::ending_of;
 use faults::ProgramFault;
-use osi_commands::{WatchedReader, WatchedWriter};
-use osi_words::{Job, job_of_words};
+pub use osi_commands::{Failure, ToolFault, Watch, judge, pair, show};
+use osi_words::job_of_words;
+pub use osi_words::{Job, job};
 use std::io;
 use std::process::ExitCode;
 use std::rt::Env;
+pub use witnessing::witness;
 
 fn main(rt: HostRuntime) -> ExitCode {
     let ending = ending_of(run(&rt));
@@ -64,10 +67,10 @@ fn run<R: Env + Input + Print + AllocGlobal>(rt: &R) -> Result<u8, ProgramFault>
 fn done<R: Input + Print + AllocGlobal>(rt: &R, job: Job) -> Result<u8, ProgramFault>
     ensures { IfOk result (λ status. status < 2) }
 {
-    let mut reader = WatchedReader::new(rt.reader());
-    let mut writer = WatchedWriter::new(io::writer(rt));
+    let mut reader = rt.reader();
+    let mut writer = io::writer(rt);
     match do_job(rt.alloc(), job, &mut reader, &mut writer) {
         Ok(status) => Ok(status),
-        Err(fault) => Err(ProgramFault::Tool(fault)),
+        Err(failure) => Err(ProgramFault::Tool(failure.fault)),
     }
 }

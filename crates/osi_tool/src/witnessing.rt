@@ -1,11 +1,11 @@
 //! `osi judge --script`: reading, finding a script and writing.
 
-ghost use Rattle.std.specs.Prelude.{◌≡◌, ◌<◌, ◌≤◌, ◌⊎◌, ◌↔◌, true, length, Err, IfOk, IfSome};
+ghost use Rattle.std.specs.Prelude.{◌≡◌, ◌<◌, ◌≤◌, ◌⊎◌, ◌↔◌, true, length, Err, IfOk, IfErr, IfSome, IsErrAnd};
 ghost use Rattle.osi_listing.specs.Capture.{IsNoCapture};
 ghost use Rattle.osi_tool.specs.Witnessing.{Scripts, Tells, TellsPart};
 ghost use Rattle.osi_commands.specs.Show.{FailsToRead, TakesAtMost};
 
-use osi_commands::{LONGEST_INPUT, ToolFault, WatchedReader, WatchedWriter, read_input};
+use osi_commands::{Failure, LONGEST_INPUT, ToolFault, Watch, read_input};
 use osi_listing::CaptureFault;
 use osi_witness::{Witness, witness_of};
 use std::alloc::Global;
@@ -35,33 +35,60 @@ fn script_of(alloc: Global, text: &[u8]) -> Result<Witness, ToolFault>
     }
 }
 
+/// Finds the script of what a reader gives, and remembers which call failed.
+fn witness_watched<R: Read, W: Write>(
+    alloc: Global,
+    watch: &mut Watch,
+    reader: &mut R,
+    writer: &mut W,
+) -> Result<u8, ToolFault>
+    ensures told { IfOk result (λ status. IfSome (R.remaining reader.old) (λ text.
+        Tells text (W.contents writer.old) (W.contents writer.new) status)) }
+    ensures status { IfOk result (λ status. status < 2) }
+    ensures most { TakesAtMost 16777217 (R.remaining reader.old) (R.remaining reader.new) }
+    ensures long { IfSome (R.remaining reader.old) (λ text. 16777216 < length text →
+        IsErrAnd result (λ fault. (fault ≡ ToolFault.Input) ⊎ (fault ≡ ToolFault.OutOfMemory))) }
+    ensures input { IfErr result (λ fault. fault ≡ ToolFault.Input →
+        FailsToRead watch.new.read_failed (R.remaining reader.old) × (writer.new ≡ writer.old)) }
+    ensures bad_hex { IfErr result (λ fault. fault ≡ ToolFault.BadHex →
+        IfSome (R.remaining reader.old) IsNoCapture × (writer.new ≡ writer.old)) }
+    ensures write { IfErr result (λ fault. fault ≡ ToolFault.Write → (watch.new.write_failed ≡ true)
+        × IfSome (R.remaining reader.old) (λ text. TellsPart text (W.contents writer.old) (W.contents writer.new))) }
+    ensures memory { IfErr result (λ fault. fault ≡ ToolFault.OutOfMemory → writer.new ≡ writer.old) }
+{
+    let input = read_input(alloc, watch, reader)?;
+    let witness = script_of(alloc, input.as_slice())?;
+    watch.write_text(writer, witness.script.as_slice())?;
+    Ok(witness.status)
+}
+
 /// Finds a script that tells what both sides of the capture did that a reader gives, and writes it. The whole text is made
 /// before the first write.
 ///
 /// [`ToolFault::Input`] means that a read failed or the input is too long, and [`ToolFault::Write`] that
-/// a write failed: what was written then is a prefix of the text.
+/// a write failed: what was written then is a prefix of the text. After another fault nothing was written.
 pub fn witness<R: Read, W: Write>(
     alloc: Global,
-    reader: &mut WatchedReader<R>,
-    writer: &mut WatchedWriter<W>,
-) -> Result<u8, ToolFault>
-    ensures told { IfOk result (λ status. IfSome (R.remaining reader.old.inner) (λ text.
-        Tells text (W.contents writer.old.inner) (W.contents writer.new.inner) status)) }
+    reader: &mut R,
+    writer: &mut W,
+) -> Result<u8, Failure>
+    ensures told { IfOk result (λ status. IfSome (R.remaining reader.old) (λ text.
+        Tells text (W.contents writer.old) (W.contents writer.new) status)) }
     ensures status { IfOk result (λ status. status < 2) }
-    ensures most { TakesAtMost 16777217 (R.remaining reader.old.inner) (R.remaining reader.new.inner) }
-    ensures long { IfSome (R.remaining reader.old.inner) (λ text. 16777216 < length text →
-        (result ≡ Err ToolFault.Input) ⊎ (result ≡ Err ToolFault.OutOfMemory)) }
-    ensures input { result ≡ Err ToolFault.Input →
-        FailsToRead reader.new.has_failed (R.remaining reader.old.inner) × (writer.new ≡ writer.old) }
-    ensures bad_hex { result ≡ Err ToolFault.BadHex →
-        IfSome (R.remaining reader.old.inner) IsNoCapture × (writer.new ≡ writer.old) }
-    ensures write { result ≡ Err ToolFault.Write → (writer.new.has_failed ≡ true)
-        × IfSome (R.remaining reader.old.inner) (λ text.
-        TellsPart text (W.contents writer.old.inner) (W.contents writer.new.inner)) }
-    ensures memory { result ≡ Err ToolFault.OutOfMemory → writer.new ≡ writer.old }
+    ensures most { TakesAtMost 16777217 (R.remaining reader.old) (R.remaining reader.new) }
+    ensures long { IfSome (R.remaining reader.old) (λ text. 16777216 < length text →
+        IsErrAnd result (λ f. (f.fault ≡ ToolFault.Input) ⊎ (f.fault ≡ ToolFault.OutOfMemory))) }
+    ensures input { IfErr result (λ f. f.fault ≡ ToolFault.Input →
+        FailsToRead f.watch.read_failed (R.remaining reader.old) × (writer.new ≡ writer.old)) }
+    ensures bad_hex { IfErr result (λ f. f.fault ≡ ToolFault.BadHex →
+        IfSome (R.remaining reader.old) IsNoCapture × (writer.new ≡ writer.old)) }
+    ensures write { IfErr result (λ f. f.fault ≡ ToolFault.Write → (f.watch.write_failed ≡ true)
+        × IfSome (R.remaining reader.old) (λ text. TellsPart text (W.contents writer.old) (W.contents writer.new))) }
+    ensures memory { IfErr result (λ f. f.fault ≡ ToolFault.OutOfMemory → writer.new ≡ writer.old) }
 {
-    let input = read_input(alloc, reader)?;
-    let witness = script_of(alloc, input.as_slice())?;
-    writer.write_text(witness.script.as_slice())?;
-    Ok(witness.status)
+    let mut watch = Watch::new();
+    match witness_watched(alloc, &mut watch, reader, writer) {
+        Ok(status) => Ok(status),
+        Err(fault) => Err(Failure { fault, watch }),
+    }
 }

@@ -7,8 +7,8 @@ pub returns-in_err-keep-clause-most : goal.returns-in_err-keep-clause-most
 returns-in_err-keep-clause-most g c =
     let remaining = g.R.Read.remaining in (
       c.reads.input.items ++ take c.in_ok-count.count c.read.new.buf,
-      consumes-append (remaining c.args.reader.now.inner) (remaining c.reads.reader.inner)
-          (remaining c.read.new.self.inner) c.reads.input.items
+      consumes-append (remaining c.args.reader.now) (remaining c.reads.reader)
+          (remaining c.read.new.reader) c.reads.input.items
           (take c.in_ok-count.count c.read.new.buf) c.reads.invariant.1 c.in_ok-count.ensures.bytes,
       omega (
         arith,

@@ -1,1 +1,0 @@
-pub mod a_script_is_begun
