@@ -7,7 +7,7 @@ import stat
 import sys
 import tempfile
 
-from . import kinds, streams, tshark
+from . import frames, kinds, streams, tshark
 from .middle import Middle
 from .tshark import BadInput
 
@@ -77,13 +77,21 @@ def shown(name):
 def found_in(name, port):
     """The streams with TPKT of a capture. `name` may be `-` or a pipe."""
     path = local(name)
-    every = streams.joined(tshark.segments(path, shown(name)), port)
+    every = joined(path, shown(name), port)
     found = [stream for stream in every.values() if carries_packets(stream)]
     if not found:
         raise BadInput(f"{shown(name)}: no TCP stream carries TPKT (--port N names another port than {port})")
     for stream in found:
         stream.path = path
     return found
+
+
+def joined(path, name, port):
+    """The streams of a capture by number; tshark reads what `frames` doesn't."""
+    try:
+        return streams.joined(frames.segments(path, lambda: tshark.tell_cut(name)), port)
+    except frames.Odd:
+        return streams.joined(tshark.segments(path, name), port)
 
 
 def carries_packets(stream):

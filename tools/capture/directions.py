@@ -101,11 +101,15 @@ class Direction:
         chunk = heapq.heappop(self.waiting)
         self.held -= len(chunk.octets)
         octets = chunk.octets[self.count - chunk.start:] if chunk.start < self.count else chunk.octets
-        self.count += len(octets)
-        self.next = (self.next + len(octets)) % SPACE
+        self.go_on(len(octets))
+        return octets
+
+    def go_on(self, count):
+        """Counts octets that have passed."""
+        self.count += count
+        self.next = (self.next + count) % SPACE
         if self.beyond is not None and self.count >= self.sent:
             self.beyond = None
-        return octets
 
     def needed(self, number):
         """How many octets have to pass before what acknowledges this sequence number. (The end of a direction has a number, too.)"""

@@ -87,11 +87,19 @@ class Stream:
         if self.is_over or self.is_other:
             return
         if segment.octets:
-            own.keep(segment)
+            self.take_octets(segment, own, far)
         if own.waiting or far.waiting:
             self.pass_on()
         if own.held > MOST_WAITING:
             self.finish()
+
+    def take_octets(self, segment, own, far):
+        """Lets the octets of a segment pass if they are the next ones and nothing is missing; else keeps them."""
+        if own.waiting or segment.sequence != own.next or segment.is_first or not far.has_passed(segment.acknowledged):
+            own.keep(segment)
+            return
+        self.pieces.append((segment.source, Piece(segment.frame, segment.time, own.count, segment.octets)))
+        own.go_on(len(segment.octets))
 
     def pass_on(self):
         """Lets octets pass as long as there are some that may."""

@@ -22,7 +22,7 @@ class Segment:
     """A TCP segment: when it passed, its stream, both addresses, its first sequence number, its flags and its octets; what it
     acknowledges, if that is known, and how many of its octets the capture doesn't have, though the frame was longer than captured."""
 
-    acknowledged, missing, captured = None, 0, 0
+    acknowledged, missing, captured, key = None, 0, 0, None
     is_first = is_last = is_reset = is_answer = False
 
     def __init__(self, values):
@@ -65,9 +65,14 @@ def segments(path, name=None):
         yield from read(run.stdout)
         said = run.stderr.read()
     if run.returncode != 0 and CUT_SHORT in said:
-        print(f"{os.path.basename(sys.argv[0])}: {name or path} ends within a packet; it is read up to there", file=sys.stderr)
+        tell_cut(name or path)
     elif run.returncode != 0:
         raise BadInput(f"{name or path}: {reason(said, path)}")
+
+
+def tell_cut(name):
+    """Says that a capture ends within a packet."""
+    print(f"{os.path.basename(sys.argv[0])}: {name} ends within a packet; it is read up to there", file=sys.stderr)
 
 
 def read(lines):
