@@ -4,6 +4,8 @@ use Rattle.osi_fair.proofs.Vocabulary.{arith, Bool, false, if◌then◌else◌, 
 use Rattle.osi_fair.proofs.Vocabulary.{position, slice_get, ◌&&◌, ◌||◌, confirm, request, Value, is_applied, reach_of, is_live, is_named}
 use Rattle.osi_fair.proofs.Vocabulary.{is_open, is_refused, is_silent, asked_by, asks_of, at_found, at_place, class_for, connection_after}
 use Rattle.osi_fair.proofs.Vocabulary.{found_on, half_after, judged_on, none_told, Outcome, route, routed, sent_on, Traffic as State, takes}
+use Rattle.osi_fair.proofs.Vocabulary.{Broke, Finding, Kept, Outside, TooMany, asks_by, Connect, first_failed, is_free, length, placed}
+use Rattle.osi_fair.proofs.Vocabulary.{request_tests}
 use Rattle.osi_fair.proofs.Vocabulary.{Connection, Direction, Left, Right, NotJudged, Reach, Half, Route, Asks, Named, Only, Unnamed}
 use Rattle.osi_rules.specs.declared.findings.Rule.TheVariants as rule
 use Rattle.osi_fair.proofs.small_facts_that_many_lemmas_use.{sized_judged}
@@ -115,9 +117,28 @@ module _ (P : Connection → Type 0) where
   to_place d v s None k h a = (h, a)
   to_place d v s (Some p) k h a = to_one d v s p (slice_get s.connections p) refl k h a
 
+  placed_so : (new : Connection) (cs : List Connection) (o : Option ℕ) → P new → IsAbove new.left.reference cs → HoldsOfEach P cs →
+      AreDistinct cs → HoldsOfEach P (placed new cs o) × AreDistinct (placed new cs o)
+  placed_so new cs (Some p) is above h a = (
+    each_set P cs p new h is,
+    λ i j x y there too e. distinct_new cs p new a above i j x y (after_set cs p i new x there) (after_set cs p j new y too) e,
+  )
+  placed_so new cs None is above h a = (
+    each_add P cs new h is,
+    λ i j x y there too e. distinct_new cs (length cs) new a above i j x y (after_add cs i new x there) (after_add cs j new y too) e,
+  )
+
+  asking : (f : Finding) (x : Connect) (s : State) → P (asked_by x) → IsAbove x.source s.connections → HoldsOfEach P s.connections →
+      AreDistinct s.connections → AllSo (asks_by Left f x s)
+  asking Kept x s new above h a = placed_so (asked_by x) s.connections (position is_free s.connections) new above h a
+  asking (Broke r) x s new above h a = (h, a)
+  asking Outside x s new above h a = (h, a)
+  asking TooMany x s new above h a = (h, a)
+  asking NotJudged x s new above h a = (h, a)
+
   asks : (v : Value) (s : State) → IfAsked P s.connections v → HoldsOfEach P s.connections → AreDistinct s.connections →
       AllSo (asks_of Left v s)
-  asks (request x) s (new, above) h a = grind (arith, each_set, distinct_new, after_set, each_add, after_add)
+  asks (request x) s (new, above) h a = asking (first_failed (request_tests s x)) x s new above h a
   asks (confirm destination x) s new h a = (h, a)
   asks _ s new h a = (h, a)
 

@@ -9,7 +9,8 @@ pub use Rattle.osi_rules.specs.Rows.{error_tests, first_failed}
 pub use Rattle.osi_rules.specs.Sides.{begins, is_live, is_named, is_silent, other}
 pub use Rattle.osi_rules.specs.Traffic.{Outcome, State, asks_by, asks_kept, asks_of, at_found, at_place, class_for, course_after}
 pub use Rattle.osi_rules.specs.Traffic.{course_after_none, found_on, has_erred, in_doubt, is_stopped, may_answer, none_told, noted, of_side}
-pub use Rattle.osi_rules.specs.Traffic.{one_told, reached, request_tests, route, route_in, routed, stops_by, takes, unnamed, unnamed_by, unnamed_told}
+pub use Rattle.osi_rules.specs.Traffic.{one_told, reached, request_tests, route, route_in, routed, stops_by, takes, unnamed, unnamed_by}
+pub use Rattle.osi_rules.specs.Traffic.{unnamed_told}
 pub use Rattle.osi_rules.specs.declared.connections.Connection.{Connection}
 pub use Rattle.osi_rules.specs.declared.courses.Course.{Course}
 pub use Rattle.osi_rules.specs.declared.directions.Direction.{Direction}

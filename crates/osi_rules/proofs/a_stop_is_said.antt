@@ -37,7 +37,8 @@ keeps d c (data2 destination number end user) applied course e = refl
 keeps d c (acknowledge credit destination number) applied course e = refl
 keeps d c (error destination cause) applied course e = refl
 
-keeps_none : (d : Direction) (v : Value) (course : Course) (e : Direction) → is_stopped e (course_after_none d v course) ≡ is_stopped e course
+keeps_none : (d : Direction) (v : Value) (course : Course) (e : Direction) →
+    is_stopped e (course_after_none d v course) ≡ is_stopped e course
 keeps_none d (request r) course e = refl
 keeps_none d (confirm destination r) course e = refl
 keeps_none d (disconnect destination source reason user) course Left = refl

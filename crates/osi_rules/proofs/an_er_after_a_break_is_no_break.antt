@@ -4,7 +4,8 @@ use Rattle.std.proofs.Common.{arith}
 use Rattle.osi_rules.proofs.Vocabulary.{◌≡◌, ◌≢◌, ℕ, Bool, true, false, [], ◌∷◌, Option, Some, None, refl, if◌then◌else◌, slice_get}
 use Rattle.osi_rules.proofs.Vocabulary.{position, not, ◌||◌, Value, error, Class, Zero, Two, Connection, Direction, Left, Right, Finding}
 use Rattle.osi_rules.proofs.Vocabulary.{Broke, NotJudged, Route, is_break, first_failed, error_tests, is_named, is_silent, other, State}
-use Rattle.osi_rules.proofs.Vocabulary.{Outcome, at_found, at_place, class_for, has_erred, in_doubt, is_stopped, may_answer, none_told, one_told}
+use Rattle.osi_rules.proofs.Vocabulary.{Outcome, at_found, at_place, class_for, has_erred, in_doubt, is_stopped, may_answer, none_told}
+use Rattle.osi_rules.proofs.Vocabulary.{one_told}
 use Rattle.osi_rules.proofs.Vocabulary.{route}
 use Rattle.osi_rules.proofs.Vocabulary.{route_in, routed, takes, unnamed_by, unnamed_told}
 use Rattle.osi_rules.specs.declared.findings.Rule.TheVariants as rule

@@ -73,6 +73,13 @@ abbrev pub selects_expedited : Option ℕ → Bool
 selects_expedited None = false
 selects_expedited (Some options) = options % 2 == 1
 
+-- bits 1 and 2 of the options beside the class: class 2 without flow control, and extended formats (X.224 section 13.3.3)
+abbrev pub is_without_flow_control : (options : ℕ) → Bool
+is_without_flow_control options = options % 2 == 1
+
+abbrev pub is_extended : (options : ℕ) → Bool
+is_extended options = nat_le 2 (options % 4)
+
 -- the class is preferred or listed, or may be selected by an answer to one that is
 abbrev pub offers_zero : Connect → Bool
 offers_zero c = proposes c 0 || proposes c 1
@@ -83,16 +90,27 @@ offers_two c = proposes c 2 || ((c.class == 3) || (c.class == 4))
 abbrev pub offers_others : Connect → Bool
 offers_others c = proposes c 1 || (proposes c 3 || proposes c 4)
 
+-- an option is selected only if it is offered
+abbrev pub selects_offered : (offered selected : Bool) → Bool
+selects_offered offered selected = offered || not selected
+
+abbrev pub are_offered : Offer → Connect → Bool
+are_offered offer c =
+    selects_offered offer.expedited (selects_expedited c.parameters.additional)
+    && (selects_offered offer.without_flow_control (is_without_flow_control c.options)
+    && selects_offered offer.extended (is_extended c.options))
+
 -- the answer is one that the CR allows, and class 0 only if it is the first
 abbrev pub is_offered : Offer → Option Class → Connect → Bool
 is_offered offer held c =
     if c.class == 0 then offer.class0 && is_none held
-    else (if c.class == 2 then offer.class2 && (offer.expedited || not (selects_expedited c.parameters.additional))
+    else (if c.class == 2 then offer.class2 && are_offered offer c
     else offer.others)
 
--- class 0, or class 2 with flow control and without expedited data
+-- class 0, or class 2 with flow control, and without extended formats and expedited data
 abbrev pub is_inside : Connect → Bool
-is_inside c = (c.class == 0) || ((c.class == 2) && (not (selects_expedited c.parameters.additional) && not (c.options % 2 == 1)))
+is_inside c = (c.class == 0) || ((c.class == 2) && (not (selects_expedited c.parameters.additional)
+    && (not (is_without_flow_control c.options) && not (is_extended c.options))))
 
 -- ---- the rows
 

@@ -24,7 +24,7 @@ use Rattle.osi_rules.specs.declared.halves.Phase.TheVariants.{Silent, Open, Refu
 use Rattle.osi_rules.specs.declared.routes.Route.{Route}
 use Rattle.osi_rules.specs.declared.routes.Route.TheVariants.{Asks, Named, Only, Unnamed}
 use Rattle.osi_rules.specs.Reaches.{reach_of, reach_by, is_applied, is_break}
-use Rattle.osi_rules.specs.Rows.{Test, first_failed, confirm_tests, data0_tests, data2_tests, acknowledge_tests, disconnect_tests, disconnected_tests, error_tests, offers_zero, offers_two, offers_others, asks_expedited, code_named}
+use Rattle.osi_rules.specs.Rows.{Test, first_failed, confirm_tests, data0_tests, data2_tests, acknowledge_tests, disconnect_tests, disconnected_tests, error_tests, offers_zero, offers_two, offers_others, asks_expedited, is_without_flow_control, is_extended, code_named}
 use Rattle.osi_rules.specs.Sides.{other, is_silent, is_open, is_closing, own, theirs, sends, begins, is_over, is_live, is_free, is_named, uses}
 
 -- 64 that are open at an end of this product, and 64 that one side has closed
@@ -358,6 +358,8 @@ offer_of c = record {
   class2 = offers_two c;
   others = offers_others c;
   expedited = asks_expedited c.parameters.additional;
+  without_flow_control = is_without_flow_control c.options;
+  extended = is_extended c.options;
   size_code = code_named c.parameters.size;
 }
 

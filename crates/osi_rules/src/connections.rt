@@ -15,6 +15,10 @@ pub struct Offer {
     pub(crate) others: bool,
     /// Expedited data.
     pub(crate) expedited: bool,
+    /// Class 2 without flow control.
+    pub(crate) without_flow_control: bool,
+    /// Extended formats.
+    pub(crate) extended: bool,
     /// The code of its size: 7, for 128 octets, if it names none.
     pub(crate) size_code: u8,
 }

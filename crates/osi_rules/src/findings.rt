@@ -64,8 +64,8 @@ pub enum Finding {
     Kept,
     /// It breaks this rule.
     Broke(Rule),
-    /// X.224 allows it, and this product leaves it out: a class other than 0 and 2, expedited data, or class 2 without
-    /// flow control.
+    /// X.224 allows it, and this product leaves it out: a class other than 0 and 2, expedited data, extended formats, or class 2
+    /// without flow control, which the CR offers.
     Outside,
     /// It is one connection more than are looked at together. Or a connection is not judged any more, and it can't be told
     /// whether this is right: a CR or CC gives a reference that may be free, or a unit is for a reference of no connection.

@@ -9,7 +9,7 @@ ghost use Rattle.osi_rules.specs.Traffic.{offer_of, asked_by, silent_half};
 
 use crate::connections::{Connection, Offer};
 use crate::halves::{Half, Phase};
-use crate::rows::code_named;
+use crate::rows::{code_named, is_extended, is_without_flow_control};
 use osi_tpdu::ConnectRequest;
 
 /// Whether one of these octets has the class in its high half.
@@ -52,6 +52,8 @@ fn offer_of(request: &ConnectRequest<'_>) -> Offer
         class2: proposes(request, 2) || class == 3 || class == 4,
         others: proposes(request, 1) || proposes(request, 3) || proposes(request, 4),
         expedited: asks_expedited(request.fields.parameters.additional_options),
+        without_flow_control: is_without_flow_control(request.fields.options),
+        extended: is_extended(request.fields.options),
         size_code: code_named(request.fields.parameters.size),
     }
 }

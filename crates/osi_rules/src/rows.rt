@@ -5,7 +5,8 @@ ghost use Rattle.osi_tpdu.specs.Limits.{size_code};
 ghost use Rattle.osi_class.specs.Flow.{steps_before};
 ghost use Rattle.osi_tpdu.specs.View.{confirm_content};
 ghost use Rattle.osi_rules.specs.Rows.{first_failed, steps_from, has_credit, is_tellable, has_passed, keeps_credit, fits_size, fits_tsdu};
-ghost use Rattle.osi_rules.specs.Rows.{code_named, selects_expedited, is_offered, is_inside, given_again, confirm_tests, data2_tests};
+ghost use Rattle.osi_rules.specs.Rows.{is_without_flow_control, is_extended};
+ghost use Rattle.osi_rules.specs.Rows.{code_named, selects_expedited, are_offered, is_offered, is_inside, given_again, confirm_tests, data2_tests};
 ghost use Rattle.osi_rules.specs.Rows.{data0_tests, acknowledge_tests, disconnect_tests, is_due, disconnected_tests, error_tests};
 
 use crate::connections::{Connection, Offer};
@@ -57,16 +58,38 @@ fn selects_expedited(options: Option<u8>) -> bool
     }
 }
 
+/// Whether bit 1 of the options beside the class is set: class 2 without flow control (X.224 section 13.3.3).
+pub(crate) fn is_without_flow_control(options: u8) -> bool
+    ensures { result ≡ is_without_flow_control options }
+{
+    options % 2 == 1
+}
+
+/// Whether bit 2 of the options beside the class is set: extended formats (X.224 section 13.3.3).
+pub(crate) fn is_extended(options: u8) -> bool
+    ensures { result ≡ is_extended options }
+{
+    options % 4 >= 2
+}
+
+/// Whether a CC of class 2 selects only options that its CR offers.
+fn are_offered(offer: &Offer, confirm: &ConnectConfirm<'_>) -> bool
+    ensures { result ≡ are_offered offer.now (confirm_content confirm.now) }
+{
+    let expedited = selects_expedited(confirm.fields.parameters.additional_options);
+    let options = confirm.fields.options;
+    (offer.expedited || !expedited)
+        && (offer.without_flow_control || !is_without_flow_control(options))
+        && (offer.extended || !is_extended(options))
+}
+
 /// Whether a CC is an answer that its CR allows.
 fn is_offered(offer: &Offer, held: Option<Class>, confirm: &ConnectConfirm<'_>) -> bool
     ensures { result ≡ is_offered offer.now held (confirm_content confirm.now) }
 {
     match confirm.fields.class {
         0 => offer.class0 && held.is_none(),
-        2 => {
-            let expedited = selects_expedited(confirm.fields.parameters.additional_options);
-            offer.class2 && (offer.expedited || !expedited)
-        }
+        2 => offer.class2 && are_offered(offer, confirm),
         _ => offer.others,
     }
 }
@@ -76,8 +99,9 @@ fn is_inside(confirm: &ConnectConfirm<'_>) -> bool
     ensures { result ≡ is_inside (confirm_content confirm.now) }
 {
     let expedited = selects_expedited(confirm.fields.parameters.additional_options);
-    let class = confirm.fields.class;
-    class == 0 || class == 2 && !expedited && !(confirm.fields.options % 2 == 1)
+    let options = confirm.fields.options;
+    let plain = !expedited && !is_without_flow_control(options) && !is_extended(options);
+    confirm.fields.class == 0 || confirm.fields.class == 2 && plain
 }
 
 /// A CC with a reference that is in use. `loose`: a connection is not judged any more, whose reference may be free.

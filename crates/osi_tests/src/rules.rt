@@ -258,10 +258,33 @@ const NOT_OFFERED: [Step; 2] = [
     Step::Sends(RIGHT, CONFIRM_0, Finding::Broke(Rule::BadAnswer)),
 ];
 
-/// Class 2 without flow control.
+/// Class 2 without flow control, and with extended formats: offered or not.
 const OUTSIDE: [Step; 2] = [
-    Step::Sends(LEFT, REQUEST, KEPT),
+    Step::Sends(LEFT, &[6, 0xe0, 0, 0, 0, 1, 0x21], KEPT),
     Step::Sends(RIGHT, &[6, 0xd0, 0, 1, 0, 7, 0x21], Finding::Outside),
+];
+
+const OUTSIDE_TOO: [Step; 2] = [
+    Step::Sends(LEFT, &[6, 0xe3, 0, 0, 0, 1, 0x22], KEPT),
+    Step::Sends(RIGHT, &[6, 0xd2, 0, 1, 0, 7, 0x22], Finding::Outside),
+];
+
+const UNASKED: [Step; 2] = [
+    Step::Sends(LEFT, REQUEST, KEPT),
+    Step::Sends(
+        RIGHT,
+        &[6, 0xd0, 0, 1, 0, 7, 0x21],
+        Finding::Broke(Rule::BadAnswer),
+    ),
+];
+
+const UNASKED_TOO: [Step; 2] = [
+    Step::Sends(LEFT, &[6, 0xe3, 0, 0, 0, 1, 0x21], KEPT),
+    Step::Sends(
+        RIGHT,
+        &[6, 0xd2, 0, 1, 0, 7, 0x22],
+        Finding::Broke(Rule::BadAnswer),
+    ),
 ];
 
 /// 256 octets for a CR that names 128. The DT is not longer than that.
@@ -337,7 +360,7 @@ const REPORTED_0: [Step; 4] = [
 
 const CALLED_ASKS: [Step; 1] = [Step::Sends(RIGHT, REQUEST, Finding::Broke(Rule::UnexpectedUnit))];
 
-const ROWS: [&[Step]; 25] = [
+const ROWS: [&[Step]; 28] = [
     &CREDIT,
     &NUMBERS,
     &EARLY,
@@ -356,6 +379,9 @@ const ROWS: [&[Step]; 25] = [
     &TWICE,
     &NOT_OFFERED,
     &OUTSIDE,
+    &OUTSIDE_TOO,
+    &UNASKED,
+    &UNASKED_TOO,
     &LARGER,
     &CLASS_0,
     &REPORTED,

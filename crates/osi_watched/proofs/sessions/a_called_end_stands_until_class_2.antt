@@ -8,9 +8,10 @@ use Rattle.osi_watched.proofs.Vocabulary.{CallerLaw, State, class_for, Holding, 
 use Rattle.osi_watched.proofs.Vocabulary.{then_did, units_in, units_read, Marked, all_units, IsFresh, Turn, AllProper, amid, stage_at}
 use Rattle.osi_watched.proofs.Vocabulary.{stage_is, stage_there, all_units_more, CanBeWritten, Joined, spoken, packet_begins, unit_passes}
 use Rattle.osi_watched.proofs.Vocabulary.{units_pass, heard, Joint, Steps, TakesTurn, begin, begins_other, begins_own, passes_other}
-use Rattle.osi_watched.proofs.Vocabulary.{passes_own, turns, going_on, IsOngoing}
+use Rattle.osi_watched.proofs.Vocabulary.{passes_own, turns, going_on, IsOngoing, takes, class_of, Class, ◌==◌}
 use Rattle.osi_rules.specs.declared.directions.Direction.TheVariants as way
 use Rattle.osi_tap.specs.Courses.{Course as Passed}
+use Rattle.osi_watched.proofs.what_a_taker_passes_over.{mild_of}
 use Rattle.osi_watched.proofs.what_passes_keeps_a_claim.{step_kept}
 use Rattle.osi_watched.proofs.what_the_turns_among_steps_do.{TurnDoes}
 use Rattle.osi_watched.proofs.sessions.a_called_end_answers_with_class_2_or_selects_class_0.{answers_or_selects}
@@ -27,6 +28,7 @@ use Rattle.osi_watched.proofs.sessions.a_called_end_stands_until_its_cc_of_class
 use Rattle.osi_watched.proofs.sessions.a_called_end_stands_until_its_cc_of_class_0_passes.{begins_own_answering, passes_other_answering}
 use Rattle.osi_watched.proofs.sessions.a_called_end_stands_until_its_cc_of_class_0_passes.{passes_own_answering, units_select_none}
 use Rattle.osi_watched.proofs.sessions.a_calling_end_stands_as_units_pass.{known_at}
+use Rattle.osi_watched.proofs.sessions.a_cc_of_class_0_opens_one_connection.{has_effect}
 use Rattle.osi_watched.proofs.sessions.a_turn_after_which_a_cc_of_class_0_waits.{no_cc_taken, turns_answering}
 use Rattle.osi_watched.proofs.sessions.a_turn_does_what_its_deeds_say.{turn_leaves, units_join}
 use Rattle.osi_watched.proofs.sessions.a_turn_of_a_called_end_in_class_0.{none_zero, turns_zero}
@@ -56,6 +58,9 @@ has_later n r v vs h h2 = grind arith
 -- a CC, or another unit
 cc_or : {A : Type 0} (v : Value) → ((m : ℕ) (x : Connect) → v ≡ confirm m x → A) → (IsNoCc v → A) → A
 cc_or h f g = grind arith
+
+two_class : (x : Connect) → x.class ≡ 2 → class_of x ≡ Two
+two_class x is = ap (λ (k : ℕ). if◌then◌else◌ {A = Class} (k == 2) Two Zero) is
 
 -- ---- units of the other side
 
@@ -120,12 +125,32 @@ module _ (local : Local) (proper : AllProper) where
 
   -- ---- a unit of the end passes
 
+  -- its CC would select class 2
+  no_cc_passes : (at m : ℕ) (x : Connect) (old : Joint) → x.class ≡ 2 → IsRight Right (confirm m x) old.course → Sure old.course →
+      old.course.traffic.course.class ≡ None → (unit_passes Right at (confirm m x) old.course).traffic.course.class ≡ Some Two
+  no_cc_passes at m x old two right sure none =
+      ap (λ (s : State). s.course.class) (unit_knows Right at (confirm m x) old.course)
+      ∙ (has_effect m x old.course.traffic right.goes none right.firm sure.judged
+      (mild_of (confirm m x) (takes way.Right (confirm m x) old.course.traffic).told.finding right.none)).class
+      ∙ ap (λ (k : Class). Some k) (two_class x two)
+
+  not_cc : (at : ℕ) (v : Value) (old : Joint) (rest : List Value) → old.put ≡ v ∷ rest → AllByRecursion AnswersTwo old.put →
+      IsRight Right v old.course → Sure old.course → old.course.traffic.course.class ≡ None →
+      ((unit_passes Right at v old.course).traffic.course.class ≡ Some Two → ⊥) → IsNoCc v
+  not_cc at v old rest put two right sure none not =
+      cc_or v
+      (λ m x is. absurd (not (subst (λ (u : Value). (unit_passes Right at u old.course).traffic.course.class ≡ Some Two) (sym is)
+      (no_cc_passes at m x old (subst AnswersTwo is (subst (AllByRecursion AnswersTwo) put two).0)
+      (subst (λ (u : Value). IsRight Right u old.course) is right) sure none))))
+      (λ plain. plain)
+
   none_passes : (deeds : ℕ → Deeds) (at : ℕ) (v : Value) (old new : Joint) → Steps Right (passes_own at v) old new →
       IsRight Right v old.course → IsFirm old.course.traffic.course → Sure old.course →
       (new.course.traffic.course.class ≡ Some Two → ⊥) → StandsInNone deeds old → StandsInNone deeds new
   none_passes deeds at v old new (read, octets, put, begun, is) right firm sure not h =
       let mid : Joint = record old { put = new.put; begun = false; course = units_pass Right at (v ∷ []) old.course } in
-      let plain : IsNoCc v = grind (arith, cc_or) in
+      let plain : IsNoCc v = not_cc at v old new.put put h.stands.called.two right sure h.class
+      (λ two. not (ap (λ (j : Joint). j.course.traffic.course.class) is ∙ two)) in
       let fine : IsProper Right v old.course = record {
         goes = right.goes;
         two = λ zero_is. none_some old.course.traffic.course.class Zero h.class zero_is;
