@@ -153,7 +153,7 @@ pub use Rattle.osi_judge.specs.Following.{first_after, first_in, half_of, judged
 pub use Rattle.osi_judge.specs.Foremost.{FollowsNone, IsForemost, PrecedesAll, before_of, foremost, is_before}
 pub use Rattle.osi_judge.specs.Judging.{AreAll, AreKept, BrokeBy, BrokeFor, CrowdedFor, FoundNext, HasRoom, IsAstray, IsCrowd, IsFew}
 pub use Rattle.osi_judge.specs.Judging.{IsFound, IsKept, Keeps, LeftBy, LeftFor, StandsBefore, Watched, Watches, WatchesBy, is_empty, up_to}
-pub use Rattle.osi_judge.specs.Keeping.{is_same, kept_in, once, once_behind}
+pub use Rattle.osi_judge.specs.Keeping.{is_same, kept_in, once, once_behind, room_in}
 pub use Rattle.osi_judge.specs.Kept.{Halt, StepsAs, Way, added, after_read, after_tsdu, after_word, after_words, an_abort, anew, answer_by}
 pub use Rattle.osi_judge.specs.Kept.{answering, askers, askers_from, asks, both_of, first_sender, follows, if_answer, is_among, is_between}
 pub use Rattle.osi_judge.specs.Kept.{is_covered, is_still, joined, kept, latest, listed, member, places_of, quiet_after, quietly, remain}
@@ -168,7 +168,7 @@ pub use Rattle.osi_judge.specs.Onward.{standing_of, stays}
 pub use Rattle.osi_judge.specs.Outlines.{AreAlike, bare, no_data, outline, outline_as, outline_behind, outline_by, outlines}
 pub use Rattle.osi_judge.specs.Profiles.{accepted_in, in_first, is_outside, leaves, offered_in, selects_outside}
 pub use Rattle.osi_judge.specs.Running.{IsHonest, IsHonestIn, IsSentFrom, Pass, Runs}
-pub use Rattle.osi_judge.specs.Runs.{AreApart, AreFrom, HasPlace, IsOther, begin_at, begin_in, last_from, last_in, spread}
+pub use Rattle.osi_judge.specs.Runs.{AreApart, AreFrom, HasPlace, IsOther, begin_at, begin_in, last_from, last_in, room_of, spread}
 pub use Rattle.osi_judge.specs.Sides.{EndsAt, ended_at, watched}
 pub use Rattle.osi_judge.specs.Stops.{breaks, broke_session, is_judged, place_of}
 pub use Rattle.osi_judge.specs.Tapping.{FirstBreak, IsCountIn, IsFirstIn, IsFoundIn, IsPlace, IsPlaceIn, IsReadIn, IsReferenceIn}

@@ -19,3 +19,8 @@ once (tsdu ∷ tsdus) = tsdu ∷ once_behind tsdu tsdus
 abbrev pub kept_in : List (List ℕ) → ℕ
 kept_in [] = 0
 kept_in (tsdu ∷ tsdus) = length tsdu + 7 + kept_in tsdus
+
+-- the room that kept TSDUs take: the octets of each, and 48 more
+abbrev pub room_in : List (List ℕ) → ℕ
+room_in [] = 0
+room_in (tsdu ∷ tsdus) = length tsdu + 48 + room_in tsdus

@@ -1,5 +1,5 @@
 -- TSDUs in order, of which equal ones in a row are kept once.
-use Rattle.std.specs.Prelude.{◌≡◌, false, ◌<◌, ◌≤◌, ℕ, zero, suc, ◌-◌, List, [], ◌∷◌, ◌++◌, length, replicate}
+use Rattle.std.specs.Prelude.{◌≡◌, false, ◌<◌, ◌≤◌, ℕ, zero, suc, ◌+◌, ◌-◌, List, [], ◌∷◌, ◌++◌, length, replicate}
 use Rattle.osi_judge.specs.declared.heard.Run.{Run}
 use Rattle.osi_judge.specs.Keeping.{is_same}
 
@@ -27,6 +27,11 @@ IsOther tsdu (r ∷ runs) = is_same tsdu r.tsdu ≡ false
 abbrev pub AreApart : List Run → Type 0
 AreApart [] = Unit {0}
 AreApart (r ∷ runs) = IsOther r.tsdu runs × AreApart runs
+
+-- the room that their TSDUs take
+abbrev pub room_of : List Run → ℕ
+room_of [] = 0
+room_of (r ∷ runs) = length r.tsdu + 48 + room_of runs
 
 -- where the i-th run begins, counted from 0
 abbrev pub begin_at : List Run → ℕ → ℕ → ℕ

@@ -1,12 +1,16 @@
 //! The TSDUs of the other side of a connection, in order, without their user data.
 
-ghost use Rattle.std.specs.Prelude.{◌≡◌, ◌<◌, ◌≤◌, ◌+◌, ◌++◌, ◌∷◌, ◌-◌, ◌≢◌, [], true, MatchBool, OnOk, OnErr, get_or, length, take};
-ghost use Rattle.osi_judge.specs.Keeping.{is_same, once};
+ghost use Rattle.std.specs.Prelude.{◌≡◌, ◌<◌, ◌≤◌, ◌+◌, ◌++◌, ◌∷◌, ◌-◌, ◌≢◌, [], true, MatchBool, IfSome, OnOk, OnErr};
+ghost use Rattle.std.specs.Prelude.{get_or, length, take};
+ghost use Rattle.osi_judge.specs.Keeping.{is_same, once, room_in};
 ghost use Rattle.osi_judge.specs.Runs.{AreFrom, HasPlace, last_from, last_in};
 
 use osi_message::Octets;
 use std::alloc::{AllocError, Global};
 use std::marker::Model;
+
+/// The room that each TSDU takes beside its octets.
+const OF_EACH: usize = 48;
 
 /// Equal TSDUs in a row.
 #[derive(Drop)]
@@ -21,18 +25,20 @@ struct Run {
 pub(crate) struct Heard {
     runs: Vec<Run>,
     count: usize,
+    /// The room that those take that are kept.
+    room: usize,
 }
 
 impl Model for Heard {
-    ghost use Rattle.std.specs.Prelude.{ℕ, List};
+    ghost use Rattle.std.specs.Prelude.{◌≡◌, ℕ, List};
 
     ghost Value = { List (List ℕ) };
 
-    ghost use Rattle.osi_judge.specs.Runs.{spread, AreApart, AreFrom};
+    ghost use Rattle.osi_judge.specs.Runs.{room_of, spread, AreApart, AreFrom};
 
     ghost view = { λ h. spread h.runs.items h.count };
 
-    ghost invariant = { λ h. AreFrom 0 h.runs.items h.count × AreApart h.runs.items };
+    ghost invariant = { λ h. AreFrom 0 h.runs.items h.count × AreApart h.runs.items × (h.room ≡ room_of h.runs.items) };
 }
 
 /// The run that has a place, found by bisection.
@@ -73,6 +79,21 @@ fn last_begins_at(runs: &[Run], place: usize) -> bool
     runs[runs.len() - 1].from == place
 }
 
+/// The room that the TSDU of the last run takes.
+fn last_room(runs: &[Run]) -> usize
+    requires { 0 < length runs.now }
+    ensures { result ≡ length (last_in runs.now) + 48 }
+{
+    runs[runs.len() - 1].tsdu.as_slice().len() + OF_EACH
+}
+
+/// The room with one TSDU more, if it can be counted.
+fn room_with(room: usize, tsdu: &[u8]) -> Option<usize>
+    ensures { IfSome result (λ n. n ≡ room + (length tsdu.now + 48)) }
+{
+    room.checked_add(tsdu.len() + OF_EACH)
+}
+
 impl Heard {
     /// No TSDU.
     pub(crate) fn new(alloc: Global) -> Heard
@@ -81,6 +102,7 @@ impl Heard {
         Heard {
             runs: Vec::new(alloc),
             count: 0,
+            room: 0,
         }
     }
 
@@ -96,6 +118,13 @@ impl Heard {
         ensures { result ≡ length (once self.now) }
     {
         self.runs.len()
+    }
+
+    /// The room that these take: their octets, and 48 more for each.
+    pub(crate) fn room(&self) -> usize
+        ensures { result ≡ room_in (once self.now) }
+    {
+        self.room
     }
 
     /// The TSDU at this place, counted from 0.
@@ -121,8 +150,12 @@ impl Heard {
             self.count = from + 1;
             return Ok(());
         }
+        let Some(room) = room_with(self.room, tsdu.as_slice()) else {
+            return Err(AllocError);
+        };
         self.runs.push(Run { tsdu, from })?;
         self.count = from + 1;
+        self.room = room;
         Ok(())
     }
 
@@ -136,7 +169,9 @@ impl Heard {
             self.count = count;
             return;
         }
+        let room = self.room - last_room(&self.runs);
         self.runs.pop();
         self.count = count;
+        self.room = room;
     }
 }

@@ -6,7 +6,7 @@ ghost use Rattle.osi_session.specs.Standing.{seen_called, seen_calling};
 ghost use Rattle.osi_judge.specs.Explaining.{Told};
 ghost use Rattle.osi_judge.specs.Breaking.{selection_of};
 ghost use Rattle.osi_judge.specs.Judging.{Watches, Keeps, BrokeBy, LeftBy, IsFound, HasRoom, FoundNext};
-ghost use Rattle.osi_judge.specs.Keeping.{once};
+ghost use Rattle.osi_judge.specs.Keeping.{once, room_in};
 ghost use Rattle.osi_judge.specs.Onward.{StandsFor};
 ghost use Rattle.osi_judge.specs.Outlines.{outline, outlines};
 ghost use Rattle.osi_judge.specs.Profiles.{selects_outside};
@@ -265,6 +265,13 @@ impl Side {
         ensures { result ≡ length (once (watched self.now).heard) }
     {
         self.heard.kept()
+    }
+
+    /// The room that these outlines take: their octets, and 48 more for each.
+    pub fn room(&self) -> usize
+        ensures { result ≡ room_in (once (watched self.now).heard) }
+    {
+        self.heard.room()
     }
 
     /// How many of them had passed before the last TSDU that it sent.

@@ -18,6 +18,6 @@ pub mod a_capture_has_one_first_break
 pub mod moments_pass_one_after_the_other
 pub mod no_more_is_kept_than_passed
 pub mod a_claim_on_connections_holds_of_captures
-pub mod what_is_judged_of_a_connection_is_bounded
+pub mod what_is_kept_of_a_connection_is_bounded
 pub mod the_first_break_of_transport_is_told_of_its_side
 pub mod who_broke_first_stays_to_blame

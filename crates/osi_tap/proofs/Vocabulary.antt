@@ -35,7 +35,7 @@ pub use Rattle.osi_judge.specs.Captures.{Capture, of, other, piece}
 pub use Rattle.osi_judge.specs.Explaining.{done}
 pub use Rattle.osi_judge.specs.Feeding.{Tells, last_place}
 pub use Rattle.osi_judge.specs.Judging.{FoundNext, HasRoom, IsFew, IsFound, Watched, Watches}
-pub use Rattle.osi_judge.specs.Keeping.{is_same, kept_in, once, once_behind}
+pub use Rattle.osi_judge.specs.Keeping.{is_same, kept_in, once, once_behind, room_in}
 pub use Rattle.osi_judge.specs.Outlines.{outline, outlines}
 pub use Rattle.osi_judge.specs.Sides.{watched}
 pub use Rattle.osi_judge.specs.Stops.{broke_session}
@@ -48,18 +48,18 @@ pub use Rattle.osi_tap.specs.Blaming.{AreBlameless, AreBlamelessBut, AreSpotless
 pub use Rattle.osi_tap.specs.Blaming.{IsEarliest, IsFirstOf, IsFoundOf, IsMarkOf, IsQuiet, IsSessionOf, IsSpotless, IsStill, IsToBlame}
 pub use Rattle.osi_tap.specs.Blaming.{IsToBlameAt, IsToldOf, NobodyElse, NobodyElseIs, NobodyIs, SomeIs, SomeoneIs}
 pub use Rattle.osi_tap.specs.Blaming.IsBreakOf.{of_session, of_transport}
-pub use Rattle.osi_tap.specs.Bounds.{IsWithin, kept_of}
-pub use Rattle.osi_tap.specs.Connections.{Joined, Sessions, adds_all, adds_if, all_begin, asked, asked_at, changed, has_number, meant}
-pub use Rattle.osi_tap.specs.Connections.{numbered, packet_begins, placed, source_of, spoken, taken, taken_at}
+pub use Rattle.osi_tap.specs.Bounds.{IsWithin}
+pub use Rattle.osi_tap.specs.Connections.{Joined, Sessions, adds, adds_all, adds_if, all_begin, asked, asked_at, changed, has_number, meant}
+pub use Rattle.osi_tap.specs.Connections.{kept_on, numbered, packet_begins, placed, source_of, spoken, taken, taken_at}
 pub use Rattle.osi_tap.specs.Courses.{Course, Moment, applied, breaks, cause_of, changes, earlier, first_after, first_by, first_of, halts}
 pub use Rattle.osi_tap.specs.Courses.{is_break, marked, marks_of, moment_of, moved, noted_by, number_at, number_of, packet_by, reached}
 pub use Rattle.osi_tap.specs.Courses.{unit_passes, units_pass, unread, unread_mark, unread_moment, way_of}
 pub use Rattle.osi_tap.specs.Holding.{AreHeard, FoundHeard, HoldAll, Holds, HoldsBoth, HoldsCourse, HoldsFound, HoldsJoined, HoldsPassed}
 pub use Rattle.osi_tap.specs.Holding.{IsDue, IsFirst, IsHeard, IsPlace, Lined, begun_in, is_unheard, line_in, lined, streamed, unheard}
 pub use Rattle.osi_tap.specs.Holding.{unheard_at, unit_due}
-pub use Rattle.osi_tap.specs.Lines.{Said, Spoken, added, before, begun_before, begun_octets, heard, place_in, told, told_of}
+pub use Rattle.osi_tap.specs.Lines.{Said, Spoken, added, before, begun_before, begun_octets, heard, kept_of, place_in, told, told_of}
 pub use Rattle.osi_tap.specs.Owing.{Comes, HoldsAll, OwesLast, OwesUnits}
-pub use Rattle.osi_tap.specs.Rooms.{fits, spent}
+pub use Rattle.osi_tap.specs.Rooms.{fits, is_over}
 pub use Rattle.osi_tap.specs.Standing.{HoldsBy, HoldsNow, HoldsOpen, HoldsPart, HoldsState, HoldsStream, IsFed, IsJudged, IsPart, due_if}
 pub use Rattle.osi_tap.specs.Standing.{first_in, pick}
 pub use Rattle.osi_tap.specs.Standing.IsFed.{fed, unfed}

@@ -19,7 +19,7 @@ pub begun_holds : (s : Seen) (own other : Lined) (a b : Spoken) → is_unheard o
     → own.begun ≡ begun_octets a.begun
 begun_holds s own other a b e h = grind arith
 
-heard_by_other : (s t : Seen) (own other : Lined) (a b : Spoken) → is_unheard own.stage ≡ false → HoldsBoth s t own other a b
+pub heard_by_other : (s t : Seen) (own other : Lined) (a b : Spoken) → is_unheard own.stage ≡ false → HoldsBoth s t own other a b
     → other.side.heard ≡ outlines (heard a)
 heard_by_other s t own other a b e h = grind (arith, append-nil)
 
@@ -54,7 +54,7 @@ pub told_more : (a : Spoken) (at : ℕ) (octets : List ℕ)
     → told (added at true octets a) ≡ told a ++ record { octets = begun_octets a.begun ++ octets; before = before a } ∷ []
 told_more a at octets = map-append told_of a.said (record { octets = begun_octets a.begun ++ octets; before = before a; at = at } ∷ [])
 
-heard_more : (a : Spoken) (at : ℕ) (octets : List ℕ)
+pub heard_more : (a : Spoken) (at : ℕ) (octets : List ℕ)
     → outlines (heard (added at true octets a)) ≡ outlines (heard a) ++ outline (begun_octets a.begun ++ octets) ∷ []
 heard_more a at octets = grind (arith, map-append)
 

@@ -3,7 +3,7 @@ use Rattle.osi_tap.proofs.Vocabulary.{◌≡◌, ◌∙◌, refl, sym, ap, ℕ, 
 use Rattle.osi_tap.proofs.Vocabulary.{map, get_or, set, Option, Some, None, arith, append-nil, slice_get, Value, other, Direction, Left}
 use Rattle.osi_tap.proofs.Vocabulary.{Right, Meaning, Connection, IsToBlame, NobodyIs, NobodyElseIs, SomeIs, SomeoneIs, Joined, Sessions}
 use Rattle.osi_tap.proofs.Vocabulary.{asked_at, placed, changed, packet_begins, all_begin, adds_if, meant, spoken, taken_at, source_of}
-use Rattle.osi_tap.proofs.Vocabulary.{line_in, HoldsJoined, HoldAll, told, heard, Room}
+use Rattle.osi_tap.proofs.Vocabulary.{line_in, HoldsJoined, HoldAll, told, heard}
 use Rattle.osi_judge.specs.Explaining.{Told}
 use Rattle.osi_rules.specs.declared.findings.Meaning.TheVariants as meaning
 use Rattle.osi_tap.proofs.each_connection_is_kept.{all_length, none_there}
@@ -29,9 +29,9 @@ no_more : (d : Direction) (j i : Joined) → told (spoken d i) ≡ told (spoken 
     → i.number ≡ j.number → Adds d j i
 no_more d j i says hears number = grind (arith, append-nil)
 
-added_if : (b : Bool) (room : Room) (d : Direction) (at : ℕ) (end : Bool) (octets : List ℕ) (j : Joined)
-    → Adds d j (adds_if b room d at end octets j)
-added_if b room d at end octets j = grind (arith, told_more, no_more)
+added_if : (b : Bool) (d : Direction) (at : ℕ) (end : Bool) (octets : List ℕ) (j : Joined)
+    → Adds d j (adds_if b d at end octets j)
+added_if b d at end octets j = grind (arith, told_more, no_more)
 
 adds_by : (d : Direction) (at : ℕ) (v : Value) (m : Meaning) (j : Joined) → Adds d j (meant d at v m j)
 adds_by d at v m j = grind (arith, no_more, added_if)

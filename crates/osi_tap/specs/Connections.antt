@@ -11,12 +11,12 @@ use Rattle.osi_judge.specs.declared.directions.Direction.TheVariants.{Left, Righ
 use Rattle.osi_rules.specs.declared.findings.Meaning.{Meaning}
 use Rattle.osi_rules.specs.declared.findings.Meaning.TheVariants as meaning
 use Rattle.osi_tap.specs.declared.rooms.Room.{Room}
-use Rattle.osi_tap.specs.declared.rooms.Room.TheVariants.{All}
-use Rattle.osi_tap.specs.Lines.{Spoken, silent, begins, added}
-use Rattle.osi_tap.specs.Rooms.{fits, spent}
+use Rattle.osi_tap.specs.declared.rooms.Room.TheVariants.{All, Over}
+use Rattle.osi_tap.specs.Lines.{Spoken, silent, begins, added, kept_of}
+use Rattle.osi_tap.specs.Rooms.{fits}
 
 -- a connection: its number in the order of the CRs, the references of both sides, the class that its CC selects, whether it is
--- refused or closed, how much more of it is judged, and both sides
+-- refused or closed, how much may be kept of it, and both sides
 pub record Joined : Type 0 where
   pub number : ℕ
   pub calling : ℕ
@@ -31,12 +31,16 @@ abbrev pub spoken : Direction → Joined → Spoken
 spoken Left j = j.left
 spoken Right j = j.right
 
+-- the room that both sides take as they are kept
+abbrev pub kept_on : Joined → ℕ
+kept_on j = kept_of j.left + kept_of j.right
+
 -- the reference that a side gave it
 abbrev pub reference_of : Direction → Joined → Option ℕ
 reference_of Left j = Some j.calling
 reference_of Right j = j.called
 
--- those that have a place, by their places, and those whose place was given to another; and how much is judged of each
+-- those that have a place, by their places, and those whose place was given to another; and how much may be kept of each
 pub record Sessions : Type 0 where
   pub live : List Joined
   pub done : List Joined
@@ -90,13 +94,13 @@ abbrev pub adds_all : Direction → (at : ℕ) (end : Bool) → List ℕ → Joi
 adds_all Left at end octets j = record j { left = added at end octets j.left }
 adds_all Right at end octets j = record j { right = added at end octets j.right }
 
--- a DT, if there is room for it
-abbrev pub adds_if : (fits : Bool) → Room → Direction → (at : ℕ) (end : Bool) → List ℕ → Joined → Joined
-adds_if true room d at end octets j = record (adds_all d at end octets j) { room = room }
-adds_if false room d at end octets j = record j { room = room }
+-- a DT, if there is room for it; if not, nothing of the connection is judged any more
+abbrev pub adds_if : (fits : Bool) → Direction → (at : ℕ) (end : Bool) → List ℕ → Joined → Joined
+adds_if true d at end octets j = adds_all d at end octets j
+adds_if false d at end octets j = record j { room = Over }
 
 abbrev pub adds : Direction → (at : ℕ) (end : Bool) → List ℕ → Joined → Joined
-adds d at end octets j = adds_if (fits j.room (length octets)) (spent j.room (length octets)) d at end octets j
+adds d at end octets j = adds_if (fits j.room (kept_on j) (length octets)) d at end octets j
 
 -- ---- what a unit says
 

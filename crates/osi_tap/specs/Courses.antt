@@ -49,7 +49,7 @@ unmarked = record { broke = None; halted = None }
 abbrev pub fresh : Course
 fresh = record { traffic = traffic.fresh; sessions = none; left = unmarked; right = unmarked; first = None; past = [] }
 
--- of each connection so much is judged
+-- of each connection so much may be kept
 abbrev pub fresh_within : Room → Course
 fresh_within room = record fresh { sessions = record none { room = room } }
 

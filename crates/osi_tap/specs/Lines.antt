@@ -1,7 +1,9 @@
 -- One side of a connection, by what passed of it.
-use Rattle.std.specs.Prelude.{ℕ, zero, suc, Bool, true, false, List, [], ◌∷◌, ◌++◌, length, map, Option, Some, None}
+use Rattle.std.specs.Prelude.{ℕ, ◌+◌, zero, suc, Bool, true, false, List, [], ◌∷◌, ◌++◌, length, map, Option, Some, None}
 use Rattle.osi_tpkt.specs.Stream.{offset_of}
 use Rattle.osi_judge.specs.Explaining.{Told}
+use Rattle.osi_judge.specs.Keeping.{once, room_in}
+use Rattle.osi_judge.specs.Outlines.{outlines}
 
 -- a TSDU of a side: its octets, how many TSDUs of the other side had passed before its first packet began, and the offset of
 -- the packet in which it ended
@@ -48,6 +50,14 @@ heard s = map octets_of s.said
 abbrev pub begun_octets : Option Begun → List ℕ
 begun_octets None = []
 begun_octets (Some b) = b.octets
+
+-- the room that these TSDUs and the unfinished one take as they are kept: the outlines of the TSDUs, of equal ones in a row only one,
+-- and the octets of the unfinished one
+unfoldable pub kept_by : List (List ℕ) → Option Begun → ℕ
+kept_by tsdus begun = room_in (once (outlines tsdus)) + length (begun_octets begun)
+
+abbrev pub kept_of : Spoken → ℕ
+kept_of s = kept_by (heard s) s.begun
 
 -- how many of the other side's TSDUs had passed before the TSDU to which the current packet adds
 abbrev pub begun_before : Option Begun → (since : ℕ) → ℕ

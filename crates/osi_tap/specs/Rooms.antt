@@ -1,5 +1,5 @@
--- How much more of a connection is judged.
-use Rattle.std.specs.Prelude.{ℕ, ◌+◌, ◌-◌, nat_le, Bool, true, false, if◌then◌else◌}
+-- How much may be kept of a connection.
+use Rattle.std.specs.Prelude.{ℕ, ◌+◌, nat_le, Bool, true, false}
 use Rattle.osi_tap.specs.declared.rooms.Room.{Room}
 use Rattle.osi_tap.specs.declared.rooms.Room.TheVariants.{All, Octets, Over}
 
@@ -7,20 +7,14 @@ use Rattle.osi_tap.specs.declared.rooms.Room.TheVariants.{All, Octets, Over}
 abbrev pub counted : (length : ℕ) → ℕ
 counted length = length + 48
 
--- whether a DT with so much user data is judged
-abbrev pub fits : Room → (length : ℕ) → Bool
-fits All length = true
-fits (Octets n) length = nat_le (counted length) n
-fits Over length = false
+-- whether there is room for a DT with so much user data, beside so much that is kept
+abbrev pub fits : Room → (kept length : ℕ) → Bool
+fits All kept length = true
+fits (Octets most) kept length = nat_le (kept + counted length) most
+fits Over kept length = false
 
--- how much more is judged after it: nothing, if it did not fit
-abbrev pub spent : Room → (length : ℕ) → Room
-spent All length = All
-spent (Octets n) length = if nat_le (counted length) n then Octets (n - counted length) else Over
-spent Over length = Over
-
--- more passed than is judged
+-- there was no room for a DT
 abbrev pub is_over : Room → Bool
 is_over All = false
-is_over (Octets n) = false
+is_over (Octets most) = false
 is_over Over = true

@@ -17,7 +17,7 @@ pub record State : Type 0 where
 abbrev pub begin : State
 begin = record { left = untouched; right = untouched; course = fresh }
 
--- of each connection so much is judged
+-- of each connection so much may be kept
 abbrev pub begin_within : Room → State
 begin_within room = record begin { course = fresh_within room }
 

@@ -1,18 +1,19 @@
 //! One connection on the byte connection.
 
-ghost use Rattle.std.specs.Prelude.{◌≡◌, IfOk, IsOk, OnOk, OnErr};
+ghost use Rattle.std.specs.Prelude.{◌≡◌, true, IfOk, IsOk, OnOk, OnErr};
 ghost use Rattle.osi_judge.specs.Sides.{watched};
 ghost use Rattle.osi_judge.specs.Captures.{other};
 ghost use Rattle.osi_judge.specs.Judging.{IsFound, HasRoom};
 ghost use Rattle.osi_judge.specs.Outlines.{outlines};
 ghost use Rattle.osi_judge.specs.Stops.{broke_session};
 ghost use Rattle.osi_judge.specs.Tapping.{begin_of};
+ghost use Rattle.osi_tpkt.specs.Stream.{offset_of};
 ghost use Rattle.osi_tap.specs.Lines.{told, heard};
-ghost use Rattle.osi_tap.specs.Connections.{Joined, asked, packet_begins, opened, shut, adds, adds_all, spoken, reference_of};
+ghost use Rattle.osi_tap.specs.Connections.{Joined, asked, packet_begins, opened, shut, adds, adds_all, kept_on, spoken, reference_of};
 ghost use Rattle.osi_tap.specs.Rooms.{is_over};
 ghost use Rattle.osi_tap.specs.Holding.{lined, line_in, HoldsJoined, IsHeard, IsPlace};
 
-use crate::lines::{Line, add, hand_over_both};
+use crate::lines::{Line, add_last, hand_over_both};
 use crate::rooms::Room;
 use osi_class::Class;
 use osi_judge::{Direction, Finding, Side};
@@ -32,7 +33,7 @@ pub struct Connection {
 }
 
 impl Connection {
-    /// A connection that a CR with this reference requests, of which so much is judged.
+    /// A connection that a CR with this reference requests, of which so much may be kept.
     pub(crate) fn new(
         alloc: Global,
         number: usize,
@@ -84,7 +85,16 @@ impl Connection {
         self.closed = true;
     }
 
-    /// A DT of a side passes, in the packet at this offset: it is judged if there is room for it. `Err` changes nothing.
+    /// How much is kept of both sides.
+    fn kept(&self) -> usize
+        ensures { (j : Joined) → HoldsJoined self.now j → IsHeard self.now → result ≡ offset_of (kept_on j) }
+    {
+        let left = self.left.kept(&self.right);
+        left.saturating_add(self.right.kept(&self.left))
+    }
+
+    /// A DT of a side passes, in the packet at this offset: it is judged if there is room for it. `Err` changes nothing but that
+    /// the session of a side may have been given what it had not heard yet.
     pub(crate) fn add(
         &mut self,
         direction: Direction,
@@ -96,18 +106,40 @@ impl Connection {
         ensures err { OnErr result ((j : Joined) → HoldsJoined self.old j → HoldsJoined self.new j) }
         ensures own { OnErr result ((line_in direction self.new).side.finding ≡ (line_in direction self.old).side.finding) }
         ensures other { (line_in (other direction) self.new).side.finding ≡ (line_in (other direction) self.old).side.finding }
+        ensures free { is_over self.old.room ≡ true → IsOk result }
     {
-        let room = self.room.spent(octets.len());
-        if !self.room.fits(octets.len()) {
-            self.room = room;
+        if self.room.is_over() {
             return Ok(());
         }
-        self.add_all(direction, at, end, octets)?;
-        self.room = room;
-        Ok(())
+        match self.hand_over() {
+            Ok(()) => self.add_heard(direction, at, end, octets),
+            Err(refused) => Err(refused),
+        }
     }
 
-    /// A DT of a side passes, for which there is room. `Err` changes nothing.
+    /// A DT of a side passes, and each session has heard all before it. `Err` changes nothing.
+    fn add_heard(
+        &mut self,
+        direction: Direction,
+        at: u64,
+        end: bool,
+        octets: &[u8],
+    ) -> Result<(), AllocError>
+        requires { IsHeard self.old }
+        ensures ok { OnOk result ((j : Joined) → HoldsJoined self.old j → HoldsJoined self.new (adds direction at end octets.now j)) }
+        ensures err { OnErr result ((j : Joined) → HoldsJoined self.old j → HoldsJoined self.new j) }
+        ensures own { OnErr result ((line_in direction self.new).side.finding ≡ (line_in direction self.old).side.finding) }
+        ensures other { (line_in (other direction) self.new).side.finding ≡ (line_in (other direction) self.old).side.finding }
+    {
+        let kept = self.kept();
+        if !self.room.fits(kept, octets.len()) {
+            self.room = Room::Over;
+            return Ok(());
+        }
+        self.add_all(direction, at, end, octets)
+    }
+
+    /// A DT of a side passes, for which there is room, and each session has heard all before it. `Err` changes nothing.
     fn add_all(
         &mut self,
         direction: Direction,
@@ -115,15 +147,15 @@ impl Connection {
         end: bool,
         octets: &[u8],
     ) -> Result<(), AllocError>
+        requires { IsHeard self.old }
         ensures ok { OnOk result ((j : Joined) → HoldsJoined self.old j → HoldsJoined self.new (adds_all direction at end octets.now j)) }
         ensures err { OnErr result ((j : Joined) → HoldsJoined self.old j → HoldsJoined self.new j) }
         ensures own { OnErr result ((line_in direction self.new).side.finding ≡ (line_in direction self.old).side.finding) }
         ensures other { (line_in (other direction) self.new).side.finding ≡ (line_in (other direction) self.old).side.finding }
-        ensures room { self.new.room ≡ self.old.room }
     {
         match direction {
-            Direction::Left => add(&mut self.left, &mut self.right, at, end, octets),
-            Direction::Right => add(&mut self.right, &mut self.left, at, end, octets),
+            Direction::Left => add_last(&mut self.left, &mut self.right, at, end, octets),
+            Direction::Right => add_last(&mut self.right, &mut self.left, at, end, octets),
         }
     }
 
@@ -132,6 +164,8 @@ impl Connection {
         ensures holds { (j : Joined) → HoldsJoined self.old j → HoldsJoined self.new j }
         ensures heard { OnOk result (IsHeard self.new) }
         ensures free { IsHeard self.old → IsOk result }
+        ensures left { (lined self.new.left).side.finding ≡ (lined self.old.left).side.finding }
+        ensures right { (lined self.new.right).side.finding ≡ (lined self.old.right).side.finding }
     {
         hand_over_both(&mut self.left, &mut self.right)
     }
@@ -176,8 +210,8 @@ impl Connection {
         self.closed
     }
 
-    /// Whether more passed on it than is judged of a connection ([`crate::Tap::within`]): then what both sides sent after that is
-    /// not judged, and what was found of them is of what they had sent before.
+    /// Whether there was no room for a DT on it ([`crate::Tap::within`]): then what both sides sent from that DT on is not judged,
+    /// and what was found of them is of what they had sent before.
     pub fn is_over(&self) -> bool
         ensures { (j : Joined) → HoldsJoined self.now j → result ≡ is_over j.room }
     {

@@ -1,8 +1,9 @@
 //! What holds of all captures. Each law is the contract of a function that does nothing.
 
-ghost use Rattle.std.specs.Prelude.{◌≡◌, ◌≤◌, ◌+◌, ◌++◌, ◌∷◌, ℕ, List, Option, None, Some, false, length};
+ghost use Rattle.std.specs.Prelude.{◌≡◌, ◌≤◌, ◌+◌, ◌++◌, ◌∷◌, [], ℕ, List, Option, None, Some, true, false, length};
 ghost use Rattle.osi_judge.specs.Captures.{Capture, other, piece};
-ghost use Rattle.osi_judge.specs.Keeping.{kept_in, once};
+ghost use Rattle.osi_judge.specs.Keeping.{kept_in, once, room_in};
+ghost use Rattle.osi_judge.specs.Outlines.{outline};
 ghost use Rattle.osi_judge.specs.declared.findings.Finding.{Finding};
 ghost use Rattle.osi_judge.specs.declared.directions.Direction.{Direction as Side};
 ghost use Rattle.osi_tap.specs.declared.marks.First.{First};
@@ -13,7 +14,7 @@ ghost use Rattle.osi_tap.specs.Bounds.{IsWithin};
 ghost use Rattle.osi_tap.specs.Connections.{Joined, numbered, spoken};
 ghost use Rattle.osi_tap.specs.Courses.{Moment};
 ghost use Rattle.osi_tap.specs.Holding.{line_in, streamed, HoldsJoined, IsHeard};
-ghost use Rattle.osi_tap.specs.Lines.{begun_octets, heard};
+ghost use Rattle.osi_tap.specs.Lines.{Spoken, added, begun_octets, heard, kept_of};
 ghost use Rattle.osi_tap.specs.Standing.{pick, HoldsState, IsFed, IsJudged, IsPart, first_in};
 ghost use Rattle.osi_tap.specs.Tapping.{State, stream_of, octets_pass, after, begin_within, comes_to, GoesOn};
 ghost use Rattle.osi_tap.specs.declared.rooms.Room.TheVariants.{Octets};
@@ -55,7 +56,8 @@ pub fn the_first_break_is_the_earliest()
 /// What a tap keeps. Of each direction at most a part of a packet, once all that passed is judged. Of a session that kept
 /// the protocol at most 4,096 sessions that explain it: beyond that it is not judged any further. And of what a side
 /// of a connection said no more than that: of each TSDU its outline, of equal outlines in a row only one, even if each
-/// counts for seven octets more than it has; and the octets of the unfinished TSDU.
+/// counts for seven octets more than it has; and the octets of the unfinished TSDU. If each outline counts for 48 octets more, that
+/// is the room by which a bound counts (`room`).
 pub fn no_more_is_kept_than_passed()
     ensures packets { (d : Side) (t : Tap) (s : State) → HoldsState t s → IsJudged t
         → IsPart (pick d (streamed t.left) (streamed t.right)) }
@@ -64,11 +66,16 @@ pub fn no_more_is_kept_than_passed()
     ensures octets { (d : Side) (c : Connection) (j : Joined) → HoldsJoined c j → IsHeard c
         → kept_in (once (line_in (other d) c).side.heard) + length (line_in d c).begun
         ≤ kept_in (heard (spoken d j)) + length (begun_octets (spoken d j).begun) }
+    ensures room { (d : Side) (c : Connection) (j : Joined) → HoldsJoined c j → IsHeard c
+        → room_in (once (line_in (other d) c).side.heard) + length (line_in d c).begun ≡ kept_of (spoken d j) }
 {}
 
-/// What is judged of a connection of a tap that has a bound for each ([`crate::Tap::within`]), and so what is kept of it, is no more
-/// than the bound, whatever passes: of both sides the TSDUs, each with seven octets more, and the unfinished ones.
-pub fn a_connection_is_judged_within_its_bound()
-    ensures { (capture : Capture) (most number : ℕ) (j : Joined)
+/// What is kept of a connection of a tap that has a bound for each ([`crate::Tap::within`]) is no more than the bound, whatever
+/// passes (`bound`): of both sides the outlines of the TSDUs, of equal ones in a row only one, each with 48 octets more, and the
+/// unfinished TSDUs. What passed does not count: a TSDU that has the outline of the one before it takes no room (`again`).
+pub fn a_connection_is_kept_within_its_bound()
+    ensures bound { (capture : Capture) (most number : ℕ) (j : Joined)
         → numbered number (after capture (begin_within (Octets most))).course.sessions ≡ Some j → IsWithin most j }
+    ensures again { (at : ℕ) (octets last : List ℕ) (front : List (List ℕ)) (s : Spoken) → heard s ≡ front ++ last ∷ []
+        → outline (begun_octets s.begun ++ octets) ≡ outline last → kept_of (added at true octets s) ≤ kept_of s }
 {}

@@ -30,8 +30,9 @@
 //! that explain them. A side that more sessions explain is not judged any further (`Finding::TooMany`). At most 128
 //! connections are looked at together: a CR for one more is told (`Cause::TooMany`), and nothing after it is judged. A
 //! connection that is over stays in the list of results with all that is kept of it, so the memory grows with the number of
-//! connections. [`Tap::within`] bounds what is judged of each connection, and so what is kept of it. If an allocation fails,
-//! no octet is lost and none counts twice: make the same call again.
+//! connections. [`Tap::within`] bounds what is kept of each connection: data that follow one another have one outline, so an
+//! association that sends data both ways is judged however long it lasts. If an allocation fails, no octet is lost and none
+//! counts twice: make the same call again.
 #![tactic(auto)]
 
 mod connections;

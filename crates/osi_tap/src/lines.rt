@@ -1,15 +1,20 @@
 //! The TSDUs of one side of a connection.
 
-ghost use Rattle.std.specs.Prelude.{◌≡◌, ◌+◌, ◌++◌, [], false, length, IsOk, OnOk, OnErr};
+ghost use Rattle.std.specs.Prelude.{◌≡◌, ◌≤◌, ◌+◌, ◌++◌, [], true, false, length, IsOk, OnOk, OnErr};
+ghost use Rattle.std.specs.Vec.{vec_capacity};
 ghost use Rattle.osi_session.specs.Standing.{Seen};
 ghost use Rattle.osi_tpkt.specs.Stream.{offset_of};
 ghost use Rattle.osi_judge.specs.Feeding.{Tells, last_place};
+ghost use Rattle.osi_judge.specs.Keeping.{once, room_in};
 ghost use Rattle.osi_judge.specs.Sides.{watched};
 ghost use Rattle.osi_tap.specs.Lines.{Spoken, added, begun_before};
 ghost use Rattle.osi_tap.specs.Holding.{lined, unheard, begun_in, is_unheard, Lined, HoldsBoth};
 
 use osi_judge::{Finding, Side};
 use std::alloc::{AllocError, Global};
+
+/// The most room, in octets, that is kept for the next TSDU once one was handed over.
+const MOST_SPARE: usize = 4_096;
 
 /// How far a side is with its current TSDU.
 #[derive(Clone, Copy)]
@@ -84,6 +89,13 @@ impl Line {
         }
     }
 
+    /// The room that its TSDUs take as the other session has heard them, and the octets that are kept here.
+    pub(crate) fn kept(&self, other: &Line) -> usize
+        ensures { result ≡ offset_of (room_in (once (lined other.now).side.heard) + length (lined self.now).begun) }
+    {
+        other.side.room().saturating_add(self.begun.len())
+    }
+
     /// How many TSDUs of the other side had passed before the TSDU to which the current packet adds.
     fn since_first(&self) -> usize
         ensures { result ≡ begun_before (begun_in (lined self.now)) self.now.since }
@@ -148,12 +160,24 @@ impl Line {
     }
 }
 
+/// The octets are given up, and so is their room if it is more than [`MOST_SPARE`].
+fn give_up(octets: &mut Vec<u8>)
+    ensures none { octets.new.items ≡ [] }
+    ensures room { vec_capacity octets.new ≤ 4096 }
+{
+    octets.clear();
+    if octets.capacity() > MOST_SPARE {
+        octets.shrink_to_fit();
+    }
+}
+
 /// The other session is given the TSDU that it has not heard yet, if there is one. `Err` changes nothing.
 pub(crate) fn hand_over(own: &mut Line, other: &mut Line) -> Result<(), AllocError>
     ensures holds { (s t : Seen) (a b : Spoken) → HoldsBoth s t (lined own.old) (lined other.old) a b
         → HoldsBoth s t (lined own.new) (lined other.new) a b }
     ensures heard { OnOk result (is_unheard own.new.stage ≡ false) }
     ensures free { is_unheard own.old.stage ≡ false → IsOk result }
+    ensures room { OnOk result (is_unheard own.old.stage ≡ true → vec_capacity own.new.begun ≤ 4096) }
     ensures stage { other.new.stage ≡ other.old.stage }
     ensures own { (lined own.new).side.finding ≡ (lined own.old).side.finding }
     ensures other { (lined other.new).side.finding ≡ (lined other.old).side.finding }
@@ -162,7 +186,7 @@ pub(crate) fn hand_over(own: &mut Line, other: &mut Line) -> Result<(), AllocErr
         return Ok(());
     }
     other.side.hear(own.begun.as_slice())?;
-    own.begun.clear();
+    give_up(&mut own.begun);
     own.stage = Stage::Between;
     Ok(())
 }
@@ -174,6 +198,8 @@ pub(crate) fn hand_over_both(own: &mut Line, other: &mut Line) -> Result<(), All
     ensures own { OnOk result (is_unheard own.new.stage ≡ false) }
     ensures other { OnOk result (is_unheard other.new.stage ≡ false) }
     ensures free { is_unheard own.old.stage ≡ false → is_unheard other.old.stage ≡ false → IsOk result }
+    ensures own_finding { (lined own.new).side.finding ≡ (lined own.old).side.finding }
+    ensures other_finding { (lined other.new).side.finding ≡ (lined other.old).side.finding }
 {
     match hand_over(own, other) {
         Ok(()) => hand_over(other, own),
@@ -196,9 +222,9 @@ fn add_heard(own: &mut Line, at: u64, end: bool, octets: &[u8]) -> Result<(), Al
     own.add_part(octets, since)
 }
 
-/// The same, and the TSDU that it may end is handed over. If memory is short, the other session is given it before its next
-/// one.
-fn add_last(
+/// A DT of a side passes, in the packet at this offset; the other session has heard all TSDUs before it. The TSDU that it may
+/// end is handed over: if memory is short, the other session is given it before its next one. `Err` changes nothing.
+pub(crate) fn add_last(
     own: &mut Line,
     other: &mut Line,
     at: u64,
@@ -218,49 +244,6 @@ fn add_last(
             let _ = hand_over(own, other);
             Ok(())
         }
-        Err(refused) => Err(refused),
-    }
-}
-
-/// The same, once this session has heard all TSDUs of the other side.
-fn add_known(
-    own: &mut Line,
-    other: &mut Line,
-    at: u64,
-    end: bool,
-    octets: &[u8],
-) -> Result<(), AllocError>
-    requires { is_unheard own.old.stage ≡ false }
-    ensures ok { OnOk result ((s t : Seen) (a b : Spoken) → HoldsBoth s t (lined own.old) (lined other.old) a b
-        → HoldsBoth s t (lined own.new) (lined other.new) (added at end octets.now a) b) }
-    ensures err { OnErr result ((s t : Seen) (a b : Spoken) → HoldsBoth s t (lined own.old) (lined other.old) a b
-        → HoldsBoth s t (lined own.new) (lined other.new) a b) }
-    ensures own { OnErr result ((lined own.new).side.finding ≡ (lined own.old).side.finding) }
-    ensures other { (lined other.new).side.finding ≡ (lined other.old).side.finding }
-{
-    match hand_over(other, own) {
-        Ok(()) => add_last(own, other, at, end, octets),
-        Err(refused) => Err(refused),
-    }
-}
-
-/// A DT of a side passes, in the packet at this offset. `Err` changes nothing.
-pub(crate) fn add(
-    own: &mut Line,
-    other: &mut Line,
-    at: u64,
-    end: bool,
-    octets: &[u8],
-) -> Result<(), AllocError>
-    ensures ok { OnOk result ((s t : Seen) (a b : Spoken) → HoldsBoth s t (lined own.old) (lined other.old) a b
-        → HoldsBoth s t (lined own.new) (lined other.new) (added at end octets.now a) b) }
-    ensures err { OnErr result ((s t : Seen) (a b : Spoken) → HoldsBoth s t (lined own.old) (lined other.old) a b
-        → HoldsBoth s t (lined own.new) (lined other.new) a b) }
-    ensures own { OnErr result ((lined own.new).side.finding ≡ (lined own.old).side.finding) }
-    ensures other { (lined other.new).side.finding ≡ (lined other.old).side.finding }
-{
-    match hand_over(own, other) {
-        Ok(()) => add_known(own, other, at, end, octets),
         Err(refused) => Err(refused),
     }
 }

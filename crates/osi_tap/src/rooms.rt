@@ -1,55 +1,42 @@
-//! How much more of a connection is judged.
+//! How much may be kept of a connection.
 
-ghost use Rattle.std.specs.Prelude.{◌≡◌};
-ghost use Rattle.osi_tap.specs.Rooms.{fits, spent, is_over};
+ghost use Rattle.std.specs.Prelude.{◌≡◌, ℕ};
+ghost use Rattle.osi_tpkt.specs.Stream.{offset_of};
+ghost use Rattle.osi_tap.specs.Rooms.{fits, is_over};
 
 /// What each DT counts beside its user data.
 const OF_EACH_DT: usize = 48;
 
-/// How much more of a connection is judged. A DT counts the octets of its user data, and 48 more.
+/// How much may be kept of a connection.
 #[derive(Clone, Copy)]
 pub(crate) enum Room {
-    /// All that passes.
+    /// All that is to be kept of what passes.
     All,
-    /// DTs that count so much together.
+    /// So many octets.
     Octets(usize),
-    /// Nothing: more passed than is judged.
+    /// Nothing more: there was no room for a DT.
     Over,
 }
 
 impl Room {
-    /// Whether a DT with so much user data is judged.
-    pub(crate) fn fits(self, length: usize) -> bool
-        ensures { result ≡ fits self length }
+    /// Whether there is room for a DT with so much user data, beside so much that is kept.
+    pub(crate) fn fits(self, kept: usize, length: usize) -> bool
+        ensures { (n : ℕ) → kept ≡ offset_of n → result ≡ fits self n length }
     {
         match self {
             Room::All => true,
-            Room::Octets(octets) => octets >= OF_EACH_DT && octets - OF_EACH_DT >= length,
+            Room::Octets(most) => {
+                if most < OF_EACH_DT {
+                    return false;
+                }
+                let rest = most - OF_EACH_DT;
+                rest >= kept && rest - kept >= length
+            }
             Room::Over => false,
         }
     }
 
-    /// How much more is judged after it.
-    pub(crate) fn spent(self, length: usize) -> Room
-        ensures { result ≡ spent self length }
-    {
-        match self {
-            Room::All => Room::All,
-            Room::Octets(octets) => {
-                if octets < OF_EACH_DT {
-                    return Room::Over;
-                }
-                let rest = octets - OF_EACH_DT;
-                if rest < length {
-                    return Room::Over;
-                }
-                Room::Octets(rest - length)
-            }
-            Room::Over => Room::Over,
-        }
-    }
-
-    /// Whether more passed than is judged.
+    /// Whether there was no room for a DT.
     pub(crate) fn is_over(self) -> bool
         ensures { result ≡ is_over self }
     {

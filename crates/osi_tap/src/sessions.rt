@@ -27,7 +27,7 @@ pub(crate) struct Sessions {
     alloc: Global,
     pub(crate) live: Vec<Connection>,
     pub(crate) done: Vec<Connection>,
-    /// How much is judged of each.
+    /// How much may be kept of each.
     pub(crate) room: Room,
 }
 
@@ -139,7 +139,7 @@ fn hand_over_each(live: &mut Vec<Connection>) -> Result<(), AllocError>
 }
 
 impl Sessions {
-    /// There is none, and of each so much will be judged.
+    /// There is none, and of each so much may be kept.
     pub(crate) fn new(alloc: Global, room: Room) -> Sessions
         ensures { HoldsSessions result (record none { room = room }) }
     {

@@ -114,9 +114,12 @@ impl Tap {
         Tap::with_room(alloc, Room::All)
     }
 
-    /// Nothing has passed, and of each connection no more will be judged than DTs that count `most` together: each counts the
-    /// octets of its user data, and 48 more. So what is kept of a connection is bounded. After that it is not judged any further
-    /// ([`Connection::is_over`]); its transport is.
+    /// Nothing has passed, and of each connection `most` octets may be kept: the outlines of the TSDUs of both sides, of equal ones
+    /// in a row only one, each with 48 octets more, and the unfinished TSDUs. A DT needs room for its user data and 48 octets more
+    /// beside what is kept. If there is none, the connection is not judged any further ([`Connection::is_over`]); its transport is.
+    ///
+    /// What passed does not count. The outline of a TSDU has no user data, so data that follow one another have one outline, and an
+    /// association that sends data both ways keeps the same however long it lasts.
     pub fn within(alloc: Global, most: usize) -> Tap
         ensures { HoldsState result (begin_within (Octets most)) }
     {

@@ -126,7 +126,7 @@ pub(crate) fn pass_packet(
 }
 
 impl Watch {
-    /// Nothing has passed, and of each connection so much will be judged.
+    /// Nothing has passed, and of each connection so much may be kept.
     pub(crate) fn new(alloc: Global, room: Room) -> Watch
         ensures { HoldsAll result (fresh_within room) }
     {

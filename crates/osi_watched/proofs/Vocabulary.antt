@@ -169,14 +169,14 @@ pub use Rattle.osi_tap.proofs.a_piece_comes_to_what_its_octets_do.{after_more, g
 pub use Rattle.osi_tap.proofs.no_break_was_before_the_first.{marked_past, noted_past}
 pub use Rattle.osi_tap.proofs.octets_are_looked_at.{packet_front}
 pub use Rattle.osi_tap.specs.Blaming.{AreSpotless, BreaksFirst, IsBreakOf, IsFirstOf, IsQuiet, IsToBlame, of_session, of_transport}
-pub use Rattle.osi_tap.specs.Connections.{Joined, Sessions, adds, adds_all, adds_if, all_begin, asked, changed, count, none, opened, placed}
-pub use Rattle.osi_tap.specs.Connections.{reference_of, shut, spoken, taken, taken_at, user_of}
+pub use Rattle.osi_tap.specs.Connections.{Joined, Sessions, adds, adds_all, adds_if, all_begin, asked, changed, count, kept_on, none, opened}
+pub use Rattle.osi_tap.specs.Connections.{placed, reference_of, shut, spoken, taken, taken_at, user_of}
 pub use Rattle.osi_tap.specs.Courses.{Course, Moment, cause_of, changes, earlier, first_by, first_marked, first_of, fresh_within, is_break}
 pub use Rattle.osi_tap.specs.Courses.{kind_of, mark_by, marked, marks_of, moment_of, moved, noted_by, number_at, number_of, packet_begins}
 pub use Rattle.osi_tap.specs.Courses.{packet_by, packet_passes, reached, unit_passes, units_pass, unread, unread_mark, unread_moment}
 pub use Rattle.osi_tap.specs.Courses.{way_of}
 pub use Rattle.osi_tap.specs.Lines.{Begun, Spoken, added, begun_before, begun_octets, heard, octets_of, told}
-pub use Rattle.osi_tap.specs.Rooms.{fits, spent}
+pub use Rattle.osi_tap.specs.Rooms.{fits}
 pub use Rattle.osi_tap.specs.Standing.{HoldsState, IsFed, IsJudged, first_in}
 pub use Rattle.osi_tap.specs.Streams.{Front, Streamed, advanced, by_version, counted, faulty, front_of, gathered, partial, sized, whole}
 pub use Rattle.osi_tap.specs.Tapping.{after, begin_within, begun, comes_to, looked_at, octet_passes, stream_of, with_stream}

@@ -4,7 +4,8 @@ use Rattle.osi_judge.proofs.Vocabulary.{◌≡◌, ◌∙◌, refl, sym, ap, ℕ
 use Rattle.osi_judge.proofs.Vocabulary.{take, arith, Bool, true, false, ◌&&◌, ◌==◌, if◌then◌else◌, MatchBool, nat_eq, rules, replicate}
 use Rattle.osi_judge.proofs.Vocabulary.{get_or_append_left, get_or-append_right, get_or-replicate, length-append, length-replicate}
 use Rattle.osi_judge.proofs.Vocabulary.{append-nil, replicate_more, take-append_seam, eq-eqb, eqb-true, eqb, pointwise, Run, is_same, once}
-use Rattle.osi_judge.proofs.Vocabulary.{once_behind, AreApart, AreFrom, HasPlace, IsOther, begin_at, begin_in, last_from, last_in, spread}
+use Rattle.osi_judge.proofs.Vocabulary.{once_behind, room_in, AreApart, AreFrom, HasPlace, IsOther, begin_at, begin_in, last_from, last_in}
+use Rattle.osi_judge.proofs.Vocabulary.{room_of, spread}
 use Rattle.std.proofs.Common.{append_assoc}
 use Rattle.osi_judge.specs.Runs.{tsdu_at}
 
@@ -18,7 +19,7 @@ pub counted_in : (runs : List Run) (count : ℕ) (value : List (List ℕ)) → A
     → count ≡ length value
 counted_in runs count value h v = (grind (arith, spread_length)) ∙ ap (λ (x : List (List ℕ)). length x) v
 
-some_runs : (runs : List Run) (count : ℕ) → AreFrom 0 runs count → 0 < count → 0 < length runs
+pub some_runs : (runs : List Run) (count : ℕ) → AreFrom 0 runs count → 0 < count → 0 < length runs
 some_runs [] count h l = absurd (omega (arith, h, l))
 some_runs (r ∷ runs) count h l = omega arith
 
@@ -101,7 +102,7 @@ all_but_last old new t e = grind (arith, length-append new (t ∷ []), take-appe
 
 -- ---- equal ones in a row
 
-same_as_itself : (t : List ℕ) → is_same t t ≡ true
+pub same_as_itself : (t : List ℕ) → is_same t t ≡ true
 same_as_itself [] = refl
 same_as_itself (x ∷ t) = λ i. eq-eqb x x refl i && same_as_itself t i
 
@@ -150,6 +151,27 @@ kept_behind at before (r ∷ runs) count h o a =
 pub kept_once : (runs : List Run) (count : ℕ) → AreFrom 0 runs count → AreApart runs → length runs ≡ length (once (spread runs count))
 kept_once [] count h a = refl
 kept_once (r ∷ runs) count h a = grind (arith, one_then, skipped, kept_behind)
+
+-- ---- the room that they take
+
+room_behind : (at : ℕ) (before : List ℕ) (runs : List Run) (count : ℕ) → AreFrom at runs count → IsOther before runs → AreApart runs
+    → room_in (once_behind before (spread runs count)) ≡ room_of runs
+room_behind at before [] count h o a = refl
+room_behind at before (r ∷ runs) count h o a =
+    grind (arith, one_then, skipped, room_behind (begin_in runs count) r.tsdu runs count h.2 a.0 a.1)
+
+pub room_once : (runs : List Run) (count : ℕ) → AreFrom 0 runs count → AreApart runs → room_of runs ≡ room_in (once (spread runs count))
+room_once [] count h a = refl
+room_once (r ∷ runs) count h a = grind (arith, one_then, skipped, room_behind)
+
+pub room_more : (runs : List Run) (x : Run) → room_of (runs ++ x ∷ []) ≡ room_of runs + (length x.tsdu + 48)
+room_more [] x = omega arith
+room_more (r ∷ runs) x = let e = room_more runs x in omega (arith, e)
+
+last_added : (runs : List Run) (x : Run) → last_in (runs ++ x ∷ []) ≡ x.tsdu
+last_added [] x = refl
+last_added (r ∷ []) x = refl
+last_added (r ∷ s ∷ runs) x = last_added (s ∷ runs) x
 
 -- ---- the steps of the value
 
@@ -221,3 +243,10 @@ place_in runs same count place i r value h e p g v = grind (arith, tsdu_read, fo
 
 pub is_or_not : (a b n : ℕ) → a ≡ b → MatchBool (nat_eq a n) (b ≡ n) (b ≢ n)
 is_or_not a b n e = grind (arith, nat_eq, rules)
+
+pub room_fewer : (runs new : List Run) → 0 < length runs → new ≡ take (length runs - 1) runs
+    → room_of runs ≡ room_of new + (length (last_in runs) + 48)
+room_fewer runs new l n = grind (arith, split_last, room_more, last_added)
+
+pub room_at_least : (runs : List Run) → 0 < length runs → length (last_in runs) + 48 ≤ room_of runs
+room_at_least runs l = let e = room_fewer runs (take (length runs - 1) runs) l refl in omega (arith, e)

@@ -3,7 +3,7 @@
 use Rattle.osi_watched.proofs.Vocabulary.{arith, slice_get, ◌≡◌, ◌∙◌, refl, sym, ap, subst, ℕ, zero, suc, Bool, true, false, if◌then◌else◌}
 use Rattle.osi_watched.proofs.Vocabulary.{List, [], ◌∷◌, ◌++◌, length, set, Option, Some, None, Meaning, Value, Direction, Room, Octets}
 use Rattle.osi_watched.proofs.Vocabulary.{Over, IsToBlame, Joined, Sessions, adds_if, changed, placed, taken, taken_at, user_of, fits}
-use Rattle.osi_watched.proofs.Vocabulary.{spent, IsJudgedOf}
+use Rattle.osi_watched.proofs.Vocabulary.{kept_on, IsJudgedOf}
 use Rattle.osi_rules.specs.declared.findings.Meaning.TheVariants as meaning
 use Rattle.osi_tap.specs.Connections.{meant}
 use Rattle.osi_tap.specs.Rooms.{is_over}
@@ -23,20 +23,20 @@ either_way d j w h whole past b = search (arith, blame_on)
 -- ---- a unit after which no more is judged of its connection
 
 module _ (d e : Direction) (at : ℕ) (end : Bool) (octets : List ℕ) (j : Joined) where
-  spent_if : (b : Bool) (n : ℕ) → is_over (adds_if b (if b then Octets n else Over) e at end octets j).room ≡ true →
-      IsToBlame d (adds_if b (if b then Octets n else Over) e at end octets j) → IsToBlame d j
-  spent_if b n over blame = grind (arith, blame_on)
+  goes_on_if : (b : Bool) → is_over j.room ≡ false → is_over (adds_if b e at end octets j).room ≡ true →
+      IsToBlame d (adds_if b e at end octets j) → IsToBlame d j
+  goes_on_if b goes over blame = grind (arith, blame_on)
 
-  spent_by : (room : Room) → is_over (adds_if (fits room (length octets)) (spent room (length octets)) e at end octets j).room ≡ true →
-      IsToBlame d (adds_if (fits room (length octets)) (spent room (length octets)) e at end octets j) → IsToBlame d j
-  spent_by room over blame = grind (arith, spent_if, blame_on)
+  added_by : (room : Room) → j.room ≡ room → is_over (adds_if (fits room (kept_on j) (length octets)) e at end octets j).room ≡ true →
+      IsToBlame d (adds_if (fits room (kept_on j) (length octets)) e at end octets j) → IsToBlame d j
+  added_by room is over blame = grind (arith, goes_on_if, blame_on)
 
 -- was to blame before it
 meant_blame : (d e : Direction) (at : ℕ) (v : Value) (m : Meaning) (j : Joined) → is_over (meant e at v m j).room ≡ true →
     IsToBlame d (meant e at v m j) → IsToBlame d j
 meant_blame d e at v meaning.Opens j over blame = blame_on d (meant e at v meaning.Opens j) j refl refl blame
 meant_blame d e at v meaning.Closes j over blame = blame_on d (meant e at v meaning.Closes j) j refl refl blame
-meant_blame d e at v (meaning.Adds end) j over blame = spent_by d e at end (user_of v) j j.room over blame
+meant_blame d e at v (meaning.Adds end) j over blame = added_by d e at end (user_of v) j j.room refl over blame
 meant_blame d e at v meaning.Asks j over blame = blame
 meant_blame d e at v meaning.Nothing j over blame = blame
 

@@ -5,7 +5,7 @@ use Rattle.osi_watched.proofs.Vocabulary.{true, ℕ, ◌++◌, ◌+◌, ◌<◌,
 use Rattle.osi_watched.proofs.Vocabulary.{length-map, map-append, AllByRecursion, offset_of, Value, parts_in, tsdus_out, unit_parts, Part}
 use Rattle.osi_watched.proofs.Vocabulary.{tsdus, End, other, Direction, said_more, units_came, Deeds, said_in, then_did, ends_whole, adds}
 use Rattle.osi_watched.proofs.Vocabulary.{adds_all, adds_if, Joined, reference_of, spoken, user_of, added, Begun, begun_before, heard}
-use Rattle.osi_watched.proofs.Vocabulary.{octets_of, Spoken, fits, spent, Room, All, all_before, AreAfter, before_begun, before_of}
+use Rattle.osi_watched.proofs.Vocabulary.{octets_of, Spoken, fits, kept_on, Room, All, all_before, AreAfter, before_begun, before_of}
 use Rattle.osi_watched.proofs.Vocabulary.{calls_from, IsJoinedFrom, IsShownNow, left_over, parts_of, with_next, Said}
 use Rattle.osi_honest.specs.Courses.{Course}
 use Rattle.osi_tap.specs.Connections.{packet_begins}
@@ -60,8 +60,8 @@ next_up_to most s l a = grind (arith, all_join, all_front)
 
 -- a DT of a side for which there is room
 module _ (at : ℕ) (end : Bool) (octets : List ℕ) where
-  all_added : (d : Direction) (j : Joined) → j.room ≡ All → adds d at end octets j ≡ record (adds_all d at end octets j) { room = All }
-  all_added d j room = ap (λ (x : Room). adds_if (fits x (length octets)) (spent x (length octets)) d at end octets j) room
+  all_added : (d : Direction) (j : Joined) → j.room ≡ All → adds d at end octets j ≡ adds_all d at end octets j
+  all_added d j room = ap (λ (x : Room). adds_if (fits x (kept_on j) (length octets)) d at end octets j) room
 
   own_added : (d : Direction) (j : Joined) → j.room ≡ All → spoken d (adds d at end octets j) ≡ added at end octets (spoken d j)
   own_added d j room = grind (arith, all_added)

@@ -13,3 +13,9 @@ returns-in-Ok-clause-own c = grind (arith, on_ok)
 
 pub returns-in-Ok-clause-free : goal.returns-in-Ok-clause-free
 returns-in-Ok-clause-free c own beside = c.hand_over-in-Ok.ensures.free (ap is_unheard c.hand_over.ensures.stage ∙ beside)
+
+pub returns-in-Ok-clause-own_finding : goal.returns-in-Ok-clause-own_finding
+returns-in-Ok-clause-own_finding c = c.hand_over-in-Ok.ensures.other ∙ c.hand_over.ensures.own
+
+pub returns-in-Ok-clause-other_finding : goal.returns-in-Ok-clause-other_finding
+returns-in-Ok-clause-other_finding c = c.hand_over-in-Ok.ensures.own ∙ c.hand_over.ensures.other

@@ -6,12 +6,12 @@ use Rattle.osi_tap.proofs.connections.Connection.add_all.Goals as goal
 
 pub returns-in-Left-clause-ok : goal.returns-in-Left-clause-ok
 returns-in-Left-clause-ok c =
-    on_ok c.add.result c.add.ensures.ok (λ k j h.
-    left_added c.args.direction c.args.self.now c.add.new.own c.add.new.other j c.args.at c.args.end c.args.octets.now c.in-Left.is h
+    on_ok c.add_last.result c.add_last.ensures.ok (λ k j h.
+    left_added c.args.direction c.args.self.now c.add_last.new.own c.add_last.new.other j c.args.at c.args.end c.args.octets.now c.in-Left.is h
     (k seen_calling seen_called j.left j.right h.sides))
 
 pub returns-in-Left-clause-err : goal.returns-in-Left-clause-err
-returns-in-Left-clause-err c = on_err c.add.result c.add.ensures.err (λ k j h. record {
+returns-in-Left-clause-err c = on_err c.add_last.result c.add_last.ensures.err (λ k j h. record {
   number = h.number;
   calling = h.calling;
   called = h.called;
@@ -23,12 +23,12 @@ returns-in-Left-clause-err c = on_err c.add.result c.add.ensures.err (λ k j h. 
 
 pub returns-in-Right-clause-ok : goal.returns-in-Right-clause-ok
 returns-in-Right-clause-ok c =
-    on_ok c.add-in-Right.result c.add-in-Right.ensures.ok (λ k j h.
-    right_added c.args.direction c.args.self.now c.add-in-Right.new.own c.add-in-Right.new.other j c.args.at c.args.end c.args.octets.now
+    on_ok c.add_last-in-Right.result c.add_last-in-Right.ensures.ok (λ k j h.
+    right_added c.args.direction c.args.self.now c.add_last-in-Right.new.own c.add_last-in-Right.new.other j c.args.at c.args.end c.args.octets.now
     c.in-Right.is h (k seen_called seen_calling j.right j.left (flipped h.sides)))
 
 pub returns-in-Right-clause-err : goal.returns-in-Right-clause-err
-returns-in-Right-clause-err c = on_err c.add-in-Right.result c.add-in-Right.ensures.err (λ k j h. grind (
+returns-in-Right-clause-err c = on_err c.add_last-in-Right.result c.add_last-in-Right.ensures.err (λ k j h. grind (
   arith,
   flipped (k seen_called seen_calling j.right j.left (flipped h.sides)),
   flipped h.sides,
