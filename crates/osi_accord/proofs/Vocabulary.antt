@@ -1,7 +1,7 @@
 -- What the proofs of this crate take from the library, from the crates below and from its own definitions.
 pub use Rattle.std.proofs.Common.{Bool, List, None, Ok, Option, Some, [], ap, append-nil, arith, cond, drop, false, get_or, if◌then◌else◌}
-pub use Rattle.std.proofs.Common.{inl, inr, leb, length, length-append, map, nat_le, not, option_map, refl, subst, suc, set, slice_get, sym, take, true}
-pub use Rattle.std.proofs.Common.{unwrap_or, zero, ℕ, ◌&&◌, ◌++◌, ◌+◌, ◌-◌, ◌<◌, ◌==◌, ◌||◌, ◌∙◌, ◌∷◌, ◌≡◌, ◌≤◌, ◌⊎◌, ◌^◌}
+pub use Rattle.std.proofs.Common.{inl, inr, leb, length, length-append, map, nat_le, not, option_map, refl, subst, suc, set, slice_get, sym}
+pub use Rattle.std.proofs.Common.{take, true, unwrap_or, zero, ℕ, ◌&&◌, ◌++◌, ◌+◌, ◌-◌, ◌<◌, ◌==◌, ◌||◌, ◌∙◌, ◌∷◌, ◌≡◌, ◌≤◌, ◌⊎◌, ◌^◌}
 pub use Rattle.std.proofs.Math.Seq.{get_or-append_seam, take-append_seam}
 pub use Rattle.std.proofs.lemmas.Bool.{and_parts, eqb-true, lt-leb}
 pub use Rattle.std.proofs.lemmas.Bool.Decides.{leb_tells}

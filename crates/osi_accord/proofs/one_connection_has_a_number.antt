@@ -1,10 +1,10 @@
 -- One connection has a number, and what both sides said on it goes on as more passes.
 -- For the law that two kept sides are a pair.
-use Rattle.osi_accord.proofs.Vocabulary.{[], ap, append-nil, append_assoc, arith, Bool, cond, false, filter, filter-append, find, length-append}
-use Rattle.osi_accord.proofs.Vocabulary.{length-map, length-set, List, map, None, Option, refl, set, slice_get, Some, subst, suc, sym, true, zero}
-use Rattle.osi_accord.proofs.Vocabulary.{ℕ, ◌++◌, ◌+◌, ◌-◌, ◌<◌, ◌^◌, ◌∙◌, ◌∷◌, ◌≡◌, ◌≤◌, eqb-true, Direction, all_begin, asked, changed}
-use Rattle.osi_accord.proofs.Vocabulary.{count, has_number, IsClaim, Joined, source_of, meant, none, numbered, offset_of, packet_begins, placed, Sessions, silent}
-use Rattle.osi_accord.proofs.Vocabulary.{taken, taken_at, Value, Turn, Room}
+use Rattle.osi_accord.proofs.Vocabulary.{[], ap, append-nil, append_assoc, arith, Bool, cond, false, filter, filter-append, find}
+use Rattle.osi_accord.proofs.Vocabulary.{length-append, length-map, length-set, List, map, None, Option, refl, set, slice_get, Some, subst}
+use Rattle.osi_accord.proofs.Vocabulary.{suc, sym, true, zero, ℕ, ◌++◌, ◌+◌, ◌-◌, ◌<◌, ◌^◌, ◌∙◌, ◌∷◌, ◌≡◌, ◌≤◌, eqb-true, Direction}
+use Rattle.osi_accord.proofs.Vocabulary.{all_begin, asked, changed, count, has_number, IsClaim, Joined, source_of, meant, none, numbered}
+use Rattle.osi_accord.proofs.Vocabulary.{offset_of, packet_begins, placed, Sessions, silent, taken, taken_at, Value, Turn, Room}
 use Rattle.osi_accord.proofs.what_both_sides_said_has_an_order.{begins_on, GoesOn, IsOrder, meant_on}
 use Rattle.osi_rules.specs.declared.findings.Meaning.{Meaning}
 use Rattle.osi_rules.specs.declared.findings.Meaning.TheVariants.{Asks}
@@ -139,7 +139,8 @@ module _ (n : ℕ) (turns : List Turn) (s : Sessions) (h : Tells n turns s) wher
     with_old e = ap (λ (x : List Joined). ours n x ++ over) p.is ∙ ap (λ (x : List Joined). x ++ over) (with_one n p.before j p.after e)
 
     without_old : has_number n j ≡ false → all_ours n s ≡ (front ++ back) ++ over
-    without_old e = ap (λ (x : List Joined). ours n x ++ over) p.is ∙ ap (λ (x : List Joined). x ++ over) (without_one n p.before j p.after e)
+    without_old e =
+        ap (λ (x : List Joined). ours n x ++ over) p.is ∙ ap (λ (x : List Joined). x ++ over) (without_one n p.before j p.after e)
 
     with_new : has_number n k ≡ true → ours n (set s.live i k) ≡ front ++ k ∷ back
     with_new e = ap (ours n) (p.sets k) ∙ with_one n p.before k p.after e
@@ -214,7 +215,11 @@ module _ (n : ℕ) (turns : List Turn) (s : Sessions) (h : Tells n turns s) wher
     new_by true e c =
         let none = none_ours (c refl) in
         first_later (record s { live = s.live ++ k ∷ [] }) (is_first (c refl)) (λ less. grind (arith, length-append))
-        (rw (with_one n s.live k [] e, front_none (ours n s.live) (ours n s.done) none, back_none (ours n s.live) (ours n s.done) none) refl)
+        (rw (
+          with_one n s.live k [] e,
+          front_none (ours n s.live) (ours n s.done) none,
+          back_none (ours n s.live) (ours n s.done) none,
+        ) refl)
     new_by false e c = same_later n turns (record s { live = s.live ++ k ∷ [] }) (record {
       new = λ less. rw (without_one n s.live k [] e, append-nil (ours n s.live)) (h.new (grind (arith, length-append)));
       only = rw (without_one n s.live k [] e, append-nil (ours n s.live)) h.only;
@@ -229,7 +234,8 @@ module _ (n : ℕ) (turns : List Turn) (s : Sessions) (h : Tells n turns s) wher
       one_count = grind (arith, length-set, length-append)
 
       over_by : (b a : Bool) → has_number n k ≡ b → has_number n j ≡ a → (b ≡ true → count s ≡ n) → Later n turns after
-      over_by true true e f c = absurd (none_joined (front i j k p) j (back i j k p) (over i j k p) (sym (with_old i j k p f) ∙ none_ours (c refl)))
+      over_by true true e f c =
+          absurd (none_joined (front i j k p) j (back i j k p) (over i j k p) (sym (with_old i j k p f) ∙ none_ours (c refl)))
       over_by true false e f c =
           let none = sym (without_old i j k p f) ∙ none_ours (c refl) in
           let both = front_none (front i j k p ++ back i j k p) (over i j k p) none in
@@ -244,14 +250,19 @@ module _ (n : ℕ) (turns : List Turn) (s : Sessions) (h : Tells n turns s) wher
       over_by false true e f c =
           let a = old_alone i j k p f in
           same_later n turns after (record {
-            new = λ less. let more = one_count in absurd (none_joined (front i j k p) j (back i j k p) (over i j k p) (sym (with_old i j k p f) ∙ h.new (omega arith)));
+            new = λ less.
+                let more = one_count in
+                let none = sym (with_old i j k p f) ∙ h.new (omega arith) in
+                absurd (none_joined (front i j k p) j (back i j k p) (over i j k p) none);
             only = rw (without_new i j k p e, with_one n s.done j [] f, a.before_none, a.after_none, a.done_none) a.is;
           })
       over_by false false e f c = same_later n turns after (record {
         new = λ less.
             let more = one_count in
-            rw (without_new i j k p e, without_one n s.done j [] f, append-nil (over i j k p)) (sym (without_old i j k p f) ∙ h.new (omega arith));
-        only = rw (without_new i j k p e, without_one n s.done j [] f, append-nil (over i j k p)) (subst (Only turns) (without_old i j k p f) h.only);
+            rw (without_new i j k p e, without_one n s.done j [] f, append-nil (over i j k p))
+            (sym (without_old i j k p f) ∙ h.new (omega arith));
+        only = rw (without_new i j k p e, without_one n s.done j [] f, append-nil (over i j k p))
+            (subst (Only turns) (without_old i j k p f) h.only);
       })
 
   has_next : (calling : ℕ) (room : Room) → n < 2 ^ 64 - 1 → has_number n (asked (offset_of (count s)) calling room) ≡ true → count s ≡ n
@@ -273,14 +284,16 @@ module _ (n : ℕ) (turns : List Turn) (s : Sessions) (h : Tells n turns s) wher
   takes_at d at v Asks i l = asked_by i (source_of v) l (slice_get s.live i) refl
   takes_at d at v m i l = changed_by i (meant d at v m) (same_number d at v m) (meant_on d at v m turns) (slice_get s.live i) refl
 
-  takes_tells : (d : Direction) (at : ℕ) (v : Value) (m : Meaning) (place : Option ℕ) → n < 2 ^ 64 - 1 → Later n turns (taken d at v m place s)
+  takes_tells : (d : Direction) (at : ℕ) (v : Value) (m : Meaning) (place : Option ℕ) → n < 2 ^ 64 - 1 →
+      Later n turns (taken d at v m place s)
   takes_tells d at v m None l = same_later n turns s h
   takes_tells d at v m (Some i) l = takes_at d at v m i l
 
 pub later_claim : (n : ℕ) (turns : List Turn) → n < 2 ^ 64 - 1 → IsClaim (Later n turns)
 later_claim n turns l = record {
   begins = λ d s h. record { more = h.more; tells = begins_tells n (turns ++ h.more) d s h.tells };
-  takes = λ d at v m place s h. later_still n turns h.more (taken d at v m place s) (takes_tells n (turns ++ h.more) s h.tells d at v m place l);
+  takes = λ d at v m place s h.
+      later_still n turns h.more (taken d at v m place s) (takes_tells n (turns ++ h.more) s h.tells d at v m place l);
 }
 
 -- ---- what is told of the one with a number

@@ -1,8 +1,8 @@
 -- Two sides of a connection that kept the protocol run together; and where two sessions make a connection, neither is blamed.
 -- For the law that two kept sides are a pair.
-use Rattle.osi_accord.proofs.Vocabulary.{[], ap, arith, List, map, None, Option, refl, Some, subst, sym, take-append-drop, ℕ, ◌+◌, ◌-◌, ◌<◌, ◌^◌, ◌∙◌, ◌∷◌}
-use Rattle.osi_accord.proofs.Vocabulary.{◌≡◌, seen_called, seen_calling, front_told, Told, Capture, IsExplained, Direction, Left, Right}
-use Rattle.osi_accord.proofs.Vocabulary.{Broke, Kept, begin_within, Connection, found_at, heard, HoldsFound, Joined, line_in}
+use Rattle.osi_accord.proofs.Vocabulary.{[], ap, arith, List, map, None, Option, refl, Some, subst, sym, take-append-drop, ℕ, ◌+◌, ◌-◌, ◌<◌}
+use Rattle.osi_accord.proofs.Vocabulary.{◌^◌, ◌∙◌, ◌∷◌, ◌≡◌, seen_called, seen_calling, front_told, Told, Capture, IsExplained, Direction}
+use Rattle.osi_accord.proofs.Vocabulary.{Left, Right, Broke, Kept, begin_within, Connection, found_at, heard, HoldsFound, Joined, line_in}
 use Rattle.osi_accord.proofs.Vocabulary.{Room, Spoken, told, told_of, connection_in, IsAccord, IsFoundOn, AreTold, octets_told, told_by}
 use Rattle.osi_accord.proofs.Vocabulary.{Turn, tsdus_by}
 use Rattle.osi_tap.specs.Lines.{Said, octets_of}
@@ -26,10 +26,12 @@ same_one j k e = cc
 -- ---- two sides of a connection, with the TSDUs of both in an order
 
 module _ (turns : List Turn) (j : Joined) (a : AreTold turns j) where
-  left_explained : IsExplained seen_calling (heard j.right) (told j.left) → IsExplained seen_calling (tsdus_by Right turns) (told_by Left turns)
+  left_explained : IsExplained seen_calling (heard j.right) (told j.left) →
+      IsExplained seen_calling (tsdus_by Right turns) (told_by Left turns)
   left_explained e = rw (heard_as j.right (told_by Right turns) a.right, a.left) e
 
-  right_explained : IsExplained seen_called (heard j.left) (told j.right) → IsExplained seen_called (tsdus_by Left turns) (told_by Right turns)
+  right_explained : IsExplained seen_called (heard j.left) (told j.right) →
+      IsExplained seen_called (tsdus_by Left turns) (told_by Right turns)
   right_explained e = rw (heard_as j.left (told_by Left turns) a.left, a.right) e
 
   left_told : IsExplained seen_calling (tsdus_by Right turns) (told_by Left turns) → IsExplained seen_calling (heard j.right) (told j.left)

@@ -1,9 +1,9 @@
 -- The TSDUs of a connection have one order in which they passed: what had passed by some octet of the capture stands in front.
 -- For the law that two kept sides are a pair.
 use Rattle.osi_accord.proofs.Vocabulary.{[], ap, append-nil, append_assoc, arith, false, inl, inr, leb, leb_tells, length, length-append}
-use Rattle.osi_accord.proofs.Vocabulary.{List, refl, Some, subst, suc, sym, take, take-append-le, true, zero, ℕ, ◌++◌, ◌-◌, ◌<◌, ◌^◌, ◌∙◌, ◌∷◌}
-use Rattle.osi_accord.proofs.Vocabulary.{◌≡◌, ◌≤◌, ◌⊎◌, Capture, Passed, after_kept, after_more, begin_within, Joined}
-use Rattle.osi_accord.proofs.Vocabulary.{Room, AreTold, BeginWith, connection_in, Turn}
+use Rattle.osi_accord.proofs.Vocabulary.{List, refl, Some, subst, suc, sym, take, take-append-le, true, zero, ℕ, ◌++◌, ◌-◌, ◌<◌, ◌^◌, ◌∙◌}
+use Rattle.osi_accord.proofs.Vocabulary.{◌∷◌, ◌≡◌, ◌≤◌, ◌⊎◌, Capture, Passed, after_kept, after_more, begin_within, Joined, Room, AreTold}
+use Rattle.osi_accord.proofs.Vocabulary.{BeginWith, connection_in, Turn}
 use Rattle.osi_tap.specs.Tapping.{State, after}
 use Rattle.osi_accord.proofs.one_connection_has_a_number.{Later, Tells, later_claim, nothing_told, same_later, told_of_one}
 
@@ -39,7 +39,8 @@ module _ (room : Room) (n : ℕ) (below : n < 2 ^ 64 - 1) where
 
   none_yet : (k : ℕ) (j : Joined) → connection_in room n (take k []) ≡ Some j → BeginWith [] j
   none_yet k j e =
-      let is : connection_in room n [] ≡ Some j = subst (λ (x : Capture). connection_in room n x ≡ Some j) (take_all k [] (omega arith)) e in
+      let is : connection_in room n [] ≡ Some j =
+          subst (λ (x : Capture). connection_in room n x ≡ Some j) (take_all k [] (omega arith)) e in
       absurd (cc)
 
   nothing_passed : HasPassed [] []

@@ -12,3 +12,5 @@ pub mod a_session_is_told_in_one_way
 pub mod each_connection_has_a_number_of_its_own
 pub mod reports_are_alike
 pub mod a_report_is_added_part_by_part
+pub mod what_halts_a_side_is_told_of_its_sender
+pub mod what_is_printed_of_a_side_is_found

@@ -6,3 +6,4 @@ pub mod ReportTexts
 pub mod Openings
 pub mod Adding
 pub mod Disputes
+pub mod Blaming

@@ -5,6 +5,7 @@ ghost use Rattle.osi_judge.specs.declared.directions.Direction.{Direction};
 ghost use Rattle.osi_judge.specs.declared.directions.Direction.TheVariants.{Left, Right};
 ghost use Rattle.osi_judge.specs.Captures.{Capture};
 ghost use Rattle.osi_judge.specs.Judging.{Watched};
+ghost use Rattle.osi_dispute.specs.Blaming.{BlameNowhere, IsBlameless};
 ghost use Rattle.osi_dispute.specs.Disputes.{IsJudgement};
 ghost use Rattle.osi_dispute.specs.Reports.{IsLast, IsReport, Report, all_keep, carried, is_clear};
 ghost use Rattle.osi_dispute.specs.ReportTexts.{last_line};
@@ -15,7 +16,7 @@ ghost use Rattle.osi_dispute.specs.Rows.{IsCaptureOf};
 ghost use Rattle.osi_tap.specs.Blaming.{NobodyIs};
 ghost use Rattle.osi_tap.specs.Connections.{Joined};
 ghost use Rattle.osi_tap.specs.KnownSessions.{IsSession};
-ghost use Rattle.osi_tap.specs.Tapping.{State};
+ghost use Rattle.osi_tap.specs.Tapping.{State, comes_to};
 
 /// A text is one capture, and one thing is found of the session of a side on a connection.
 pub fn a_text_has_one_finding()
@@ -41,4 +42,16 @@ pub fn a_judgement_ends_with_a_line()
 pub fn both_kept_means_that_all_was_judged()
     ensures { (s : State) (pairs : List Pair) → IsLast s pairs BothKept → (is_clear (carried Left s) ≡ true)
         × (is_clear (carried Right s) ≡ true) × (all_keep pairs ≡ true) × NobodyIs s.course.sessions }
+{}
+
+/// What is printed of a side is found of it. If what the capture comes to has no break of the side, neither of its transport nor of a
+/// session on any connection ([`IsBlameless`]), no line of the judgement says that the side broke the protocol or left the profile:
+/// no line of a connection or of its transport, none that says after which packet a side is not judged, and not the last line
+/// ([`BlameNowhere`]).
+///
+/// [`IsBlameless`]: ../specs/Blaming.antt
+/// [`BlameNowhere`]: ../specs/Blaming.antt
+pub fn what_is_printed_of_a_side_is_found()
+    ensures { (d : Direction) (text lines : List ℕ) (status : ℕ) (j : IsJudgement text lines status) → IsBlameless d (comes_to j.capture)
+        → BlameNowhere d lines }
 {}
