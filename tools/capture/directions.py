@@ -1,9 +1,12 @@
 """One direction of a TCP connection: its octets in the order of their sequence numbers, and what of them is missing."""
 import heapq
+from collections import deque
 
 SPACE = 2 ** 32
 # How many octets wait for one that is missing, before it counts as lost.
 MOST_WAITING = 16_777_216
+# How many of the octets that passed last are compared with what is sent again.
+RECENT = 65_536
 
 
 def distance(first, second):
@@ -38,6 +41,9 @@ class Direction:
         self.is_here = self.has_first = False
         # Where the direction ends (FIN), how far it was sent, and the frame that first told of octets that have not passed.
         self.last, self.sent, self.beyond = None, 0, None
+        # The octets that passed last, the places and frames at which they begin, and the first place at which some were sent again as
+        # others, with both frames.
+        self.recent, self.marks, self.doubt = bytearray(), deque(), None
         # The frames and times at which it was ended or reset, and how many octets of a frame were captured, if not all.
         self.ended = self.reset = self.cut = None
 
@@ -83,9 +89,23 @@ class Direction:
         """Keeps the octets of a segment until they pass, unless they have."""
         start = (segment.sequence + segment.is_first) % SPACE
         place = self.place(start)
+        if place < self.count:
+            self.compare(place, segment.octets, segment.frame)
         if place + len(segment.octets) > self.count:
             heapq.heappush(self.waiting, Chunk(place, segment))
             self.held += len(segment.octets)
+
+    def compare(self, place, octets, frame):
+        """Compares octets that are sent again with those that passed. A keepalive sends the last octet again, as any other."""
+        first, last = max(place, self.count - len(self.recent)), min(place + len(octets), self.count)
+        if first >= last or len(octets) == 1 and last == self.count:
+            return
+        end = len(self.recent) - self.count
+        before, again = self.recent[first + end:last + end], octets[first - place:last - place]
+        if before != again:
+            first += next(at for at, (one, other) in enumerate(zip(before, again)) if one != other)
+            if self.doubt is None or first < self.doubt[0]:
+                self.doubt = first, max(mark for mark in self.marks if mark[0] <= first)[1], frame
 
     def head(self):
         """The octets that wait and are the next ones, or None."""
@@ -94,22 +114,32 @@ class Direction:
             if chunk.end > self.count:
                 return chunk
             self.held -= len(heapq.heappop(self.waiting).octets)
+            self.compare(chunk.start, chunk.octets, chunk.frame)
         return None
 
     def let_pass(self):
         """The octets of the head that had not passed; they have now."""
         chunk = heapq.heappop(self.waiting)
         self.held -= len(chunk.octets)
-        octets = chunk.octets[self.count - chunk.start:] if chunk.start < self.count else chunk.octets
-        self.go_on(len(octets))
+        octets = chunk.octets
+        if chunk.start < self.count:
+            self.compare(chunk.start, octets, chunk.frame)
+            octets = octets[self.count - chunk.start:]
+        self.go_on(octets, chunk.frame)
         return octets
 
-    def go_on(self, count):
-        """Counts octets that have passed."""
-        self.count += count
-        self.next = (self.next + count) % SPACE
+    def go_on(self, octets, frame):
+        """Takes octets that have passed, of a frame."""
+        self.marks.append((self.count, frame))
+        self.recent += octets
+        self.count += len(octets)
+        self.next = (self.next + len(octets)) % SPACE
         if self.beyond is not None and self.count >= self.sent:
             self.beyond = None
+        if len(self.recent) > 2 * RECENT:
+            del self.recent[:-RECENT]
+            while len(self.marks) > 1 and self.marks[1][0] <= self.count - RECENT:
+                self.marks.popleft()
 
     def needed(self, number):
         """How many octets have to pass before what acknowledges this sequence number. (The end of a direction has a number, too.)"""

@@ -120,16 +120,11 @@ class Reader:
         way.first = sequence
         return way
 
-    def forget(self, stream):
-        """Forgets a stream that is over."""
-        for way in [way for way in stream_ways(self.ways, stream) if way is not None]:
-            del self.ways[way.key]
-
-
-def stream_ways(ways, stream):
-    """The directions of a stream by its ends, if they are still its own."""
-    found = ways.get(stream.key)
-    return [found, found.back] if found is not None and found.stream == stream.number else []
+    def forget(self, key, stream):
+        """Forgets a stream that is over, by the key of one of its directions."""
+        way = self.ways.get(key)
+        if way is not None and way.stream == stream:
+            del self.ways[key], self.ways[way.back.key]
 
 
 def made_of(number, time, way, sequence, acknowledged, flags, octets, length):

@@ -18,6 +18,8 @@ reads; or a text of hexadecimal digits with both sides, as `osi judge` reads it 
 on standard input.
 """
 KEPT, BROKE, NOTHING, PARTLY = 0, 1, 2, 3
+# How many octets are written to `osi judge` at once.
+PART = 65_536
 
 
 def words():
@@ -67,6 +69,26 @@ def name_of(stream):
     return f"stream {stream.number} {named(left)} {named(right)}"
 
 
+class Parts:
+    """The text of pieces as `osi judge` reads it, in parts, each time that it is asked for."""
+
+    def __init__(self, parts):
+        self.parts = parts
+
+    def __iter__(self):
+        rows, count = [], 0
+        for side, piece in self.parts:
+            rows.append(("\t" if side == "right" else "") + piece.octets.hex())
+            count += len(piece.octets)
+            if count >= PART:
+                yield "\n".join([*rows, ""])
+                rows, count = [], 0
+        yield "\n".join([*rows, ""]) if rows else ""
+
+    def __str__(self):
+        return "".join(self)
+
+
 class Judged:
     """A stream, and the verdict that `osi judge` prints of it. `limit` is why it isn't judged to its end, if it isn't."""
 
@@ -85,11 +107,13 @@ class Judged:
 
     def asked(self, judge):
         """What `osi judge` prints; of a stream that is longer than it reads, of as much as it reads."""
-        text, longest = tapped.text_of(self.pieces), script.LONGEST
-        if len(text) > longest:
-            self.shorten(longest)
-            text = tapped.text_of(self.pieces)
-        return judge(text)
+        try:
+            return judge(Parts(self.parts))
+        except BadInput:
+            if sum(2 * len(piece.octets) + 2 for _, piece in self.parts) <= script.LONGEST:
+                raise
+        self.shorten(script.LONGEST)
+        return judge(Parts(self.parts))
 
     def shorten(self, longest):
         """Leaves out the pieces that don't fit into a text of so many characters."""

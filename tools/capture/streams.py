@@ -8,11 +8,13 @@ any of them.
 from .directions import MOST_WAITING, Direction
 
 SIDES = ("left", "right")
-CONNECT_REQUEST, CONNECT_CONFIRM = 0xE0, 0xD0
+CONNECT_REQUEST, CONNECT_CONFIRM, DISCONNECT_REQUEST, ERROR = 0xE0, 0xD0, 0x80, 0x70
 # The codes of X.224 of all classes, without their low half (section 13.7 and others).
 CODES = (0x10, 0x20, 0x50, 0x60, 0x70, 0x80, 0xC0, 0xD0, 0xE0, 0xF0)
 # How many segments are looked at together, if those that begin the connection aren't among them.
 EARLY = 32
+# How far the first segments may be from the beginning of their direction, in octets.
+NEAR = 16_777_216
 # A direction in which nothing was sent counts as one that begins with a packet.
 FRONT = b"\3\0\0\7"
 
@@ -42,6 +44,18 @@ class Gap:
         return f"frame {self.frame}, where {self.side} lost {self.many()}"
 
 
+class Doubt(Gap):
+    """Octets that were sent again as others, so that it isn't known which of them arrived: their side, the frame that had them first,
+    and that which had them again."""
+
+    def __init__(self, side, frame, again):
+        super().__init__(side, None, frame, None)
+        self.again = again
+
+    def __str__(self):
+        return f"frame {self.frame}, whose octets {self.side} sent again as others in frame {self.again}"
+
+
 class Stream:
     """A TCP connection: `pieces` in their order, each with the end that sent it. The first segments are looked at together, since those
     that begin the connection (SYN) may be late."""
@@ -62,7 +76,9 @@ class Stream:
             self.go_on(segment, own, far)
             return
         self.early.append(segment)
-        if segment.is_first:
+        if segment.is_reset and self.opener is not None and segment.source != self.opener:
+            self.settle()
+        elif segment.is_first:
             self.opener = segment.target if segment.is_answer else segment.source
             own.begin(segment)
         if len(self.early) >= EARLY or (own.has_first and far.has_first):
@@ -77,7 +93,10 @@ class Stream:
                 heard = [segment.acknowledged for segment in early if segment.source == far and segment.acknowledged is not None]
                 self.directions[end].presume(sent + heard if self.directions[far].has_first else sent or heard)
         for segment in early:
-            self.go_on(segment, self.directions[segment.source], self.directions[segment.target])
+            own = self.directions[segment.source]
+            # What an end sends of the connection before this one (on the same ports) is not of this one.
+            if segment.is_first or not own.has_first or 0 <= own.place(segment.sequence) + 1 < NEAR:
+                self.go_on(segment, own, self.directions[segment.target])
 
     def go_on(self, segment, own, far):
         """Takes a segment, now that it is known where both directions begin."""
@@ -86,7 +105,8 @@ class Stream:
             far.hear(segment.acknowledged, segment.frame)
         if self.is_over or self.is_other:
             return
-        if segment.octets:
+        # A reset may have a text, which is no part of what was sent (RFC 1122, 4.2.2.12).
+        if segment.octets and not segment.is_reset:
             self.take_octets(segment, own, far)
         if own.waiting or far.waiting:
             self.pass_on()
@@ -99,7 +119,7 @@ class Stream:
             own.keep(segment)
             return
         self.pieces.append((segment.source, Piece(segment.frame, segment.time, own.count, segment.octets)))
-        own.go_on(len(segment.octets))
+        own.go_on(segment.octets, segment.frame)
 
     def pass_on(self):
         """Lets octets pass as long as there are some that may."""
@@ -141,6 +161,21 @@ class Stream:
                 other.last = other.count
                 self.pass_on()
         self.is_over = True
+        self.leave_doubt()
+
+    def leave_doubt(self):
+        """Leaves out what passed from the first octet on that was sent again as another one."""
+        doubts = {end: direction.doubt[0] for end, direction in self.directions.items() if direction.doubt}
+        for place, (end, piece) in enumerate(self.pieces if doubts else ()):
+            if piece.start + len(piece.octets) > doubts.get(end, piece.start + len(piece.octets)):
+                kept = piece.octets[:max(doubts[end] - piece.start, 0)]
+                self.pieces[place:] = [(end, Piece(piece.frame, piece.time, piece.start, kept))] if kept else []
+                return
+
+    def doubt(self):
+        """The first octets that were sent again as others, or None."""
+        found = [Doubt(side, *self.directions[end].doubt[1:]) for side, end in self.by_end().items() if self.directions[end].doubt]
+        return min(found, key=lambda doubt: doubt.frame, default=None)
 
     def octets(self, end):
         """What an end sent, as far as it passed."""
@@ -175,8 +210,8 @@ class Stream:
         return {port for _, port in self.ends}
 
     def gap(self):
-        """The first gap, or None."""
-        found = []
+        """The first gap, or None: octets that are lost, or of which it isn't known what they were."""
+        found = [doubt for doubt in [self.doubt()] if doubt]
         for side, end in self.by_end().items():
             direction = self.directions[end]
             lost = direction.lost()
@@ -192,7 +227,9 @@ class Stream:
         """Whether the stream is here from its beginning."""
         if self.opener is not None:
             return all(self.directions[end].has_first or is_packet(self.front(end) or FRONT) for end in self.ends)
-        return self.caller() is not None and all(is_packet(self.front(end) or FRONT) for end in self.ends)
+        caller = self.caller()
+        return caller is not None and all(is_packet(self.front(end) or FRONT) for end in self.ends) and \
+            all(is_answer(self.front(end)) for end in self.ends if end != caller)
 
     def by_side(self):
         """The pieces, each with its side: left is the caller."""
@@ -209,6 +246,18 @@ def is_packet(octets):
 def is_connect_request(octets, code=CONNECT_REQUEST):
     """Whether octets begin with a CR in a TPKT packet, or with another unit that has this code."""
     return len(octets) > 5 and is_packet(octets) and octets[5] & 0xF0 == code
+
+
+def is_answer(octets):
+    """Whether octets begin with what answers the first CR of a TCP connection, or are none. A CC of another class than 0 may answer a
+    later CR."""
+    return not octets or len(octets) > 10 and is_connect_confirm(octets) and octets[10] & 0xF0 == 0 or \
+        any(is_connect_request(octets, code) for code in (DISCONNECT_REQUEST, ERROR)) or not is_known(octets)
+
+
+def is_known(octets):
+    """Whether octets begin with a packet whose transport unit has a code of X.224."""
+    return len(octets) > 5 and is_packet(octets) and octets[5] & 0xF0 in CODES
 
 
 def is_connect_confirm(octets):

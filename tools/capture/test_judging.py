@@ -117,7 +117,7 @@ class Texts(Room):
         asked = []
 
         def judge(_, word, text, tick=None):
-            asked.append(text)
+            asked.append("".join(text))
             return "right packets 1 octets 14 rest 0\nright broke the protocol first, packet 0: CC UnknownReference\n"
         with mock.patch.object(script, "run", judge), contextlib.redirect_stdout(io.StringIO()):
             self.assertEqual(judging.main([self.path("late")]), 1)
@@ -218,7 +218,7 @@ class Streams(Room):
         del self.found[5]
         asked = []
         kept = "left packets 1 octets 1 rest 0\nboth kept the protocol\n"
-        with mock.patch.object(judging.judged, "runner", lambda osi, tick: lambda text: asked.append(text) or kept):
+        with mock.patch.object(judging.judged, "runner", lambda osi, tick: lambda text: asked.append("".join(text)) or kept):
             status, out = judging_of("run.pcap")
         self.assertEqual(len(asked[0].splitlines()), 5)
         self.assertEqual((status, out.splitlines()[3]), (3, "judged up to frame 7, where left lost 14 octets"))

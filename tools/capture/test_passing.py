@@ -9,7 +9,8 @@ from unittest import mock
 from ladders import script, tapped
 
 from . import asking, judging, kinds, middle, outcome, program, streams, tshark
-from .test_frames import (AA, AB, AC, ACK, CC, CN, CR, DT, FIN, FN, MIP, PUSH, RESET, TOKENS, Frames, data, packet, segment_of, stream_of,
+from .tshark import BadInput
+from .test_frames import (AA, AB, AC, ACK, CC, CN, CR, DT, FIN, FIRST, FN, MIP, PUSH, RESET, SYN, TOKENS, Frames, data, packet, segment_of, stream_of,
                           whole)
 
 BUILT = (os.path.join(script.TOP, "crates", "osi_tool", "out", *place) for place in (("osi_tool",), ("unproved", "osi")))
@@ -200,6 +201,103 @@ class Turns:
 class Innocents(unittest.TestCase):
     """No end is blamed for what the network and the tap did."""
 
+    def innocent(self, frames, status=0, text="both kept the protocol"):
+        """The lines on a stream of frames, which blame nobody."""
+        report = judged(frames)
+        self.assertEqual((report.status if report.judged else 2, text in "\n".join(report.lines())), (status, True), report.lines())
+
+    @needs_osi
+    def test_octets_that_came_damaged_and_were_sent_again(self):
+        """A frame was damaged on its way, and its receiver threw it away: the tap has both copies."""
+        for damaged in (b"\3\0\0\x0f\2\xf0\x80\1\0\1\0rexd", DT[:4] + b"\xff" + DT[5:], bytes(len(DT))):
+            made = Frames().open().talk()
+            start = made.next["left"]
+            made.put("left", damaged, PUSH | ACK).put("left", DT, PUSH | ACK, sequence=start)
+            made.next["left"] = start + len(DT)
+            frames = made.send("right", DT).close().frames
+            self.innocent(frames, 3, "judged up to frame 10, whose octets left sent again as others in frame 11")
+
+    @needs_osi
+    def test_damaged_octets_in_larger_and_smaller_segments(self):
+        made = Frames().open()
+        start = made.next["right"]
+        made.put("right", DT + b"damaged" + DT[7:], PUSH | ACK).put("right", DT, PUSH | ACK, sequence=start)
+        made.put("right", DT, PUSH | ACK, sequence=start + len(DT))
+        made.next["right"] = start + 2 * len(DT)
+        self.innocent(made.frames, 3, "judged up to frame 8, whose octets right sent again as others in frame 10")
+        made = Frames().begin().put("left", bytes(len(CR)), PUSH | ACK).put("left", CR, PUSH | ACK, sequence=FIRST["left"] + 1)
+        report = judged(made.send("right", CC).frames)
+        self.assertEqual(report.judged, None, report.lines())
+
+    @needs_osi
+    def test_a_break_before_octets_that_differ_stays_found(self):
+        made = Frames().open().send("left", MIP)
+        start = made.next["right"]
+        made.put("right", bytes(len(DT)), PUSH | ACK).put("right", DT, PUSH | ACK, sequence=start)
+        self.assertEqual(judged(made.frames).status, 1)
+
+    @needs_osi
+    def test_keepalives_with_an_octet_and_without(self):
+        for octets in (b"", b"\0"):
+            made = Frames().open().talk()
+            for side in ("left", "right", "left"):
+                made.put(side, octets, sequence=made.next[side] - 1)
+                made.next[side] -= len(octets)
+            self.innocent(made.talk().close().frames)
+
+    @needs_osi
+    def test_the_text_in_a_reset_is_no_part_of_what_was_sent(self):
+        self.innocent(Frames().open().talk().put("right", b"Connection reset by the firewall", RESET | ACK).frames)
+
+    @needs_osi
+    def test_a_connection_that_begins_anew_over_one_that_is_half_open(self):
+        """The client was switched off, and calls from the same port; the server acknowledges what it knows, and is reset."""
+        made = Frames().put("left", flags=SYN)
+        made.put("right", sequence=77_777_777, acknowledged=2_000_000_000).put("left", flags=RESET, sequence=2_000_000_000)
+        made.next["left"] -= 1
+        self.innocent(made.begin().send("left", CR).send("right", CC).send("left", CN).send("right", AC).close().frames)
+
+    @needs_osi
+    def test_what_began_before_the_capture_with_other_connections_in_class_2(self):
+        """The first octets that were captured are the CR of a second connection, or its answer."""
+        request, answer = (packet(bytes.fromhex(each)) for each in ("09e40000000320c0010a", "09d40003000420c0010a"))
+        other = packet(bytes.fromhex("04f0000280") + b"\1\0\1\0read")
+        for sent in ((("left", request), ("right", other)), (("left", request), ("right", answer), ("left", other))):
+            made = Frames()
+            for side, octets in sent:
+                made.send(side, octets)
+            report = judged(made.frames)
+            self.assertRegex(report.why or "", "^begins in the middle")
+
+    @needs_osi
+    def test_a_connection_whose_first_segments_are_missing_is_judged_in_class_0(self):
+        self.innocent(whole()[0][3:])
+
+    @needs_osi
+    def test_the_same_frames_before_and_after_a_router(self):
+        self.innocent([each for frame in whole()[0] for each in (frame, frame[:8] + bytes([frame[8] - 1]) + frame[9:])])
+
+    @needs_osi
+    def test_overlapping_copies_with_the_same_octets(self):
+        for seed in range(12):
+            chance, made = random.Random(seed), Frames().open()
+            frames, start = made.frames, dict(made.next)
+            sent = {side: [] for side in streams.SIDES}
+            for _ in range(6):
+                for side in streams.SIDES:
+                    sent[side].append(DT)
+                    made.send(side, DT)
+                    octets, back = b"".join(sent[side]), chance.randrange(1, 40)
+                    at = max(len(octets) - back, 0)
+                    made.frames.append(made.segment(side, octets[at:at + chance.randrange(1, 30)], PUSH | ACK, start[side] + at))
+            self.innocent(frames)
+
+    @needs_osi
+    def test_segments_as_long_as_a_card_takes_them(self):
+        much = b"".join([DT] * 4_000)
+        made = Frames(mtu=65_000).open().send("left", much).send("right", much).close()
+        self.innocent(made.frames)
+
     @needs_osi
     def test_nobody_is_blamed_for_disorder_copies_and_losses(self):
         for seed in range(16):
@@ -348,8 +446,13 @@ class Status(unittest.TestCase):
 
     @needs_osi
     def test_a_stream_that_is_too_long_is_judged_as_far_as_it_is_read(self):
-        kept = Frames().open().talk(8).close().frames
-        with mock.patch.object(script, "LONGEST", 240):
+        kept, run = Frames().open().talk(8).close().frames, script.run
+
+        def limited(program, word, text, tick):
+            if word == "judge" and len("".join(text)) > 240:
+                raise BadInput("osi judge printed nothing")
+            return run(program, word, text, tick)
+        with mock.patch.object(script, "LONGEST", 240), mock.patch.object(script, "run", limited):
             status, out, _ = call([kept, whole()[0]], "judge")
         self.assertEqual((status, out.count("both kept the protocol"), out.count("judged up to frame ")), (3, 2, 2))
 

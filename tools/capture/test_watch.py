@@ -161,17 +161,6 @@ class Watching(unittest.TestCase):
                 self.printed(*Rows(stream).of("restart"), Rows(stream).row("right", flags=tshark.RESET))
         self.assertEqual((list(self.watching.over), self.watching.watched, self.watching.ending), ([3, 4], {}, {}))
 
-    def test_lines_of_a_pipe_are_given_as_they_come(self):
-        source, into = os.pipe()
-        with os.fdopen(source, "rb", buffering=0) as pipe:
-            found = watch.lines_of(pipe, 0.01)
-            self.assertIsNone(next(found))
-            os.write(into, b"1\t2\n3")
-            self.assertEqual((next(found), next(found)), ("1\t2", None))
-            os.write(into, b"\t4\n")
-            os.close(into)
-            self.assertEqual(list(found), ["3\t4"])
-
 
 @unittest.skipUnless(watch.library(), "the package osi_session or its library is not there")
 class ByLibrary(unittest.TestCase):

@@ -49,12 +49,17 @@ def is_there():
     return shutil.which("tshark") is not None
 
 
-def checked(path):
-    """The path of a file that is there, if tshark is; else `BadInput`."""
+def is_file(path):
+    """`BadInput` if there is no such file."""
     if not os.path.isfile(path):
         raise BadInput(f"{path}: {'it is no file' if os.path.exists(path) else 'there is no such file'}")
+
+
+def checked(path):
+    """The path of a file that is there, if tshark is; else `BadInput`."""
+    is_file(path)
     if not is_there():
-        raise BadInput("there is no tshark, which reads captures (Debian has it in the package tshark)")
+        raise BadInput("there is no tshark, which reads such captures (Debian has it in the package tshark)")
     return path
 
 

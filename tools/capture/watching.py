@@ -3,20 +3,18 @@
     osi-capture watch -i eth0        a live tap: dumpcap captures, which needs the right to do so
     osi-capture watch -r run.pcap    a capture, read as if it passed now; - is standard input
 
-tshark gives the TCP segments one by one. A break stays a break whatever passes later, so it is printed at once, and a stream of one
-connection of class 0 is judged no further. That both sides kept the protocol is printed when TCP has closed the
-stream, or at the end, and then also how it ended. There are two ways:
+A break stays a break whatever passes later, so it is printed at once. That both sides kept the protocol is printed when TCP has closed
+the stream, when it was idle for long, or at the end, and then also how it ended. There are two ways:
 
-    --by library    (if the package osi_session is there) each octet is fed once, to a Judge and to a Watch of the library; a break
-                    is printed with the segment that shows it. The Judge judges one connection of class 0, up to 196,608 octets
-                    and 4,096 TSDUs of both sides together. If there is another connection, or one of class 2, the Watch judges
-                    all of them, each up to that much, and a stream is watched on after a break. Each connection takes at most
-                    1 MiB, and the Judge another.
+    --by library    (if the package osi_session is there) each octet is fed once to a judge of the library, which judges every connection
+                    of a stream; a break is printed with the segment that shows it, and the stream is watched on. The memory for each
+                    connection has a bound.
     --by program    (else) `osi judge` judges everything that has passed of a stream, at most once in --every seconds, and less
                     often if that takes long. It is judged up to 8,000,000 octets, which are kept.
 
 A stream is judged up to the first octets that the capture lost. It isn't judged if it begins in the middle, or if it is one of another
-protocol. An interrupt ends the watch. To watch what another program captures:
+protocol. A stream is forgotten when it is over, when nothing passed for --idle seconds, or, of more than 10,000, if it was idle longest:
+a watch may run for months. An interrupt ends it. To watch what another program captures:
 
     tcpdump -i eth0 -U -w - 'tcp port 102' | osi-capture watch -r -
 
@@ -25,16 +23,14 @@ did but not everything could be judged, and 2 if nothing was.
 """
 import json
 import os
-import select
 import signal
-import subprocess
 import sys
 import time
 from collections import OrderedDict
 
 from ladders import script, transcript, verdicts
 
-from . import asking, judging, kinds, outcome, streams, tshark
+from . import asking, judging, kinds, live, outcome, streams
 from .tshark import BadInput
 
 BINDINGS = os.path.join(script.TOP, "bindings", "python", "src")
@@ -46,12 +42,18 @@ except ImportError:
     osi_session = None
 
 LONGEST = 8_000_000
-# Why a Judge judges no further, if a Watch does: there is a connection of class 2, or more than one.
-WIDE = ("OTHER_CLASS", "MORE_CONNECTIONS")
 # How many octets wait for a missing segment before it counts as lost, and for how many seconds.
 MOST_WAITING, PATIENCE = 262_144, 30
-# How many octets of a side show which protocol it is; how many streams that are over are remembered, to leave out what is late.
-ENOUGH, REMEMBERED = 4_096, 10_000
+# How many octets of a side show which protocol it is; how many streams that are over are remembered, to leave out what is late; how
+# many streams are watched at once.
+ENOUGH, REMEMBERED, MOST_STREAMS = 4_096, 10_000, 10_000
+# For how many seconds a stream may be idle.
+IDLE = 86_400
+
+
+def one_judge():
+    """A judge of the library for every connection of a stream. (In a library before 0.2 it is called Watch, and has no text.)"""
+    return getattr(osi_session, "Watch", None) or osi_session.Judge
 
 
 class Watched:
@@ -60,10 +62,12 @@ class Watched:
     def __init__(self, stream):
         self.stream, self.octets, self.is_fresh, self.limit, self.why_not = stream, 0, False, None, None
         self.left, self.begin, self.follower, self.seen, self.missing = None, None, outcome.Follower(), 0, None
+        self.key = None
 
     def take(self, segment):
         """Takes a segment."""
         self.stream.take(segment)
+        self.key = segment.key
         self.octets += len(segment.octets)
         self.is_fresh = True
         if self.is_late(segment.time):
@@ -143,12 +147,11 @@ class Watched:
 
 class Fed(Watched):
     """A stream of which each octet is fed to a judge of the library, and kept no longer. If a segment is missing, what passes waits
-    until it comes. A Judge judges one connection of class 0, and a Watch all others."""
+    until it comes."""
 
     def __init__(self, stream):
         super().__init__(stream)
-        self.judge, self.heard, self.found = osi_session.Judge(), set(), None
-        self.watch, self.is_wide, self.lines, self.has_news = osi_session.Watch(), False, [], False
+        self.judge, self.heard, self.found, self.lines, self.statuses = None, set(), None, [], []
         self.head = {side: [] for side in streams.SIDES}
 
     def look_for_limit(self):
@@ -158,7 +161,7 @@ class Fed(Watched):
     def follow(self):
         for source, piece in self.stream.pieces:
             if self.left is None:
-                self.left, self.begin = self.stream.left(), piece.time
+                self.left, self.begin, self.judge = self.stream.left(), piece.time, one_judge()()
             side = streams.SIDES[source != self.left]
             self.follower.take(side, piece)
             if sum(len(each.octets) for each in self.head[side]) < ENOUGH:
@@ -181,50 +184,52 @@ class Fed(Watched):
             if not (direction.has_first or streams.is_packet(piece.octets)):
                 self.found = "not judged: begins in the middle", None
                 return
-        side = osi_session.TapSide(source != self.left)
-        self.lines += [self.event(told, piece) for told in self.watch.feed(side, piece.octets)]
-        for told in () if self.is_wide else self.judge.feed(side, piece.octets):
-            if told.rule.name in WIDE:
-                self.is_wide = True
-                self.judge.close()
-                break
-            self.found = self.found or self.certain(told, piece)
-
-    def event(self, told, piece):
-        """The line of a verdict of the Watch that became certain with these octets, in the words of `osi judge`."""
-        on = "" if told.connection is None else f"connection {told.connection}: "
-        return f"frame {piece.frame}, {piece.time - self.begin:.6f} seconds: {on}{told}"
-
-    def news(self):
-        if not self.is_wide:
-            return []
-        lines, self.lines = self.lines, []
-        self.has_news = self.has_news or bool(lines)
-        return lines
+        for told in self.judge.feed(osi_session.TapSide(source != self.left), piece.octets):
+            kind = kinds.of(self)
+            if kind:
+                self.found = f"not judged: {kind}, not a session", None
+                return
+            self.certain(told, piece)
 
     def certain(self, told, piece):
-        """The line of a verdict that became certain with these octets, and the status."""
-        if told.rule is osi_session.Rule.LIMIT:
-            return "not judged further: more passed than a judge of the library keeps", judging.PARTLY
-        said = verdicts.printed(self.judge.text())
-        if said.first is None:
-            return f"not judged: {said.last['why']}", None
-        where = f"frame {piece.frame}, {piece.time - self.begin:.6f} seconds"
-        is_break = said.last["rule"] != "Outside"
-        return f"{where}: {verdicts.sentence(said)} {verdicts.reason(said, said.first)}", judging.BROKE if is_break else judging.PARTLY
+        """Notes a verdict that became certain with these octets."""
+        rule, kind = told.rule.name, told.kind.name
+        if rule == "NO_OPENING":
+            self.found = "not judged: the capture begins in the middle of a connection", None
+        elif rule == "LIMIT":
+            self.limit = self.limit or "not judged further: more passed than a judge of the library keeps"
+        elif kind in ("BROKE", "LEAVES"):
+            self.lines.append(f"frame {piece.frame}, {piece.time - self.begin:.6f} seconds: {self.line_of(told)}")
+        self.statuses.append(judging.BROKE if kind == "BROKE" else judging.PARTLY)
+
+    def line_of(self, told):
+        """What is said of a verdict: of the first one a sentence, of others the words of `osi judge`."""
+        if not self.statuses and hasattr(self.judge, "text"):
+            said = verdicts.printed(self.judge.text())
+            if said.first:
+                return f"{verdicts.sentence(said)} {verdicts.reason(said, said.first)}"
+        number = getattr(told, "connection", None)
+        return ("" if number is None else f"connection {number}: ") + str(told)
+
+    def news(self):
+        lines, self.lines = self.lines, []
+        return lines
 
     def at_the_end(self):
-        """The verdict on a stream that is over, or of which no more is captured."""
+        """The verdict on a stream that is over, or of which no more is captured; the line is None if breaks were told."""
         if self.left is None:
-            return "not judged: begins in the middle", None
+            begun = self.stream.opener is not None
+            return "not judged: " + (asking.ALONE if self.stream.is_alone() else "nothing passed" if begun else "begins in the middle"), None
         if self.stream.is_alone():
             return f"not judged: {asking.ALONE}", None
-        limit, kept = (f", {self.limit}", judging.PARTLY) if self.limit else ("", judging.KEPT)
-        if self.is_wide:
-            return (None, judging.BROKE) if self.has_news else ("both kept the protocol" + limit, kept)
-        said = verdicts.printed(self.judge.text())
-        why = said.last["why"]
-        return (f"not judged: {why}{limit}", None) if why else (said.rows[-1] + limit, kept)
+        if self.statuses:
+            status = judging.BROKE if judging.BROKE in self.statuses else judging.PARTLY
+            return self.limit and self.limit[0].upper() + self.limit[1:] or None, status
+        said = verdicts.printed(self.judge.text()) if hasattr(self.judge, "text") else None
+        if said and said.last["why"]:
+            return f"not judged: {said.last['why']}" + (f", {self.limit}" if self.limit else ""), None
+        limit, status = (f", {self.limit}", judging.PARTLY) if self.limit else ("", judging.KEPT)
+        return "both kept the protocol" + limit, status
 
     def verdict(self, judge, is_end):
         if is_end:
@@ -234,34 +239,40 @@ class Fed(Watched):
         found = self.found or (self.at_the_end() if is_end or self.limit else None)
         kind = kinds.of(self) if found else None
         if kind:
+            self.lines.clear()
             found = f"not judged: {kind}, not a session", None
-        if found:
+        if found and self.judge is not None:
             self.judge.close()
-            self.watch.close()
         return found
 
 
 class Watching:
     """All streams at the port; each is forgotten once its verdict and its end are printed. Without a function that judges a text, the
-    library judges."""
+    library judges. `forget` is told the key and the number of a stream that is forgotten."""
 
-    def __init__(self, port, judge=None, hosts=(), numbers=(), is_json=False):
-        self.port, self.judge, self.hosts, self.numbers, self.is_json = port, judge, hosts, numbers, is_json
-        self.watched, self.over, self.ending, self.statuses = {}, OrderedDict(), {}, set()
+    def __init__(self, port, judge=None, hosts=(), numbers=(), is_json=False, idle=IDLE, forget=lambda key, number: None):
+        self.port, self.judge, self.hosts, self.numbers, self.is_json, self.idle = port, judge, hosts, numbers, is_json, idle
+        # Those that are watched, and those whose verdict is printed while TCP is open: by the time of their last segment.
+        self.watched, self.ending = OrderedDict(), OrderedDict()
+        self.over, self.statuses, self.forget = OrderedDict(), set(), forget
         self.kind = Watched if judge else Fed
 
     def take(self, segment):
         """Takes a segment."""
-        ends = segment.source, segment.target
-        if segment.stream in self.ending:
+        ends, number = (segment.source, segment.target), segment.stream
+        if number in self.ending:
+            self.ending.move_to_end(number)
             self.end(segment)
-        if segment.stream in self.over or self.port not in (ends[0][1], ends[1][1]):
+        if number in self.over or self.port not in (ends[0][1], ends[1][1]):
             return
-        if segment.stream not in self.watched:
-            if (self.hosts and not any(end[0] in self.hosts for end in ends)) or (self.numbers and segment.stream not in self.numbers):
+        if number not in self.watched:
+            if (self.hosts and not any(end[0] in self.hosts for end in ends)) or (self.numbers and number not in self.numbers):
                 return
-            self.watched[segment.stream] = self.kind(streams.Stream(segment.stream, ends))
-        self.watched[segment.stream].take(segment)
+            self.watched[number] = self.kind(streams.Stream(number, ends))
+        else:
+            self.watched.move_to_end(number)
+        self.watched[number].take(segment)
+        self.drop_idle(segment.time)
 
     def end(self, segment):
         """Takes a segment of a stream whose verdict is printed; if TCP is closed with it, how the stream ended is printed."""
@@ -273,30 +284,48 @@ class Watching:
         if watched.is_over():
             self.tell_end(self.ending.pop(segment.stream))
 
+    def drop_idle(self, now):
+        """Forgets the streams that are idle, or the one that was idle longest if there are too many."""
+        for found in (self.watched, self.ending):
+            while found and (len(found) > MOST_STREAMS or now - next(iter(found.values())).stream.last[1] > self.idle):
+                self.drop(next(iter(found)), now)
+
+    def drop(self, number, now):
+        """Forgets a stream that is idle. If it goes on, it is another one that begins in the middle."""
+        watched = self.watched.get(number) or self.ending.get(number)
+        watched.stream.until = now
+        if number in self.watched:
+            self.look_at(number, watched, True)
+        else:
+            self.tell_end(self.ending.pop(number))
+        self.over.pop(number, None)
+        self.forget(watched.key, number)
+
     def look(self, is_end=False):
         """Judges the streams on which something passed since the last look, or all at the end; prints what is certain."""
         for number, watched in list(self.watched.items()):
             if watched.is_fresh or is_end:
-                watched.is_fresh = False
                 self.look_at(number, watched, is_end)
         for number in list(self.ending) if is_end else ():
             self.tell_end(self.ending.pop(number))
 
     def look_at(self, number, watched, is_end):
         """Judges a stream, and prints what is certain."""
-        for line in watched.news():
-            self.say(watched, line)
+        watched.is_fresh = False
         is_over = is_end or watched.is_over()
         found = watched.verdict(self.judge, is_over)
+        for line in watched.news():
+            self.say(watched, line)
         if not found:
             return
         if found[0]:
             self.say(watched, found[0])
         self.statuses.add(found[1])
         del self.watched[number]
-        self.over[number] = True
+        self.over[number] = watched.key
         if len(self.over) > REMEMBERED:
-            self.over.popitem(last=False)
+            oldest, key = self.over.popitem(last=False)
+            self.forget(key, oldest)
         if is_over:
             self.tell_end(watched)
         else:
@@ -318,31 +347,16 @@ class Watching:
         return judging.status_of_all(list(self.statuses))
 
 
-def lines_of(pipe, seconds):
-    """The lines of a pipe as they come; None each time that no octet came for so many seconds."""
-    rest = b""
-    while True:
-        if not select.select([pipe], [], [], seconds)[0]:
-            yield None
-            continue
-        came = os.read(pipe.fileno(), 65536)
-        if not came:
-            return
-        *whole, rest = (rest + came).split(b"\n")
-        for line in whole:
-            yield line.decode("ascii", "replace")
-
-
-def follow(watching, lines, seconds):
-    """Takes the segments, and looks at the streams at most once in so many seconds, also if nothing passes. If a look takes long, the
-    next one waits four times as long. If the library judges, each segment is looked at."""
+def follow(watching, segments, seconds):
+    """Takes segments. If the library judges, the stream of each is looked at; else all streams at most once in so many seconds, also if
+    nothing passes, and if a look takes long, the next one waits four times as long."""
     looked, pause = time.monotonic(), seconds
-    for line in lines:
-        segment = tshark.of_line(line) if line else None
+    for segment in segments:
         if segment is not None:
             watching.take(segment)
         if watching.judge is None:
-            watching.look()
+            if segment is not None and segment.stream in watching.watched:
+                watching.look_at(segment.stream, watching.watched[segment.stream], False)
         elif time.monotonic() - looked >= pause:
             began = time.monotonic()
             watching.look()
@@ -367,38 +381,25 @@ def add_words(made):
     made.add_argument("--json", action="store_true", help="an object for each line")
     made.add_argument("--by", choices=("library", "program"), help="who judges (the library, if the package osi_session is there)")
     made.add_argument("--every", type=float, default=1.0, metavar="SECONDS", help="how often the program judges a stream at most (1)")
+    made.add_argument("--idle", type=float, default=IDLE, metavar="SECONDS",
+                      help=f"forget a stream on which nothing passed for so long ({IDLE}, a day)")
     made.add_argument("--osi", help="the program osi")
 
 
-def started(asked):
-    """The programs that print segments: tshark, and if an interface is watched dumpcap before it, which keeps no file."""
-    if not tshark.is_there():
-        raise BadInput("there is no tshark (Debian has it in the package tshark)")
-    reading = ["tshark", "-n", "-l", "-r", "-" if asked.interface else asked.file, "-Y", tshark.TCP, *tshark.PLAIN]
-    if not asked.interface:
-        return [subprocess.Popen(reading, stdout=subprocess.PIPE, bufsize=0)]
-    capturing = ["dumpcap", "-q", "-i", asked.interface, "-f", f"tcp port {asked.port}", "-w", "-"]
-    first = subprocess.Popen(capturing, stdout=subprocess.PIPE)
-    return [first, subprocess.Popen(reading, stdin=first.stdout, stdout=subprocess.PIPE, bufsize=0)]
-
-
 def watch(asked):
-    """Runs tshark, and watches what it prints until it ends. An interrupt ends what captures, and what had passed is still judged."""
+    """Watches what is asked for until it ends. An interrupt ends what captures, and what had passed is still judged."""
     if asked.by == "library" and not library():
         raise BadInput("there is no package osi_session, or no library for it")
     by_program = asked.by == "program" or asked.osi or not library()
     judge = (lambda text: script.run(asked.osi, "judge", text)) if by_program else None
-    watching = Watching(asked.port, judge, asked.host, asked.stream or (), asked.json)
-    programs = started(asked)
-    before = {each: signal.signal(each, lambda *_: programs[0].send_signal(signal.SIGINT)) for each in (signal.SIGINT, signal.SIGTERM)}
+    source = live.Source(asked)
+    watching = Watching(asked.port, judge, asked.host, asked.stream or (), asked.json, asked.idle, source.forget)
+    before = {each: signal.signal(each, source.stop) for each in (signal.SIGINT, signal.SIGTERM)}
     try:
-        follow(watching, lines_of(programs[-1].stdout, max(asked.every, 0.1)), asked.every)
+        follow(watching, source.segments(), asked.every)
         watching.look(is_end=True)
     finally:
         for each, handler in before.items():
             signal.signal(each, handler)
-        for each in programs:
-            each.stdout.close()
-            each.wait()
+        source.close()
     return watching.status()
-

@@ -2,6 +2,7 @@
 import os
 import re
 import subprocess
+import threading
 
 from .lengths import SIZES
 from .transcript import BadInput, CALLS
@@ -90,30 +91,46 @@ def beside():
 
 
 def run(program, word, text, tick=lambda seconds: None):
-    """Runs the program `osi` on a text, and gives what it prints; `BadInput` if it prints nothing."""
-    if len(text) > LONGEST:
-        raise BadInput(f"this is {len(text):,} characters of hexadecimal digits and lines, and osi {word} reads at most {LONGEST:,}")
+    """Runs the program `osi` on a text, or on the parts of one, and gives what it prints; `BadInput` if it prints nothing."""
+    parts = [text] if isinstance(text, str) else text
+    if word != "judge" and sum(map(len, parts)) > LONGEST:
+        raise BadInput(f"this is {sum(map(len, parts)):,} characters of hexadecimal digits and lines, and osi {word} reads at most "
+                       f"{LONGEST:,}")
     command = [program or beside(), word]
     try:
         started = subprocess.Popen(command, stdin=subprocess.PIPE, stdout=subprocess.PIPE, stderr=subprocess.PIPE,
                                    encoding="utf-8", errors="replace")
     except OSError as error:
         raise BadInput(f"{command[0]} can't be run: {error.strerror}") from None
-    out, messages = wait(started, text, tick)
+    pipe, started.stdin = started.stdin, None
+    feeder = threading.Thread(target=feed, args=(pipe, parts), daemon=True)
+    feeder.start()
+    out, messages = wait(started, tick)
+    feeder.join()
     if started.returncode not in (0, 1) or not out:
         said = [row for row in messages.split("\n") if row and not row.startswith(("osi: the proved", "races:"))]
         raise BadInput(f"osi {word} printed nothing" + (f": {said[-1]}" if said else ""))
     return out
 
 
-def wait(started, text, tick):
+def feed(pipe, parts):
+    """Writes the parts of a text to a program, which may end before it has read them."""
+    try:
+        with pipe:
+            for part in parts:
+                pipe.write(part)
+    except OSError:
+        pass
+
+
+def wait(started, tick):
     """Waits for a program: what it prints, and its messages. `tick` is called each second."""
     seconds = 0
     while True:
         try:
-            return started.communicate(text, timeout=1)
+            return started.communicate(timeout=1)
         except subprocess.TimeoutExpired:
-            text, seconds = None, seconds + 1
+            seconds += 1
             tick(seconds)
         except BaseException:
             started.kill()

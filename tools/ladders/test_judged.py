@@ -59,6 +59,7 @@ def files(name):
 
 def answer(_, word, text, tick=None):
     """What `osi` printed for a text: the verdict on so many octets of each side of a dispute, or the listing of a side."""
+    text = "".join(text)
     pieces = tapped.read(text)
     sums = [sum(len(piece.octets) for piece in pieces if piece.side == side) for side in transcript.SIDES]
     for name in NAMES:
