@@ -9,7 +9,7 @@ import subprocess
 from ctypes import POINTER, c_bool, c_char_p, c_size_t, c_uint8, c_uint16, c_uint32, c_uint64, c_void_p
 from typing import Any, Dict, Iterator, List, Optional, Tuple
 
-VERSION = "0.1.1.dev0"
+VERSION = "0.2.0.dev0"
 # The file name of the shared library for programs of this version: its soname.
 NAME = "libosi-session.so." + ".".join(VERSION.split(".")[: 2 if VERSION.startswith("0.") else 1])
 
