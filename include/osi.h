@@ -764,9 +764,9 @@ uint32_t osi_judge_next(osi_judge *judge, osi_verdict *verdict) OSI_LOOK;
  * OSI_NO_SUCH_CONNECTION (none has this number so far). */
 uint32_t osi_judge_verdict(osi_judge *judge, uint64_t connection, uint32_t side, osi_verdict *verdict) OSI_LOOK;
 
-/* Writes to *count how many connections were requested so far. Their numbers are 0 to one less. OSI_OK, or
- * with a count of 0 OSI_SLOT_EMPTY and OSI_NO_MEMORY (make the call again when there is memory). */
-uint32_t osi_judge_connections(osi_judge *judge, uint64_t *count) OSI_LOOK;
+/* Writes to *connections how many connections were requested so far. Their numbers are 0 to one less. OSI_OK,
+ * or with a count of 0 OSI_SLOT_EMPTY and OSI_NO_MEMORY (make the call again when there is memory). */
+uint32_t osi_judge_connections(osi_judge *judge, uint64_t *connections) OSI_LOOK;
 
 /* Writes the text of the verdict on all that has passed so far, which osi_judge_text then lends: what `osi judge`
  * prints for it. Its last line is "both kept the protocol" only if all that passed was judged. OSI_OK,
