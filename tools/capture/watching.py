@@ -4,14 +4,12 @@
     osi-capture watch -r run.pcap    a capture, read as if it passed now; - is standard input
 
 tshark gives the TCP segments one by one. A break stays a break whatever passes later, so it is printed at once, and a stream of one
-connection of class 0 is judged no further. That both sides kept the protocol is printed when TCP has closed the
+connection is judged no further. That both sides kept the protocol is printed when TCP has closed the
 stream, or at the end, and then also how it ended. There are two ways:
 
-    --by library    (if the package osi_session is there) each octet is fed once, to a Judge and to a Watch of the library; a break
-                    is printed with the segment that shows it. The Judge judges one connection of class 0, up to 196,608 octets
-                    and 4,096 TSDUs of both sides together. If there is another connection, or one of class 2, the Watch judges
-                    all of them, each up to that much, and a stream is watched on after a break. Each connection takes at most
-                    1 MiB, and the Judge another.
+    --by library    (if the package osi_session is there) each octet is fed once, to a Judge of the library; a break is printed with
+                    the segment that shows it. Each connection is judged up to 196,608 octets, of which a DT counts 48 more than its
+                    user data, and takes at most 1 MiB. If there is more than one connection, a stream is watched on after a break.
     --by program    (else) `osi judge` judges everything that has passed of a stream, at most once in --every seconds, and less
                     often if that takes long. It is judged up to 8,000,000 octets, which are kept.
 
@@ -46,8 +44,6 @@ except ImportError:
     osi_session = None
 
 LONGEST = 8_000_000
-# Why a Judge judges no further, if a Watch does: there is a connection of class 2, or more than one.
-WIDE = ("OTHER_CLASS", "MORE_CONNECTIONS")
 # How many octets wait for a missing segment before it counts as lost, and for how many seconds.
 MOST_WAITING, PATIENCE = 262_144, 30
 # How many octets of a side show which protocol it is; how many streams that are over are remembered, to leave out what is late.
@@ -143,12 +139,12 @@ class Watched:
 
 class Fed(Watched):
     """A stream of which each octet is fed to a judge of the library, and kept no longer. If a segment is missing, what passes waits
-    until it comes. A Judge judges one connection of class 0, and a Watch all others."""
+    until it comes. If there is more than one connection, each break has a line, and judging goes on."""
 
     def __init__(self, stream):
         super().__init__(stream)
         self.judge, self.heard, self.found = osi_session.Judge(), set(), None
-        self.watch, self.is_wide, self.lines, self.has_news = osi_session.Watch(), False, [], False
+        self.is_wide, self.lines, self.has_news = False, [], False
         self.head = {side: [] for side in streams.SIDES}
 
     def look_for_limit(self):
@@ -182,16 +178,14 @@ class Fed(Watched):
                 self.found = "not judged: begins in the middle", None
                 return
         side = osi_session.TapSide(source != self.left)
-        self.lines += [self.event(told, piece) for told in self.watch.feed(side, piece.octets)]
-        for told in () if self.is_wide else self.judge.feed(side, piece.octets):
-            if told.rule.name in WIDE:
-                self.is_wide = True
-                self.judge.close()
-                break
-            self.found = self.found or self.certain(told, piece)
+        told = list(self.judge.feed(side, piece.octets))
+        self.is_wide = self.is_wide or self.judge.connections() > 1
+        self.lines += [self.event(one, piece) for one in told]
+        if told and not self.is_wide:
+            self.found = self.certain(told[0], piece)
 
     def event(self, told, piece):
-        """The line of a verdict of the Watch that became certain with these octets, in the words of `osi judge`."""
+        """The line of a verdict that became certain with these octets, in the words of `osi judge`."""
         on = "" if told.connection is None else f"connection {told.connection}: "
         return f"frame {piece.frame}, {piece.time - self.begin:.6f} seconds: {on}{told}"
 
@@ -237,7 +231,6 @@ class Fed(Watched):
             found = f"not judged: {kind}, not a session", None
         if found:
             self.judge.close()
-            self.watch.close()
         return found
 
 
