@@ -8,9 +8,10 @@ use Rattle.osi_tap.specs.declared.connections.Connection.{Connection}
 use Rattle.osi_tap.specs.declared.rooms.Room.TheVariants.{Octets}
 use Rattle.osi_tap.specs.Connections.{Joined}
 use Rattle.osi_tap.specs.Holding.{HoldsFound}
+use Rattle.osi_tap.specs.Standing.{IsSettled}
 use Rattle.osi_dispute.specs.Reports.{IsReached}
 use Rattle.osi_c.specs.Asking.{HasAsked, ShowsBreak, ShowsOf, ShowsTransport}
-use Rattle.osi_c.specs.Judges.{fed, Keeps}
+use Rattle.osi_c.specs.Judges.{fed, Keeps, Settles}
 use Rattle.osi_c.specs.Notes.{Tells, is_certain}
 use Rattle.osi_c.specs.Verdicts.{Shows}
 use Rattle.osi_c.specs.declared.asking.Asked.{Asked}
@@ -47,6 +48,9 @@ found_some None (Some j) h = absurd h
 found_some (Some c) None h = absurd h
 
 -- ---- after the tap has judged all that passed
+
+pub same_settled : (w : Judge) → IsSettled w.tap → Settles w w
+same_settled w settled = record { keeps = record { knows = λ capture k. k; told = refl; text = refl }; settled = settled }
 
 pub asked_after : (r : Asked) (number : Option ℕ) (d : Direction) (old now : Judge) → Keeps old now → HasAsked r number d now now
     → HasAsked r number d old now

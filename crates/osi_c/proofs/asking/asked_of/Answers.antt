@@ -1,0 +1,12 @@
+use Rattle.std.proofs.Common.{arith}
+use Rattle.osi_c.proofs.what_is_asked_of_a_judge.{same_settled}
+use Rattle.osi_c.proofs.asking.asked_of.Goals as goal
+
+pub returns-in_default : goal.returns-in_default
+returns-in_default c = λ settled. (same_settled c.args.judge.now settled, c.told_of_transport.ensures)
+
+pub returns-then-not-is_numbered : goal.returns-then-not-is_numbered
+returns-then-not-is_numbered c = grind (arith, same_settled)
+
+pub returns : goal.returns
+returns c = grind (arith, same_settled)
