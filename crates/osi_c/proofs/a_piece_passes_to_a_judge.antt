@@ -1,6 +1,7 @@
 -- What passed of a piece, and what is left of it, turn by turn, until all passed or memory ran out. For `pass` and `take_piece`.
 use Rattle.std.proofs.Common.{◌≡◌, ◌∙◌, refl, sym, ap, subst, ℕ, ◌+◌, ◌-◌, arith, length, List, [], ◌∷◌, ◌++◌, take, drop, true}
 use Rattle.std.proofs.Common.{Bool, ◌==◌}
+use Rattle.std.specs.Prelude.{Result, Ok, Err, OnErr}
 use Rattle.std.proofs.lemmas.List.{append-nil, append_assoc, map-append, length-append, take-append-drop}
 use Rattle.std.proofs.Math.Seq.{take-append_seam}
 use Rattle.osi_judge.specs.declared.directions.Direction.{Direction}
@@ -109,6 +110,12 @@ refused d octets rest old now new n is p q =
       passes = both_pass d old now new p.fed [] p.passes q;
     } in
     passed d octets rest old new n r (last_fed p.fed rest n (length octets) is (counted d octets rest old now p))
+
+-- ---- a result
+
+pub on_err : {T E : Type 0} (r : Result T E) (P : Type 0) → P → OnErr r P
+on_err (Ok x) P p = tt
+on_err (Err e) P p = p
 
 -- ---- a list that is empty, or not
 

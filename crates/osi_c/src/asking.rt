@@ -1,6 +1,6 @@
 //! The verdicts on a byte connection that C asks for, by what has passed so far.
 
-ghost use Rattle.std.specs.Prelude.{◌≡◌, IfOk, OnErr};
+ghost use Rattle.std.specs.Prelude.{◌≡◌, Some, IfOk, OnErr};
 ghost use Rattle.osi_tap.specs.Standing.{IsSettled};
 ghost use Rattle.osi_c.specs.Judges.{Keeps, Settles};
 ghost use Rattle.osi_c.specs.Asking.{number_of, HasAsked, IsNumbered, ShowsOf, ShowsTransport, Asks, asking_of};
@@ -66,17 +66,24 @@ pub(crate) enum Asked {
     NoMemory,
 }
 
-/// What is told of the session of a side of a connection, or of its transport, once all that passed is judged.
-fn asked_of(judge: &Judge, number: Option<usize>, direction: Direction) -> Asked
-    ensures { IsSettled judge.now.tap → HasAsked result number direction judge.now judge.now }
+/// What is told of the session of a side of the connection with this number, once all that passed is judged.
+fn asked_at(judge: &Judge, number: usize, direction: Direction) -> Asked
+    ensures { IsSettled judge.now.tap → HasAsked result (Some number) direction judge.now judge.now }
 {
-    let Some(number) = number else {
-        return Asked::Shown(told_of_transport(judge, direction));
-    };
     if !is_numbered(judge, number) {
         return Asked::Unknown;
     }
     Asked::Shown(told_of(judge, Subject::Session(number, direction)))
+}
+
+/// What is told of the session of a side of a connection, or of its transport, once all that passed is judged.
+fn asked_of(judge: &Judge, number: Option<usize>, direction: Direction) -> Asked
+    ensures { IsSettled judge.now.tap → HasAsked result number direction judge.now judge.now }
+{
+    match number {
+        None => Asked::Shown(told_of_transport(judge, direction)),
+        Some(number) => asked_at(judge, number, direction),
+    }
 }
 
 /// The same.

@@ -1,6 +1,6 @@
 //! The verdicts on a byte connection that C fetches.
 
-ghost use Rattle.std.specs.Prelude.{◌≡◌, Some, IfSome, IfNone};
+ghost use Rattle.std.specs.Prelude.{◌≡◌, false, Some, IfSome, IfNone};
 ghost use Rattle.osi_tap.specs.Standing.{IsSettled, first_in};
 ghost use Rattle.osi_c.specs.Subjects.{leading};
 ghost use Rattle.osi_c.specs.Fetching.{HasNoneBy, HasNoneByEach};

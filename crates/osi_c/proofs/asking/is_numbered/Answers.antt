@@ -7,5 +7,8 @@ use Rattle.osi_c.proofs.asking.is_numbered.Goals as goal
 
 pub returns : goal.returns
 returns c = λ settled capture k.
-    grind (arith, found_some (option_copied c.connection.result) (numbered c.args.number (fed capture).course.sessions)
-    (c.connection.ensures.held (fed capture) k.holds settled.judged))
+    grind (
+      arith,
+      found_some (option_copied c.connection.result) (numbered c.args.number (fed capture).course.sessions)
+          (c.connection.ensures.held (fed capture) k.holds settled.judged),
+    )
