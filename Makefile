@@ -22,7 +22,7 @@
 # too, and runs both against programs of others (docs/INTEROP.md); make slow-peers and make scaling run them against peers
 # that are slow or silent, and in several processes. make soak MESSAGES=200000: so many messages in each row of a table.
 # make witnesses: builds the program and the library, and plays the scripts of osi judge --script (docs/JUDGING.md).
-# make two-judges: builds the same, and compares osi judge with a watch on damaged captures (docs/TRIALS.md).
+# make two-judges: builds the same, and compares osi judge with the library on damaged captures (docs/TRIALS.md).
 # make ladders: draws the pictures of docs/ladders from examples/ladders (docs/LADDERS.md); make ladders-check runs the
 # tests of the programs in tools/ (these, and osi-capture), and compares.
 # make pages: checks the links, limits and commands of the pages; it proves and builds nothing (scripts/pages).

@@ -25,8 +25,6 @@ struct alignments {
     struct { char c; osi_counters at; } osi_counters;
     struct { char c; osi_judge at; } osi_judge;
     struct { char c; osi_verdict at; } osi_verdict;
-    struct { char c; osi_watch at; } osi_watch;
-    struct { char c; osi_watch_verdict at; } osi_watch_verdict;
 };
 
 #define ALIGNMENT(type) (offsetof(struct alignments, type.at) - offsetof(struct alignments, type))
@@ -132,24 +130,14 @@ static void judging(void)
     FIELD(osi_judge, inner);
     STRUCT(osi_verdict);
     FIELD(osi_verdict, offset);
+    FIELD(osi_verdict, connection);
     FIELD(osi_verdict, kind);
     FIELD(osi_verdict, side);
+    FIELD(osi_verdict, by);
     FIELD(osi_verdict, rule);
     FIELD(osi_verdict, said);
-    FIELD(osi_verdict, reference);
-    STRUCT(osi_watch);
-    FIELD(osi_watch, full);
-    FIELD(osi_watch, inner);
-    STRUCT(osi_watch_verdict);
-    FIELD(osi_watch_verdict, offset);
-    FIELD(osi_watch_verdict, connection);
-    FIELD(osi_watch_verdict, kind);
-    FIELD(osi_watch_verdict, side);
-    FIELD(osi_watch_verdict, by);
-    FIELD(osi_watch_verdict, rule);
-    FIELD(osi_watch_verdict, said);
-    FIELD(osi_watch_verdict, left);
-    FIELD(osi_watch_verdict, right);
+    FIELD(osi_verdict, left);
+    FIELD(osi_verdict, right);
 }
 
 static void verdicts(void)
@@ -186,9 +174,6 @@ static void verdicts(void)
     VALUE(OSI_RULE_BAD_CONCATENATION);
     VALUE(OSI_RULE_TRAILING_OCTETS);
     VALUE(OSI_RULE_NO_OPENING);
-    VALUE(OSI_RULE_OTHER_CLASS);
-    VALUE(OSI_RULE_MORE_CONNECTIONS);
-    VALUE(OSI_RULE_REFUSED);
     VALUE(OSI_RULE_BAD_VERSION);
     VALUE(OSI_RULE_BAD_LENGTH);
     VALUE(OSI_RULE_BAD_LI);
@@ -240,7 +225,7 @@ static void verdicts(void)
     VALUE(OSI_SAID_TRANSPORT_DC);
     VALUE(OSI_SAID_TRANSPORT_AK);
     VALUE(OSI_SAID_TRANSPORT_ER);
-    VALUE(OSI_WATCH_VERDICT_TEXT);
+    VALUE(OSI_VERDICT_TEXT);
 }
 
 static void trace(void)

@@ -277,7 +277,7 @@ def counters():
 
 
 class Judge:
-    """A judge that is fed these pieces, each with its side."""
+    """A judge of a byte connection that is fed these pieces, each with its side."""
 
     def __init__(self, *pieces):
         self.slot = ctypes.create_string_buffer(ROOM)
@@ -289,80 +289,30 @@ class Judge:
     def __del__(self):
         library.osi_judge_free(self.slot)
 
-    def shown(self, side):
-        return written(lambda into: library.osi_judge_verdict(self.slot, side, into))
+    def shown(self, connection, side):
+        return written(lambda into: library.osi_judge_verdict(self.slot, ctypes.c_uint64(connection), side, into))
 
 
 def verdicts():
-    """The calling side sends data without a token; the called side sends no packet; a side that begins in the middle."""
-    opening = [(0, bytes.fromhex("0300000e09e00000000100c0010a")), (1, bytes.fromhex("0300000e09d00001123400c0010a"))]
-    session = "0300001b02f0800{}12050c1301011601021701311a0100140200b9"
-    opening += [(0, bytes.fromhex(session.format("d"))), (1, bytes.fromhex(session.format("e")))]
-    data, noise = bytes.fromhex("0300000c02f0800100010041"), bytes(4)
-    broken, begun = Judge(*opening, (1, data)), Judge(*opening[:2], (1, noise))
-    runs = [broken.shown(1), broken.shown(0), begun.shown(1), Judge(opening[1]).shown(1), Judge((0, opening[1][1])).shown(0)]
-    say_struct("osi_verdict", runs, 8)
-    say_fields("osi_verdict", runs, {
-        "offset": (8, [41, 0, 14, 0, 0]),
-        "kind": (4, [2, 1, 2, 1, 5]),
-        "side": (4, [1, 0, 1, 1, 0]),
-        "rule": (4, [14, 0, 54, 0, 50]),
-        "said": (4, [4, 0, 19, 0, 20]),
-        "reference": (2, [0x1234, 1, 0x1234, 0x1234, 0]),
-    })
-
-
-# ---- watches
-
-
-class Watch:
-    """A watch of a byte connection that is fed these pieces, each with its side."""
-
-    def __init__(self, *pieces):
-        self.slot = ctypes.create_string_buffer(ROOM)
-        need(library.osi_watch_new(self.slot) == 0, "osi_watch_new is refused")
-        for side, octets in pieces:
-            used = ctypes.create_string_buffer(ROOM)
-            need(library.osi_watch_feed(self.slot, side, octets, size_t(len(octets)), used) == 0, "osi_watch_feed is refused")
-
-    def __del__(self):
-        library.osi_watch_free(self.slot)
-
-    def next(self, into):
-        return library.osi_watch_next(self.slot, into)
-
-
-def told(pieces, skipped=0):
-    """A verdict on these pieces, after so many others. It is given once, so each call has a watch of its own."""
-    def call(into):
-        watch = Watch(*pieces)
-        for _ in range(skipped):
-            watch.next(ctypes.create_string_buffer(ROOM))
-        watch.next(into)
-
-    return written(call)
-
-
-def watch_verdicts():
     """The called side sends data without a token, and no packet; and both sides of what begins in the middle."""
     opening = [(0, bytes.fromhex("0300000e09e00000000100c0010a")), (1, bytes.fromhex("0300000e09d00001123400c0010a"))]
     session = "0300001b02f0800{}12050c1301011601021701311a0100140200b9"
     opening += [(0, bytes.fromhex(session.format("d"))), (1, bytes.fromhex(session.format("e")))]
     data, noise = bytes.fromhex("0300000c02f0800100010041"), bytes(4)
-    middle = [(0, opening[1][1])]
-    runs = [told([*opening, (1, data)]), told([*opening[:2], (1, noise)]), told(middle), told(middle, 1)]
     none = 2 ** 64 - 1
-    say_struct("osi_watch_verdict", runs, 8)
-    say_fields("osi_watch_verdict", runs, {
-        "offset": (8, [41, 14, 0, 0]),
-        "connection": (8, [0, none, none, none]),
-        "kind": (4, [2, 2, 5, 5]),
-        "side": (4, [1, 1, 0, 1]),
-        "by": (4, [1, 1, 0, 0]),
-        "rule": (4, [14, 54, 50, 50]),
-        "said": (4, [4, 19, 24, 24]),
-        "left": (2, [1, 0, 0, 0]),
-        "right": (2, [0x1234, 0, 0, 0]),
+    broken, begun, middle = Judge(*opening, (1, data)), Judge(*opening[:2], (1, noise)), Judge((0, opening[1][1]))
+    runs = [broken.shown(0, 1), broken.shown(0, 0), begun.shown(none, 1), middle.shown(none, 0), middle.shown(none, 1)]
+    say_struct("osi_verdict", runs, 8)
+    say_fields("osi_verdict", runs, {
+        "offset": (8, [41, 0, 14, 0, 0]),
+        "connection": (8, [0, 0, none, none, none]),
+        "kind": (4, [2, 1, 2, 5, 5]),
+        "side": (4, [1, 0, 1, 0, 1]),
+        "by": (4, [1, 0, 1, 0, 0]),
+        "rule": (4, [14, 0, 54, 50, 50]),
+        "said": (4, [4, 0, 19, 24, 24]),
+        "left": (2, [1, 1, 0, 0, 0]),
+        "right": (2, [0x1234, 0x1234, 0, 0, 0]),
     })
 
 
@@ -439,8 +389,6 @@ def main():
     counters()
     slot("osi_judge", [Judge(), Judge()])
     verdicts()
-    slot("osi_watch", [Watch(), Watch()])
-    watch_verdicts()
 
 
 main()

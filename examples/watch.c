@@ -1,12 +1,11 @@
 /*
- * Watches a connection between two other programs, and prints a verdict as soon as it is certain; at the end, what `osi judge`
+ * Watches a byte connection between two other programs, and prints a verdict as soon as it is certain; at the end, what `osi judge`
  * prints. Its input is what a tap writes: a line of hexadecimal digits for each piece, in the order in which the pieces passed.
  * A line that begins with a tab is of the side that was called, and one that begins with # is a comment.
  *
  *     cc -std=c99 $(pkg-config --cflags osi-session) watch.c $(pkg-config --libs osi-session) -o watch
  *     ./watch < disputes/restart.follow
  */
-#include <inttypes.h>
 #include <osi.h>
 #include <stdio.h>
 
@@ -21,16 +20,18 @@ struct piece {
 static bool feed(osi_judge *judge, const struct piece *piece)
 {
     osi_verdict verdict;
+    char line[OSI_VERDICT_TEXT];
     size_t used; /* less than the length if memory ran out: feed the others again when there is some */
     if (osi_judge_feed(judge, piece->side, piece->octets, piece->length, &used) != OSI_OK)
         return false;
-    while (osi_judge_next(judge, &verdict))
-        printf("%s, packet %" PRIu64 ": %s %s\n", verdict.side == OSI_LEFT ? "left" : "right", verdict.offset,
-               osi_said_name(verdict.said), osi_rule_name(verdict.rule));
+    while (osi_judge_next(judge, &verdict) == OSI_OK) {
+        osi_verdict_text(&verdict, line, sizeof line);
+        puts(line);
+    }
     return true;
 }
 
-/* Prints the verdict on all that has passed, in the lines of `osi judge`. */
+/* Prints the verdict on all that has passed: what `osi judge` prints for it. */
 static void print_text(osi_judge *judge)
 {
     osi_octets text;

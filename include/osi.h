@@ -50,10 +50,10 @@
 
 /* The version of this header. The soname of the library has the first number, and the second too while
  * the first is 0, so a program loads only a library that fits the header it was compiled with. */
-#define OSI_VERSION "0.1.1-dev"
+#define OSI_VERSION "0.2.0-dev"
 
 /* The same as a number, for #if: 10,000 times the first, plus 100 times the second, plus the third. */
-#define OSI_VERSION_NUM 101
+#define OSI_VERSION_NUM 200
 
 /* Marks a function whose answer you have to look at, because even a correct program's call may be refused
  * or find no indication. GCC and Clang warn about a call that ignores it. */
@@ -93,8 +93,8 @@ typedef struct osi_end {
 #define OSI_BAD_ARGUMENT 2u         /* a number or a length is outside its range */
 #define OSI_NO_MEMORY 3u            /* malloc or realloc failed; call again when there is memory */
 #define OSI_IN_USE 4u               /* the slot holds an end already: free it first */
-#define OSI_NOTHING 5u              /* no indication is pending; there are no addresses */
-#define OSI_NO_SUCH_CONNECTION 10u  /* this end never gave the reference */
+#define OSI_NOTHING 5u              /* no indication is pending; there are no addresses; no verdict is due */
+#define OSI_NO_SUCH_CONNECTION 10u  /* this end never gave the reference; a judge knows no such number */
 #define OSI_ENDED 11u               /* the connection, or the end, is over */
 #define OSI_BAD_STATE 12u           /* the call is not allowed in this phase (X.225 annex A) */
 #define OSI_NOT_SELECTED 13u        /* a functional unit or token isn't available, or units can't be combined */
@@ -575,22 +575,25 @@ typedef struct osi_counters {
  * end stays as it is. */
 void osi_counts(osi_end *end, osi_counters *shown);
 
-/* ---- judging a connection that passes --------------------------------------------------------------------
- * A judge watches a connection between two other programs, and says which side first sent what no
- * conforming end could have sent there (docs/JUDGING.md), piece by piece. It needs no osi_end. It judges one
- * connection of class 0, and of transport what it needs for that: no sizes, and of references only those of a
- * DC. An osi_watch (below) judges all of transport.
+/* ---- judging a byte connection that passes ---------------------------------------------------------------
+ * A judge watches a byte connection between two other programs, and says which side first sent what no
+ * conforming end could have sent there (docs/JUDGING.md). It needs no osi_end. It judges both classes of
+ * transport and any number of connections: the transport of each side, and the session of each side of each
+ * connection. It says what `osi judge` says, while the octets pass.
  *
  *     osi_judge judge = OSI_JUDGE;
  *     osi_verdict verdict;
+ *     char line[OSI_VERDICT_TEXT];
  *     size_t used;
  *     if (osi_judge_new(&judge))
  *         return 1;                             // OSI_NO_MEMORY
  *     while (next_piece(&side, &piece, &length)) {
  *         if (osi_judge_feed(&judge, side, piece, length, &used))
  *             return 1;                         // OSI_NO_MEMORY: feed the rest again
- *         while (osi_judge_next(&judge, &verdict))
- *             printf("%u: %s\n", verdict.side, osi_rule_name(verdict.rule));
+ *         while (osi_judge_next(&judge, &verdict) == OSI_OK) {
+ *             osi_verdict_text(&verdict, line, sizeof line);
+ *             puts(line);                       // left 1 broke packet 143 Data TokenNotHeld
+ *         }
  *     }
  *     osi_judge_free(&judge);
  *
@@ -599,7 +602,7 @@ void osi_counts(osi_end *end, osi_counters *shown);
  * the next call with it.
  */
 
-/* A slot that holds the judge of one connection, or none. */
+/* A slot that holds the judge of a byte connection, or none. */
 typedef struct osi_judge {
     bool full;
     struct {
@@ -618,10 +621,10 @@ typedef struct osi_judge {
 #define OSI_LEFT 0u  /* the side that opened the byte connection, and sent the CR */
 #define OSI_RIGHT 1u /* the other side */
 
-/* What a verdict says of a side. OSI_VERDICT_KEPT may change while octets pass. The others may change only to
+/* What a verdict says. OSI_VERDICT_KEPT may change while octets pass. The others may change only to
  * OSI_VERDICT_NONE, if the other side leaves the profile. */
-#define OSI_VERDICT_NONE 0u       /* nothing: the other side left the profile before */
-#define OSI_VERDICT_KEPT 1u       /* all that it sent so far is what a conforming end may send */
+#define OSI_VERDICT_NONE 0u       /* nothing: the other side of the connection left the profile */
+#define OSI_VERDICT_KEPT 1u       /* all that was judged of it is what a conforming end may send */
 #define OSI_VERDICT_BROKE 2u      /* it broke the protocol: said, rule, offset */
 #define OSI_VERDICT_LEAVES 3u     /* it sent what X.225 allows and this product leaves out: said, offset */
 #define OSI_VERDICT_TOO_MANY 4u   /* more than 4,096 sessions explain it, so it is judged no further */
@@ -653,9 +656,6 @@ typedef struct osi_judge {
 #define OSI_RULE_BAD_CONCATENATION 45u
 #define OSI_RULE_TRAILING_OCTETS 46u
 #define OSI_RULE_NO_OPENING 50u             /* no break: it begins in the middle of a connection */
-#define OSI_RULE_OTHER_CLASS 51u            /* no break: the connection is not of class 0 */
-#define OSI_RULE_MORE_CONNECTIONS 52u       /* no break: a second CR */
-#define OSI_RULE_REFUSED 53u                /* no break: a refusal; it comes in no verdict */
 #define OSI_RULE_BAD_VERSION 54u            /* 54 and 55: no packet begins there (RFC 1006 section 6) */
 #define OSI_RULE_BAD_LENGTH 55u
 #define OSI_RULE_BAD_LI 56u                 /* 56 to 60: no transport unit (X.224 section 13) */
@@ -666,9 +666,8 @@ typedef struct osi_judge {
 #define OSI_RULE_UNEXPECTED_UNIT 61u        /* a unit that has no place there, as data before the CC */
 #define OSI_RULE_WRONG_FORM 62u             /* a DR that refuses no CR */
 #define OSI_RULE_TSDU_TOO_LONG 63u          /* more than 1,048,576 octets */
-#define OSI_RULE_LIMIT 70u                  /* no break: more passed than a judge keeps */
+#define OSI_RULE_LIMIT 70u                  /* no break: more was to be kept of a connection than a judge keeps */
 #define OSI_RULE_TOO_MANY_CONNECTIONS 71u   /* no break: over 128 connections at once, or nobody can tell */
-/* 80 to 90: rules of transport (X.224), which only an osi_watch tells. */
 #define OSI_RULE_ONE_CONNECTION 80u         /* a CR in class 0, which has one connection */
 #define OSI_RULE_NEGOTIATING 81u            /* a CR while another is unanswered and the class is not known */
 #define OSI_RULE_REFERENCE_IN_USE 82u       /* a reference that its sender has given another connection */
@@ -711,17 +710,23 @@ typedef struct osi_judge {
 #define OSI_SAID_TRANSPORT_AK 26u /* an AK of the transport */
 #define OSI_SAID_TRANSPORT_ER 27u /* an ER of the transport */
 
-/* A verdict on a side. */
+/* In place of the number of a connection: the transport of a side, which is of no single connection. */
+#define OSI_NO_CONNECTION UINT64_MAX
+
+/* A verdict on a side of a byte connection. */
 typedef struct osi_verdict {
-    uint64_t offset;    /* of the packet in its direction, from 0; a TSDU has that of its last packet */
-    uint32_t kind;      /* OSI_VERDICT_* */
-    uint32_t side;      /* OSI_LEFT or OSI_RIGHT */
-    uint32_t rule;      /* OSI_RULE_*, or a code of a call */
-    uint32_t said;      /* OSI_SAID_* */
-    uint16_t reference; /* the reference that this side gave the connection; 0 if it gave none so far */
+    uint64_t offset;     /* of the packet, in the direction of `by`, from 0; a TSDU has that of its last packet */
+    uint64_t connection; /* its number in the order of the CRs, from 0; or OSI_NO_CONNECTION */
+    uint32_t kind;       /* OSI_VERDICT_* */
+    uint32_t side;       /* OSI_LEFT or OSI_RIGHT */
+    uint32_t by;         /* the side that sent the packet: the other one may, if nothing more of both is judged */
+    uint32_t rule;       /* OSI_RULE_*, or a code of a call */
+    uint32_t said;       /* OSI_SAID_* */
+    uint16_t left;       /* the reference that left gave the connection; 0 if it gave none */
+    uint16_t right;      /* the same of right */
 } osi_verdict;
 
-/* Makes a judge of a connection on which nothing has passed. OSI_OK, OSI_IN_USE, OSI_NO_MEMORY. */
+/* Makes a judge of a byte connection on which nothing has passed. OSI_OK, OSI_IN_USE, OSI_NO_MEMORY. */
 uint32_t osi_judge_new(osi_judge *judge) OSI_LOOK;
 
 /* Frees the judge that the slot holds, if any, with the text that it has lent. */
@@ -732,98 +737,11 @@ void osi_judge_free(osi_judge *judge);
  * side), OSI_SLOT_EMPTY and OSI_NO_MEMORY. After OSI_NO_MEMORY the first *used octets have passed: feed the
  * others again when there is memory. After the other two none has.
  *
- * A judge keeps the TSDUs that passed, in at most 1 MiB: those of 196,608 octets of both sides together,
- * and no more than 4,096 of them. What passes after that is not judged, and the verdict on a side that was
- * kept until then is OSI_VERDICT_NOT_JUDGED with OSI_RULE_LIMIT. */
-uint32_t osi_judge_feed(osi_judge *judge, uint32_t side, const uint8_t *piece, size_t length, size_t *used) OSI_LOOK;
-
-/* Writes a verdict that is certain to *verdict, and answers whether there was one. It gives at most one
- * verdict on each side, that on the side that broke the protocol first before the other, and never
- * OSI_VERDICT_KEPT. If there is none, the struct is all 0. */
-bool osi_judge_next(osi_judge *judge, osi_verdict *verdict) OSI_LOOK;
-
-/* Writes the verdict on a side by what has passed so far to *verdict, whether it is certain or not. If the
- * connection is over, OSI_VERDICT_KEPT is final. The judge stays as it is. OSI_OK, or the first that applies
- * of OSI_BAD_ARGUMENT (no side; the struct is all 0) and OSI_SLOT_EMPTY (the same). */
-uint32_t osi_judge_verdict(osi_judge *judge, uint32_t side, osi_verdict *verdict);
-
-/* Writes the text of the verdict on what has passed so far, in the lines of `osi judge`, which osi_judge_text
- * then lends. OSI_OK, OSI_SLOT_EMPTY, OSI_NO_MEMORY (the text that was written before is still there). */
-uint32_t osi_judge_write(osi_judge *judge) OSI_LOOK;
-
-/* Lends the text that was written last, its lines each with a line feed; no octets if there is none. It is
- * valid until the next call with this judge. */
-void osi_judge_text(osi_judge *judge, osi_octets *text);
-
-/* ---- watching all connections of a byte connection -------------------------------------------------------
- * An osi_watch judges both classes of transport and any number of connections on one byte connection: the
- * transport of each side, and the session of each side of each connection (docs/JUDGING.md). Each verdict
- * names its connection and its side.
- *
- *     osi_watch watch = OSI_WATCH;
- *     osi_watch_verdict verdict;
- *     char line[OSI_WATCH_VERDICT_TEXT];
- *     size_t used;
- *     if (osi_watch_new(&watch))
- *         return 1;                             // OSI_NO_MEMORY
- *     while (next_piece(&side, &piece, &length)) {
- *         if (osi_watch_feed(&watch, side, piece, length, &used))
- *             return 1;                         // OSI_NO_MEMORY: feed the rest again
- *         while (osi_watch_next(&watch, &verdict) == OSI_OK) {
- *             osi_watch_verdict_text(&verdict, line, sizeof line);
- *             puts(line);                       // left 1 broke packet 143 Data TokenNotHeld
- *         }
- *     }
- *     osi_watch_free(&watch);
- *
- * What the caller owes is what he owes to an osi_judge. */
-
-/* A slot that holds the watch of a byte connection, or none. */
-typedef struct osi_watch {
-    bool full;
-    struct {
-        void *at;
-    } inner;
-} osi_watch;
-
-/* An empty slot. Each slot begins as this. */
-#ifdef __cplusplus
-#define OSI_WATCH { false, { nullptr } }
-#else
-#define OSI_WATCH { false, { NULL } }
-#endif
-
-/* In place of the number of a connection: the verdict is of no single one. */
-#define OSI_NO_CONNECTION UINT64_MAX
-
-/* A verdict on a side of a byte connection. */
-typedef struct osi_watch_verdict {
-    uint64_t offset;     /* of the packet, in the direction of `by`, from 0; a TSDU has that of its last packet */
-    uint64_t connection; /* its number in the order of the CRs, from 0; or OSI_NO_CONNECTION */
-    uint32_t kind;       /* OSI_VERDICT_* */
-    uint32_t side;       /* OSI_LEFT or OSI_RIGHT */
-    uint32_t by;         /* the side that sent the packet: the other one may, if nothing more of both is judged */
-    uint32_t rule;       /* OSI_RULE_*, or a code of a call */
-    uint32_t said;       /* OSI_SAID_* */
-    uint16_t left;       /* the reference that left gave the connection; 0 if it gave none */
-    uint16_t right;      /* the same of right */
-} osi_watch_verdict;
-
-/* Makes a watch of a byte connection on which nothing has passed. OSI_OK, OSI_IN_USE, OSI_NO_MEMORY. */
-uint32_t osi_watch_new(osi_watch *watch) OSI_LOOK;
-
-/* Frees the watch that the slot holds, if any. */
-void osi_watch_free(osi_watch *watch);
-
-/* Feeds octets of a side, as osi_judge_feed does: OSI_OK, or the first that applies of OSI_BAD_ARGUMENT (no
- * side), OSI_SLOT_EMPTY and OSI_NO_MEMORY. After OSI_NO_MEMORY the first *used octets have passed: feed the
- * others again when there is memory. After the other two none has.
- *
- * Of each connection a watch keeps the TSDUs that passed, in at most 1 MiB. A DT counts the octets of its
+ * Of each connection a judge keeps the TSDUs that passed, in at most 1 MiB. A DT counts the octets of its
  * user data and 48 more, and 196,608 are judged. What passes on the connection after that is not judged, and
  * the verdict on a side that was kept until then is OSI_VERDICT_NOT_JUDGED with OSI_RULE_LIMIT. What is kept
- * of a connection stays until osi_watch_free, also if the connection is over. */
-uint32_t osi_watch_feed(osi_watch *watch, uint32_t side, const uint8_t *piece, size_t length, size_t *used) OSI_LOOK;
+ * of a connection stays until osi_judge_free, also if the connection is over. */
+uint32_t osi_judge_feed(osi_judge *judge, uint32_t side, const uint8_t *piece, size_t length, size_t *used) OSI_LOOK;
 
 /* Writes a verdict that is certain to *verdict: OSI_OK. If there is none the struct is all 0: OSI_NOTHING; or
  * OSI_SLOT_EMPTY, OSI_NO_MEMORY (make the call again when there is memory). Each verdict is given once, and
@@ -832,26 +750,52 @@ uint32_t osi_watch_feed(osi_watch *watch, uint32_t side, const uint8_t *piece, s
  *
  *   the session of a side of a connection: it broke the protocol, left the profile, or is judged no further;
  *   the transport of a side: where it first broke a rule or left the profile;
- *   a side of which nothing more is judged, OSI_VERDICT_NOT_JUDGED: the packet after which that is so. */
-uint32_t osi_watch_next(osi_watch *watch, osi_watch_verdict *verdict) OSI_LOOK;
-
-/* Writes a verdict of a watch as a line of text, in the words of `osi judge`:
+ *   a side of which nothing more is judged, OSI_VERDICT_NOT_JUDGED: the packet after which that is so.
  *
- *   left 1 broke packet 143 Data TokenNotHeld                   a session: its side, and that side's reference
+ * What right sends before the first packet of left is certain once that packet has passed: if it is no CR,
+ * nothing is judged, since the capture begins in the middle of a connection (OSI_RULE_NO_OPENING). */
+uint32_t osi_judge_next(osi_judge *judge, osi_verdict *verdict) OSI_LOOK;
+
+/* Writes the verdict by what has passed so far to *verdict, whether it is certain or not: that on the session
+ * of a side of the connection with this number, or, with OSI_NO_CONNECTION, that on the transport of a side:
+ * its first break, else the packet after which nothing more of it is judged, else OSI_VERDICT_KEPT. No verdict
+ * is taken from osi_judge_next. OSI_OK, or with a struct that is all 0 the first that applies of
+ * OSI_BAD_ARGUMENT (no side), OSI_SLOT_EMPTY, OSI_NO_MEMORY (make the call again when there is memory) and
+ * OSI_NO_SUCH_CONNECTION (none has this number so far). */
+uint32_t osi_judge_verdict(osi_judge *judge, uint64_t connection, uint32_t side, osi_verdict *verdict) OSI_LOOK;
+
+/* Writes to *connections how many connections were requested so far. Their numbers are 0 to one less. OSI_OK,
+ * or with a count of 0 OSI_SLOT_EMPTY and OSI_NO_MEMORY (make the call again when there is memory). */
+uint32_t osi_judge_connections(osi_judge *judge, uint64_t *connections) OSI_LOOK;
+
+/* Writes the text of the verdict on all that has passed so far, which osi_judge_text then lends: what `osi judge`
+ * prints for it. Its last line is "both kept the protocol" only if all that passed was judged. OSI_OK,
+ * OSI_SLOT_EMPTY, OSI_NO_MEMORY (the text that was written before is still there). */
+uint32_t osi_judge_write(osi_judge *judge) OSI_LOOK;
+
+/* Lends the text that was written last, its lines each with a line feed; no octets if there is none. It is
+ * valid until the next call with this judge. */
+void osi_judge_text(osi_judge *judge, osi_octets *text);
+
+/* Writes a verdict as a line of text, in the words of `osi judge`:
+ *
+ *   left 1 kept                                                 a session: its side, and that side's reference
+ *   left 1 broke packet 143 Data TokenNotHeld
  *   left 1 leaves packet 143 Restart Outside
  *   left 1 too many                                             more than 4,096 sessions explain it
  *   left 1 not judged Limit
- *   right broke packet 92 CC ReferenceInUse                     the transport of a side
+ *   right kept                                                  the transport of a side
+ *   right broke packet 92 CC ReferenceInUse
  *   left not judged after right packet 92 CC ReferenceInUse     a side of which nothing more is judged
  *
  * The line has no line feed, and a 0 octet after it. Returns its length without the 0; a buffer of
- * OSI_WATCH_VERDICT_TEXT octets holds any line. If size is smaller, as much of the line as fits is written,
- * with a 0 octet after it; if size is 0, nothing is, and the text may be null. A verdict that is all 0, and
- * OSI_VERDICT_KEPT, give no text. No memory is taken, and no watch is needed. */
-size_t osi_watch_verdict_text(const osi_watch_verdict *verdict, char *text, size_t size);
+ * OSI_VERDICT_TEXT octets holds any line. If size is smaller, as much of the line as fits is written, with a
+ * 0 octet after it; if size is 0, nothing is, and the text may be null. A verdict of the kind
+ * OSI_VERDICT_NONE gives no text. No memory is taken, and no judge is needed. */
+size_t osi_verdict_text(const osi_verdict *verdict, char *text, size_t size);
 
 /* A buffer of so many octets holds the line of any verdict, with the 0 octet after it. */
-#define OSI_WATCH_VERDICT_TEXT 96u
+#define OSI_VERDICT_TEXT 96u
 
 /* ---- names ------------------------------------------------------------------------------------------- */
 

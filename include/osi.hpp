@@ -589,17 +589,17 @@ constexpr std::string_view text(phase stands) noexcept
     return "a phase without a name";
 }
 
-/* A side of a connection that a judge watches: left opened the byte connection, and sent the CR. */
+/* A side of a byte connection that a judge watches: left opened the byte connection, and sent the CR. */
 enum class tap_side : std::uint32_t {
     left = OSI_LEFT,
     right = OSI_RIGHT,
 };
 
-/* What a verdict says of a side. `kept` may change while octets pass. The others may change only to `none`, if the
+/* What a verdict says. `kept` may change while octets pass. The others may change only to `none`, if the
  * other side leaves the profile. */
 enum class verdict_kind : std::uint32_t {
-    none = OSI_VERDICT_NONE,             /* nothing: the other side left the profile before */
-    kept = OSI_VERDICT_KEPT,             /* all that it sent so far is what a conforming end may send */
+    none = OSI_VERDICT_NONE,             /* nothing: the other side of the connection left the profile */
+    kept = OSI_VERDICT_KEPT,             /* all that was judged of it is what a conforming end may send */
     broke = OSI_VERDICT_BROKE,           /* it broke the protocol: said, rule, offset */
     leaves = OSI_VERDICT_LEAVES,         /* it sent what X.225 allows and this product leaves out */
     too_many = OSI_VERDICT_TOO_MANY,     /* more than 4,096 sessions explain it: judged no further */
@@ -632,9 +632,6 @@ enum class rule : std::uint32_t {
     bad_concatenation = OSI_RULE_BAD_CONCATENATION,
     trailing_octets = OSI_RULE_TRAILING_OCTETS,
     no_opening = OSI_RULE_NO_OPENING,             /* no break: it begins in the middle of a connection */
-    other_class = OSI_RULE_OTHER_CLASS,           /* no break: the connection is not of class 0 */
-    more_connections = OSI_RULE_MORE_CONNECTIONS, /* no break: a second CR */
-    refused = OSI_RULE_REFUSED,                   /* in no verdict */
     bad_version = OSI_RULE_BAD_VERSION,           /* this one and the next: no packet begins there */
     bad_length = OSI_RULE_BAD_LENGTH,
     bad_li = OSI_RULE_BAD_LI,                     /* this one and the next four: no transport unit */
@@ -645,9 +642,9 @@ enum class rule : std::uint32_t {
     unexpected_unit = OSI_RULE_UNEXPECTED_UNIT,
     wrong_form = OSI_RULE_WRONG_FORM,
     tsdu_too_long = OSI_RULE_TSDU_TOO_LONG,
-    limit = OSI_RULE_LIMIT,                       /* no break: more passed than a judge keeps */
+    limit = OSI_RULE_LIMIT,                       /* no break: more was to be kept than a judge keeps */
     too_many_connections = OSI_RULE_TOO_MANY_CONNECTIONS, /* no break: over 128 connections, or nobody can tell */
-    one_connection = OSI_RULE_ONE_CONNECTION,     /* this one and the others: rules of transport, of a watch alone */
+    one_connection = OSI_RULE_ONE_CONNECTION,     /* this one and the others: rules of transport */
     negotiating = OSI_RULE_NEGOTIATING,
     reference_in_use = OSI_RULE_REFERENCE_IN_USE,
     unknown_reference = OSI_RULE_UNKNOWN_REFERENCE,
@@ -692,18 +689,8 @@ enum class said : std::uint32_t {
     transport_er = OSI_SAID_TRANSPORT_ER,
 };
 
-/* A verdict on a side. */
-struct verdict {
-    tap_side side = tap_side::left;
-    verdict_kind kind = verdict_kind::none;
-    osi::said said = osi::said::nothing;
-    osi::rule rule = osi::rule::none;
-    std::uint64_t offset = 0;     /* of the packet in its direction, from 0; a TSDU has that of its last packet */
-    osi::reference reference = 0; /* the reference that this side gave the connection; 0 if it gave none so far */
-};
-
 /* A verdict on a side of a byte connection. */
-struct watch_verdict {
+struct verdict {
     tap_side side = tap_side::left;
     verdict_kind kind = verdict_kind::none;
     osi::said said = osi::said::nothing;
@@ -715,26 +702,26 @@ struct watch_verdict {
     osi::reference right = 0;                /* the same of right */
 };
 
-/* A verdict of a watch as a line of text, in the words of `osi judge`, without a line feed; osi.h lists the forms. It takes no
+/* A verdict as a line of text, in the words of `osi judge`, without a line feed; osi.h lists the forms. It takes no
  * memory.
  *
  *     std::cout << osi::verdict_line(verdict).text() << '\n';    // left 1 broke packet 143 Data TokenNotHeld
  */
 class verdict_line {
 public:
-    explicit verdict_line(const watch_verdict &v) noexcept
+    explicit verdict_line(const verdict &v) noexcept
     {
-        const osi_watch_verdict passed = {v.offset, v.connection.value_or(OSI_NO_CONNECTION), detail::bits(v.kind),
-                                          detail::bits(v.side), detail::bits(v.by), detail::bits(v.rule),
-                                          detail::bits(v.said), v.left, v.right};
-        length_ = osi_watch_verdict_text(&passed, text_, sizeof text_);
+        const osi_verdict passed = {v.offset, v.connection.value_or(OSI_NO_CONNECTION), detail::bits(v.kind),
+                                    detail::bits(v.side), detail::bits(v.by), detail::bits(v.rule),
+                                    detail::bits(v.said), v.left, v.right};
+        length_ = osi_verdict_text(&passed, text_, sizeof text_);
     }
 
     /* It is valid as long as the object is. */
     std::string_view text() const noexcept { return {text_, length_}; }
 
 private:
-    char text_[OSI_WATCH_VERDICT_TEXT];
+    char text_[OSI_VERDICT_TEXT];
     std::size_t length_;
 };
 
@@ -1202,20 +1189,30 @@ private:
     std::unique_ptr<slot> slot_;
 };
 
-/* ---- what passes between two other programs -------------------------------------------------------------- */
+/* ---- the judge of a byte connection that passes ---------------------------------------------------------- */
 
-namespace detail {
-
-/* What osi::judge and osi::watch have in common: each holds one of its kind, in a slot of osi.h, or none. */
-template <class Own, class Slot, auto begins, auto frees, auto feeds>
-class tapped {
+/* Judges a byte connection between two other programs: it says which side first sent what no conforming end could
+ * have sent there (docs/JUDGING.md), as `osi judge` does, while the octets pass. It judges both classes of transport
+ * and any number of connections: the transport of each side, and the session of each side of each connection. You can
+ * move a judge, but not copy it. An object that was moved from, or default-made, holds none: its calls answer
+ * code::slot_empty.
+ *
+ *     osi::judge judge = *osi::judge::make();          // empty if memory ran out
+ *     (void)judge.feed_all(osi::tap_side::left, piece, [](const osi::verdict &said) {
+ *         std::cout << osi::verdict_line(said).text() << '\n';
+ *     });
+ */
+class judge {
 public:
-    /* One on whose connection nothing has passed: ok, no_memory. */
-    static result<Own> make() noexcept
+    /* Holds no judge. */
+    judge() noexcept = default;
+
+    /* One on whose byte connection nothing has passed: ok, no_memory. */
+    static result<judge> make() noexcept
     {
-        result<Own> answer;
-        answer.value.slot_.reset(new (std::nothrow) Slot()); /* zeros, as OSI_JUDGE and OSI_WATCH */
-        answer.code = answer.value ? static_cast<osi::code>(begins(answer.value.slot_.get())) : code::no_memory;
+        result<judge> answer;
+        answer.value.slot_.reset(new (std::nothrow) osi_judge()); /* zeros, as OSI_JUDGE */
+        answer.code = answer.value ? static_cast<osi::code>(osi_judge_new(answer.value.slot_.get())) : code::no_memory;
         if (!answer)
             answer.value.reset();
         return answer;
@@ -1232,77 +1229,62 @@ public:
     result<std::size_t> feed(tap_side side, octets piece) noexcept
     {
         result<std::size_t> answer;
-        answer.code = call(feeds, detail::bits(side), piece.data(), piece.size(), &answer.value);
+        answer.code = call(osi_judge_feed, detail::bits(side), piece.data(), piece.size(), &answer.value);
         return answer;
     }
-
-protected:
-    struct freed {
-        void operator()(Slot *slot) const noexcept
-        {
-            frees(slot);
-            delete slot;
-        }
-    };
-
-    /* A call with the slot. */
-    template <class Function, class... Arguments>
-    code call(Function function, Arguments... arguments) noexcept
-    {
-        return slot_ ? static_cast<code>(function(slot_.get(), arguments...)) : code::slot_empty;
-    }
-
-    std::unique_ptr<Slot, freed> slot_;
-};
-
-} // namespace detail
-
-/* ---- the judge of a connection that passes ---------------------------------------------------------- */
-
-/* Watches a connection between two other programs, and says which side first sent what no conforming end
- * could have sent there (docs/JUDGING.md): `osi judge`, piece by piece, in bounded memory. You can move a
- * judge, but not copy it. An object that was moved from, or default-made, holds none: its calls answer
- * code::slot_empty, and it has no verdicts.
- *
- *     osi::judge judge = *osi::judge::make();          // empty if memory ran out
- *     (void)judge.feed_all(osi::tap_side::left, piece, [](const osi::verdict &said) {
- *         std::cout << osi::name(said.rule) << '\n';
- *     });
- */
-class judge : public detail::tapped<judge, osi_judge, osi_judge_new, osi_judge_free, osi_judge_feed> {
-public:
-    /* Holds no judge. */
-    judge() noexcept = default;
 
     /* Feeds octets of a side, and passes each verdict that is certain to on_verdict(const verdict &). If that throws, all
      * of the piece has passed, unless memory ran out, and the next feed_all passes the other verdicts. */
     template <class OnVerdict>
     result<std::size_t> feed_all(tap_side side, octets piece, OnVerdict &&on_verdict)
     {
-        const result<std::size_t> answer = feed(side, piece);
-        while (const std::optional<verdict> certain = next())
+        result<std::size_t> answer = feed(side, piece);
+        result<verdict> certain = next();
+        for (; certain; certain = next())
             on_verdict(*certain);
+        if (answer && certain.code != code::nothing)
+            answer.code = certain.code;
         return answer;
     }
 
-    /* A verdict that is certain: at most one on each side, and never `kept`. */
-    std::optional<verdict> next() noexcept
+    /* A verdict that is certain, each once, and never `kept`: ok, nothing (there is none), slot_empty, no_memory. */
+    result<verdict> next() noexcept
     {
         osi_verdict shown;
-        if (!slot_ || !osi_judge_next(slot_.get(), &shown))
-            return std::nullopt;
-        return verdict_of(shown);
+        result<verdict> answer;
+        answer.code = call(osi_judge_next, &shown);
+        if (answer)
+            answer.value = verdict_of(shown);
+        return answer;
     }
 
-    /* The verdict on a side by what has passed so far, whether it is certain or not. */
-    verdict of(tap_side side) noexcept
+    /* The verdict by what has passed so far, whether it is certain or not, on the session of a side of the connection
+     * with this number: ok, slot_empty, no_memory, no_such_connection (none has this number so far). */
+    result<verdict> of(std::uint64_t connection, tap_side side) noexcept
     {
         osi_verdict shown;
-        return call(osi_judge_verdict, detail::bits(side), &shown) == code::ok ? verdict_of(shown) : verdict();
+        result<verdict> answer;
+        answer.code = call(osi_judge_verdict, connection, detail::bits(side), &shown);
+        if (answer)
+            answer.value = verdict_of(shown);
+        return answer;
     }
 
-    /* The text of the verdict on what has passed so far, in the lines of `osi judge`: ok, slot_empty, no_memory.
-     * It is valid until the next call with this judge. */
+    /* The same on the transport of a side: its first break, else the packet after which nothing more of it is judged,
+     * else `kept`. ok, slot_empty, no_memory. */
+    result<verdict> of_transport(tap_side side) noexcept { return of(OSI_NO_CONNECTION, side); }
+
+    /* How many connections were requested so far; their numbers are 0 to one less: ok, slot_empty, no_memory. */
+    result<std::uint64_t> connections() noexcept
+    {
+        result<std::uint64_t> answer;
+        answer.code = call(osi_judge_connections, &answer.value);
+        return answer;
+    }
+
+    /* The text of the verdict on all that has passed so far, which is what `osi judge` prints for it: ok, slot_empty,
+     * no_memory. Its last line is "both kept the protocol" only if all that passed was judged. It is valid until the
+     * next call with this judge. */
     result<std::string_view> text() noexcept
     {
         result<std::string_view> answer;
@@ -1315,63 +1297,31 @@ public:
     }
 
 private:
+    struct freed {
+        void operator()(osi_judge *slot) const noexcept
+        {
+            osi_judge_free(slot);
+            delete slot;
+        }
+    };
+
+    /* A call with the slot. */
+    template <class Function, class... Arguments>
+    code call(Function function, Arguments... arguments) noexcept
+    {
+        return slot_ ? static_cast<code>(function(slot_.get(), arguments...)) : code::slot_empty;
+    }
+
     static verdict verdict_of(const osi_verdict &v) noexcept
     {
-        return {static_cast<tap_side>(v.side), static_cast<verdict_kind>(v.kind), static_cast<osi::said>(v.said),
-                static_cast<osi::rule>(v.rule), v.offset, v.reference};
-    }
-};
-
-/* ---- the watch of a byte connection with all its connections ---------------------------------------- */
-
-/* Watches a byte connection of either class with any number of connections on it. It judges the transport of
- * each side, and the session of each side of each connection. You can move a watch, but not copy it. One that
- * was moved from, or default-made, holds none: its calls answer code::slot_empty.
- *
- *     osi::watch watch = *osi::watch::make();          // empty if memory ran out
- *     (void)watch.feed_all(osi::tap_side::left, piece, [](const osi::watch_verdict &said) {
- *         std::cout << osi::name(said.rule) << '\n';
- *     });
- */
-class watch : public detail::tapped<watch, osi_watch, osi_watch_new, osi_watch_free, osi_watch_feed> {
-public:
-    /* Holds no watch. */
-    watch() noexcept = default;
-
-    /* Feeds octets of a side, and passes each verdict that is certain to on_verdict(const watch_verdict &). If that throws,
-     * all of the piece has passed, unless memory ran out, and the next feed_all passes the other verdicts. */
-    template <class OnVerdict>
-    result<std::size_t> feed_all(tap_side side, octets piece, OnVerdict &&on_verdict)
-    {
-        result<std::size_t> answer = feed(side, piece);
-        result<watch_verdict> certain = next();
-        for (; certain; certain = next())
-            on_verdict(*certain);
-        if (answer && certain.code != code::nothing)
-            answer.code = certain.code;
-        return answer;
-    }
-
-    /* A verdict that is certain, each once, and never `kept`: ok, nothing (there is none), slot_empty, no_memory. */
-    result<watch_verdict> next() noexcept
-    {
-        osi_watch_verdict shown;
-        result<watch_verdict> answer;
-        answer.code = call(osi_watch_next, &shown);
-        if (answer)
-            answer.value = verdict_of(shown);
-        return answer;
-    }
-
-private:
-    static watch_verdict verdict_of(const osi_watch_verdict &v) noexcept
-    {
-        watch_verdict shown{static_cast<tap_side>(v.side), static_cast<verdict_kind>(v.kind), static_cast<osi::said>(v.said),
-                            static_cast<osi::rule>(v.rule), v.offset, static_cast<tap_side>(v.by), std::nullopt, v.left, v.right};
+        verdict shown{static_cast<tap_side>(v.side), static_cast<verdict_kind>(v.kind), static_cast<osi::said>(v.said),
+                      static_cast<osi::rule>(v.rule), v.offset, static_cast<tap_side>(v.by), std::nullopt, v.left, v.right};
         if (v.connection != OSI_NO_CONNECTION)
             shown.connection = v.connection;
         return shown;
     }
+
+    std::unique_ptr<osi_judge, freed> slot_;
 };
 
 } // namespace osi

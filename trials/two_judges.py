@@ -1,15 +1,12 @@
-"""Damaged captures of one connection of class 0: whether `osi judge` and a watch agree on whether a side broke the protocol."""
+"""Damaged captures: whether `osi judge` and a judge of the library write the same text, and name the same side first."""
 import random
 import re
 from collections import Counter
 
-from osi_session import Rule, TapSide, VerdictKind, Watch
-from witnesses import disputes, packets, pieces_of, streams
+from osi_session import Judge, TapSide, VerdictKind
+from witnesses import disputes, pieces_of
 
-MIDDLE = "not judged: the capture begins in the middle of a connection"
 FIRST = re.compile(r"^(left|right) (?:broke the protocol|leaves the profile) first, packet \d+: .*$")
-# The files whose captures have one connection of class 0, but for a few.
-FILES = ("class_0", "kept_and_outside", "transport_of_class_0", "in_flight", "sizes_and_references")
 # Packets with a CR, a CC, a DR, a DC, an ER and a DT, with references that fit and others.
 PACKETS = [bytes.fromhex(digits) for digits in (
     "0300000b06e00000000100", "0300000b06e00000000200", "0300000b06d00001000100", "0300000b06d00002000100", "0300000e09d00001000100c00108",
@@ -79,21 +76,12 @@ def text_of(pieces):
     return "".join(f"{'' if side == 'left' else chr(9)}{octets.hex()}\n" for side, octets in pieces)
 
 
-def watched(pieces):
-    """The first verdict of a watch that says who broke the protocol or left the profile, or that no CR had passed; None if there
-    is none."""
-    with Watch() as watch:
-        for side, octets in pieces:
-            for verdict in watch.feed(TapSide.LEFT if side == "left" else TapSide.RIGHT, octets):
-                if verdict.kind in (VerdictKind.BROKE, VerdictKind.LEAVES) or verdict.rule == Rule.NO_OPENING:
-                    return verdict
-    return None
-
-
-def begins_with_a_cr(pieces):
-    """Whether the first packet of left has a CR, or isn't there."""
-    found = packets(streams(pieces)["left"])
-    return not found or found[0][2][1] & 0xF0 == 0xE0
+def judged(pieces):
+    """The first verdict of a judge of the library that says who broke the protocol or left the profile, None if there is none; and its
+    text."""
+    with Judge() as judge:
+        told = [verdict for side, octets in pieces for verdict in judge.feed(TapSide[side.upper()], octets)]
+        return next((one for one in told if one.kind in (VerdictKind.BROKE, VerdictKind.LEAVES)), None), judge.text()
 
 
 class TwoJudges:
@@ -101,29 +89,23 @@ class TwoJudges:
 
     def __init__(self, osi, top):
         self.osi, self.failed, self.answers = osi, 0, Counter()
-        found = [pieces_of(text) for name, text in disputes(top) if name.startswith(FILES)]
+        found = [pieces_of(text) for _, text in disputes(top)]
         self.captures = [pieces for pieces in found if pieces and sum(len(octets) for _, octets in pieces) < 3_000]
 
-    def holds(self, last, verdict, pieces):
-        """Whether the last line of `osi judge` agrees with what a watch says."""
-        if last == MIDDLE:
-            return not begins_with_a_cr(pieces)
+    @staticmethod
+    def holds(last, verdict):
+        """Whether the last line of `osi judge` names the side of the first verdict that the library gave. A verdict that is certain is
+        one that the last line says; what right sends before the first packet of left is certain later."""
         first = FIRST.match(last)
-        if not first:
-            return last == "both kept the protocol" and verdict is None
-        if verdict and verdict.rule == Rule.NO_OPENING:
-            # A watch may have begun in the middle. A capture that begins with a CR hasn't, so a unit before the CR had passed is a break.
-            return first[1] == ("left" if verdict.by == TapSide.LEFT else "right")
-        side = verdict and ("left" if verdict.side == TapSide.LEFT else "right")
-        return first[1] == side
+        return verdict is None or bool(first) and first[1] == verdict.side.name.lower()
 
     def run(self, pieces):
         text = text_of(pieces)
         status, lines = self.osi(["judge"], text)
-        verdict, last = watched(pieces), lines.rpartition("\n")[0].rpartition("\n")[2]
-        if status > 1 or not self.holds(last, verdict, pieces):
+        (verdict, written), last = judged(pieces), lines.rpartition("\n")[0].rpartition("\n")[2]
+        if status > 1 or written != lines or not self.holds(last, verdict):
             self.failed += 1
-            print(f"FAILED: a watch says {verdict} of\n{text}and osi judge\n{lines}", flush=True)
+            print(f"FAILED: the library says {verdict} and\n{written}of\n{text}and osi judge\n{lines}", flush=True)
         self.answers[FIRST.sub(r"\1 first", last)] += 1
 
     def all(self, count, seed):

@@ -403,7 +403,7 @@ static void lines_that_nobody_fetches_are_bounded(void)
     osi_free(&ends[1]);
 }
 
-/* ---- a connection that passes is judged */
+/* ---- a byte connection that passes is judged */
 
 static const uint8_t cr[] = {3, 0, 0, 14, 9, 0xE0, 0, 0, 0, 1, 0, 0xC0, 1, 10};
 static const uint8_t cc[] = {3, 0, 0, 14, 9, 0xD0, 0, 1, 0, 2, 0, 0xC0, 1, 10};
@@ -437,25 +437,60 @@ static bool says(osi_judge *judge, const char *text)
     return lent.length == strlen(text) && memcmp(lent.at, text, lent.length) == 0;
 }
 
+/* Whether the text has these words. */
+static bool has_line(osi_judge *judge, const char *words)
+{
+    osi_octets lent;
+    CHECK(osi_judge_write(judge) == OSI_OK);
+    osi_judge_text(judge, &lent);
+    const char *text = (const char *)lent.at;
+    const size_t length = strlen(words);
+    for (size_t i = 0; i + length <= lent.length; i++)
+        if (memcmp(text + i, words, length) == 0)
+            return true;
+    return false;
+}
+
+/* Whether no verdict is due. */
+static bool has_none(osi_judge *judge)
+{
+    osi_verdict verdict;
+    return osi_judge_next(judge, &verdict) == OSI_NOTHING && verdict.kind == OSI_VERDICT_NONE && verdict.connection == 0;
+}
+
+/* The kind of the verdict so far, on the session of a side of the first connection or on the transport of a side. */
+static uint32_t kind_so_far(osi_judge *judge, uint64_t connection, uint32_t side)
+{
+    osi_verdict verdict;
+    CHECK(osi_judge_verdict(judge, connection, side, &verdict) == OSI_OK);
+    CHECK(verdict.side == side && verdict.connection == connection);
+    return verdict.kind;
+}
+
 /* The side that sends data without the token is told at once, and once; the other side has kept the protocol. */
 static void a_break_is_told(void)
 {
     osi_judge judge = OSI_JUDGE;
     osi_verdict verdict;
+    uint64_t connections = 7;
     open_in(&judge);
-    CHECK(!osi_judge_next(&judge, &verdict) && verdict.kind == OSI_VERDICT_NONE);
+    CHECK(has_none(&judge));
     pass(&judge, OSI_LEFT, dt, sizeof dt);
-    CHECK(!osi_judge_next(&judge, &verdict));
+    CHECK(kind_so_far(&judge, 0, OSI_RIGHT) == OSI_VERDICT_KEPT);
     for (size_t i = 0; i < sizeof dt; i++) {
-        CHECK_QUIETLY(!osi_judge_next(&judge, &verdict));
+        CHECK_QUIETLY(has_none(&judge));
         pass(&judge, OSI_RIGHT, dt + i, 1);
     }
-    CHECK(osi_judge_next(&judge, &verdict));
+    CHECK(osi_judge_next(&judge, &verdict) == OSI_OK);
     CHECK(verdict.side == OSI_RIGHT && verdict.kind == OSI_VERDICT_BROKE && verdict.rule == OSI_RULE_TOKEN_NOT_HELD);
-    CHECK(verdict.said == OSI_SAID_DT && verdict.offset == 41 && verdict.reference == 2);
-    CHECK(!osi_judge_next(&judge, &verdict) && verdict.kind == OSI_VERDICT_NONE);
-    CHECK(osi_judge_verdict(&judge, OSI_RIGHT, &verdict) == OSI_OK && verdict.kind == OSI_VERDICT_BROKE && verdict.offset == 41);
-    CHECK(osi_judge_verdict(&judge, OSI_LEFT, &verdict) == OSI_OK && verdict.kind == OSI_VERDICT_KEPT && verdict.reference == 1);
+    CHECK(verdict.said == OSI_SAID_DT && verdict.offset == 41 && verdict.left == 1 && verdict.right == 2);
+    CHECK(has_none(&judge));
+    CHECK(osi_judge_verdict(&judge, 0, OSI_RIGHT, &verdict) == OSI_OK && verdict.kind == OSI_VERDICT_BROKE && verdict.offset == 41);
+    CHECK(kind_so_far(&judge, 0, OSI_LEFT) == OSI_VERDICT_KEPT);
+    CHECK(kind_so_far(&judge, OSI_NO_CONNECTION, OSI_LEFT) == OSI_VERDICT_KEPT);
+    CHECK(kind_so_far(&judge, OSI_NO_CONNECTION, OSI_RIGHT) == OSI_VERDICT_KEPT);
+    CHECK(osi_judge_verdict(&judge, 1, OSI_LEFT, &verdict) == OSI_NO_SUCH_CONNECTION && verdict.kind == OSI_VERDICT_NONE);
+    CHECK(osi_judge_connections(&judge, &connections) == OSI_OK && connections == 1);
     CHECK(says(&judge, "left packets 3 octets 60 rest 0\nright packets 3 octets 60 rest 0\n"
                        "left 1 kept 2 phase Ready held 55 next 1 below 1 lowest 1 owes Abort\n"
                        "right 2 broke packet 41 Data TokenNotHeld\n"
@@ -471,39 +506,32 @@ static void the_first_break_is_told_first(void)
     static const uint8_t nothing[] = {4, 0, 0, 7};
     osi_judge judge = OSI_JUDGE;
     osi_verdict verdict;
-    CHECK(osi_judge_new(&judge) == OSI_OK);
-    pass(&judge, OSI_LEFT, cr, sizeof cr);
-    pass(&judge, OSI_RIGHT, nothing, sizeof nothing);
+    open_in(&judge);
+    pass(&judge, OSI_RIGHT, dt, sizeof dt);
     pass(&judge, OSI_LEFT, nothing, sizeof nothing);
-    CHECK(osi_judge_next(&judge, &verdict) && verdict.side == OSI_RIGHT && verdict.offset == 0);
+    CHECK(osi_judge_next(&judge, &verdict) == OSI_OK && verdict.side == OSI_RIGHT && verdict.connection == 0);
+    CHECK(verdict.kind == OSI_VERDICT_BROKE && verdict.rule == OSI_RULE_TOKEN_NOT_HELD && verdict.offset == 41);
+    CHECK(osi_judge_next(&judge, &verdict) == OSI_OK && verdict.side == OSI_LEFT && verdict.connection == OSI_NO_CONNECTION);
     CHECK(verdict.kind == OSI_VERDICT_BROKE && verdict.rule == OSI_RULE_BAD_VERSION && verdict.said == OSI_SAID_TPKT);
-    CHECK(osi_judge_next(&judge, &verdict) && verdict.side == OSI_LEFT && verdict.offset == sizeof cr);
-    CHECK(!osi_judge_next(&judge, &verdict));
+    CHECK(kind_so_far(&judge, OSI_NO_CONNECTION, OSI_LEFT) == OSI_VERDICT_BROKE);
     osi_judge_free(&judge);
 }
 
-/* A connection of which more passes than a judge keeps is judged no further, and that is said once for each side. */
-static void more_than_a_judge_keeps_passes(bool is_long)
+/* What right sends before the first packet of left is a break, unless left then shows that the capture begins in the middle of a
+ * connection. So it is certain only then. */
+static void what_right_sends_first_is_told_late(const uint8_t *first, size_t length, bool is_late)
 {
-    static uint8_t data[50000];
     osi_judge judge = OSI_JUDGE;
     osi_verdict verdict;
-    memcpy(data, dt, sizeof dt);
-    data[2] = sizeof data >> 8;
-    data[3] = sizeof data & 255;
-    open_in(&judge);
-    for (int i = 0; i < (is_long ? 3 : 4094); i++)
-        pass(&judge, OSI_LEFT, is_long ? data : dt, is_long ? sizeof data : sizeof dt);
-    CHECK(!osi_judge_next(&judge, &verdict));
-    CHECK(osi_judge_verdict(&judge, OSI_LEFT, &verdict) == OSI_OK && verdict.kind == OSI_VERDICT_KEPT);
-    pass(&judge, OSI_LEFT, data, sizeof data);
-    for (uint32_t side = OSI_LEFT; side <= OSI_RIGHT; side++) {
-        CHECK(osi_judge_next(&judge, &verdict) && verdict.side == side);
-        CHECK(verdict.kind == OSI_VERDICT_NOT_JUDGED && verdict.rule == OSI_RULE_LIMIT);
-    }
-    pass(&judge, OSI_RIGHT, dt, sizeof dt);
-    CHECK(!osi_judge_next(&judge, &verdict));
-    CHECK(osi_judge_verdict(&judge, OSI_RIGHT, &verdict) == OSI_OK && verdict.kind == OSI_VERDICT_NOT_JUDGED);
+    CHECK(osi_judge_new(&judge) == OSI_OK);
+    pass(&judge, OSI_RIGHT, cc, sizeof cc);
+    CHECK(has_none(&judge));
+    CHECK(osi_judge_verdict(&judge, OSI_NO_CONNECTION, OSI_RIGHT, &verdict) == OSI_OK);
+    CHECK(verdict.kind == OSI_VERDICT_BROKE && verdict.rule == OSI_RULE_UNEXPECTED_UNIT);
+    pass(&judge, OSI_LEFT, first, length);
+    CHECK(osi_judge_next(&judge, &verdict) == OSI_OK);
+    CHECK(verdict.kind == (is_late ? OSI_VERDICT_NOT_JUDGED : OSI_VERDICT_BROKE) && verdict.by == OSI_RIGHT);
+    CHECK(verdict.rule == (is_late ? OSI_RULE_NO_OPENING : OSI_RULE_UNEXPECTED_UNIT));
     osi_judge_free(&judge);
 }
 
@@ -520,45 +548,7 @@ static size_t allocated(void)
     return info.uordblks + info.hblkhd;
 }
 
-/* How much memory a judge takes if data passes until it judges no more, in packets of this length. If parts is set, they are the
- * parts of one TSDU. */
-static size_t taken_by(size_t length, bool parts)
-{
-    static uint8_t data[65535];
-    const size_t before = allocated();
-    osi_judge judge = OSI_JUDGE;
-    osi_verdict verdict;
-    memcpy(data, dt, sizeof dt);
-    data[2] = (uint8_t)(length >> 8);
-    data[3] = (uint8_t)(length & 255);
-    data[6] = parts ? 0 : 0x80;
-    open_in(&judge);
-    do
-        pass(&judge, OSI_LEFT, data, length);
-    while (osi_judge_verdict(&judge, OSI_LEFT, &verdict) == OSI_OK && verdict.kind == OSI_VERDICT_KEPT);
-    CHECK(verdict.kind == OSI_VERDICT_NOT_JUDGED && verdict.rule == OSI_RULE_LIMIT);
-    const size_t taken = allocated() - before;
-    osi_judge_free(&judge);
-    return taken;
-}
-
-/* Whatever the lengths of its packets and TSDUs, a judge takes at most 1 MiB. */
-static void a_judge_takes_little_memory(void)
-{
-    static const size_t lengths[] = {12, 13, 19, 24, 40, 48, 100, 1000, 8192, 50000, 65535};
-    for (size_t i = 0; i < sizeof lengths / sizeof *lengths; i++) {
-        CHECK(taken_by(lengths[i], false) <= 1048576);
-        CHECK(taken_by(lengths[i], true) <= 1048576);
-    }
-}
-#else
-static void a_judge_takes_little_memory(void)
-{
-    printf("not there: mallinfo2, by which the memory of a judge is measured\n");
-}
 #endif
-
-/* ---- all connections of a byte connection are watched */
 
 /* Two connections of class 2, each with its CR, CC, CN and AC; the references are at [8] of a CR, at [6] and [8] of a CC,
  * and at [6] of the others. */
@@ -567,39 +557,26 @@ static uint8_t cc2[] = {3, 0, 0, 17, 12, 0xD4, 0, 1, 0, 2, 0x20, 0xC0, 1, 10, 0x
 static uint8_t cn2[] = {3, 0, 0, 29, 4, 0xF0, 0, 2, 0x80, 13, 18, 5, 12, 19, 1, 1, 22, 1, 2, 23, 1, '1', 26, 1, 0, 20, 2, 0, 0xB9};
 static uint8_t dt2[] = {3, 0, 0, 17, 4, 0xF0, 0, 3, 0x81, 1, 0, 1, 0, 'd', 'a', 't', 'a'};
 
-/* Feeds octets of a side, of which all have to pass. */
-static void see(osi_watch *watch, uint32_t side, const uint8_t *octets, size_t length)
-{
-    size_t used = 0;
-    CHECK_QUIETLY(osi_watch_feed(watch, side, octets, length, &used) == OSI_OK && used == length);
-}
-
 /* A connection of class 2 that left calls by this reference, and right by the next. */
-static void open_on(osi_watch *watch, uint8_t left)
+static void open_on(osi_judge *judge, uint8_t left)
 {
     cr2[9] = cc2[7] = left;
     cc2[9] = left + 1;
-    see(watch, OSI_LEFT, cr2, sizeof cr2);
-    see(watch, OSI_RIGHT, cc2, sizeof cc2);
+    pass(judge, OSI_LEFT, cr2, sizeof cr2);
+    pass(judge, OSI_RIGHT, cc2, sizeof cc2);
     cn2[7] = left + 1;
     cn2[9] = 13;
-    see(watch, OSI_LEFT, cn2, sizeof cn2);
+    pass(judge, OSI_LEFT, cn2, sizeof cn2);
     cn2[7] = left;
     cn2[9] = 14;
-    see(watch, OSI_RIGHT, cn2, sizeof cn2);
-}
-
-static bool has_none(osi_watch *watch)
-{
-    osi_watch_verdict verdict;
-    return osi_watch_next(watch, &verdict) == OSI_NOTHING && verdict.kind == OSI_VERDICT_NONE && verdict.connection == 0;
+    pass(judge, OSI_RIGHT, cn2, sizeof cn2);
 }
 
 /* The line of a verdict, in a buffer that holds it. */
-static bool is_line(const osi_watch_verdict *verdict, const char *line)
+static bool is_line(const osi_verdict *verdict, const char *line)
 {
-    char text[OSI_WATCH_VERDICT_TEXT];
-    const size_t length = osi_watch_verdict_text(verdict, text, sizeof text);
+    char text[OSI_VERDICT_TEXT];
+    const size_t length = osi_verdict_text(verdict, text, sizeof text);
     return length == strlen(line) && length < sizeof text && strcmp(text, line) == 0;
 }
 
@@ -607,56 +584,60 @@ static bool is_line(const osi_watch_verdict *verdict, const char *line)
  * goes on. */
 static void a_break_is_told_of_its_connection(void)
 {
-    osi_watch watch = OSI_WATCH;
-    osi_watch_verdict verdict;
-    CHECK(osi_watch_new(&watch) == OSI_OK);
-    open_on(&watch, 1);
-    open_on(&watch, 3);
-    CHECK(has_none(&watch));
+    osi_judge judge = OSI_JUDGE;
+    osi_verdict verdict;
+    CHECK(osi_judge_new(&judge) == OSI_OK);
+    open_on(&judge, 1);
+    open_on(&judge, 3);
+    CHECK(has_none(&judge));
     dt2[7] = 3;
     for (size_t i = 0; i < sizeof dt2; i++) {
-        CHECK_QUIETLY(has_none(&watch));
-        see(&watch, OSI_RIGHT, dt2 + i, 1);
+        CHECK_QUIETLY(has_none(&judge));
+        pass(&judge, OSI_RIGHT, dt2 + i, 1);
     }
-    CHECK(osi_watch_next(&watch, &verdict) == OSI_OK);
+    CHECK(osi_judge_next(&judge, &verdict) == OSI_OK);
     CHECK(verdict.connection == 1 && verdict.left == 3 && verdict.right == 4 && verdict.side == OSI_RIGHT && verdict.by == OSI_RIGHT);
     CHECK(verdict.kind == OSI_VERDICT_BROKE && verdict.rule == OSI_RULE_TOKEN_NOT_HELD && verdict.said == OSI_SAID_DT);
-    CHECK(verdict.offset == 92 && has_none(&watch) && is_line(&verdict, "right 4 broke packet 92 Data TokenNotHeld"));
+    CHECK(verdict.offset == 92 && has_none(&judge) && is_line(&verdict, "right 4 broke packet 92 Data TokenNotHeld"));
     dt2[7] = 2;
-    see(&watch, OSI_LEFT, dt2, sizeof dt2);
-    CHECK(has_none(&watch));
-    osi_watch_free(&watch);
-    CHECK(!watch.full);
+    pass(&judge, OSI_LEFT, dt2, sizeof dt2);
+    CHECK(has_none(&judge));
+    osi_judge_free(&judge);
+    CHECK(!judge.full);
 }
 
 /* Right gives a reference twice: its transport broke a rule, and after that nothing more of either side is judged. */
 static void a_break_of_transport_is_told(void)
 {
-    osi_watch watch = OSI_WATCH;
-    osi_watch_verdict verdict;
-    CHECK(osi_watch_new(&watch) == OSI_OK);
-    open_on(&watch, 1);
+    osi_judge judge = OSI_JUDGE;
+    osi_verdict verdict;
+    CHECK(osi_judge_new(&judge) == OSI_OK);
+    open_on(&judge, 1);
     cr2[9] = cc2[7] = 3;
     cc2[9] = 2;
-    see(&watch, OSI_LEFT, cr2, sizeof cr2);
-    see(&watch, OSI_RIGHT, cc2, sizeof cc2);
-    CHECK(osi_watch_next(&watch, &verdict) == OSI_OK && verdict.kind == OSI_VERDICT_BROKE && verdict.side == OSI_RIGHT);
+    pass(&judge, OSI_LEFT, cr2, sizeof cr2);
+    pass(&judge, OSI_RIGHT, cc2, sizeof cc2);
+    CHECK(osi_judge_next(&judge, &verdict) == OSI_OK && verdict.kind == OSI_VERDICT_BROKE && verdict.side == OSI_RIGHT);
     CHECK(verdict.rule == OSI_RULE_REFERENCE_IN_USE && verdict.said == OSI_SAID_TRANSPORT_CC && verdict.offset == 46);
     for (uint32_t side = OSI_LEFT; side <= OSI_RIGHT; side++) {
-        CHECK(osi_watch_next(&watch, &verdict) == OSI_OK && verdict.side == side && verdict.by == OSI_RIGHT);
+        CHECK(osi_judge_next(&judge, &verdict) == OSI_OK && verdict.side == side && verdict.by == OSI_RIGHT);
         CHECK(verdict.kind == OSI_VERDICT_NOT_JUDGED && verdict.rule == OSI_RULE_REFERENCE_IN_USE && verdict.offset == 46);
     }
-    CHECK(has_none(&watch));
-    osi_watch_free(&watch);
+    CHECK(has_none(&judge));
+    osi_judge_free(&judge);
 }
 
 /* Each form of a line, and buffers that are too small. */
 static void verdicts_are_written(void)
 {
-    osi_watch_verdict said = {0};
+    osi_verdict said = {0};
     char text[16];
     CHECK(is_line(&said, ""));
-    said = (osi_watch_verdict){143, 0, OSI_VERDICT_BROKE, OSI_LEFT, OSI_LEFT, OSI_RULE_TOKEN_NOT_HELD, OSI_SAID_DT, 1, 65535};
+    said = (osi_verdict){0, 0, OSI_VERDICT_KEPT, OSI_RIGHT, OSI_RIGHT, OSI_RULE_NONE, OSI_SAID_NOTHING, 1, 2};
+    CHECK(is_line(&said, "right 2 kept"));
+    said.connection = OSI_NO_CONNECTION;
+    CHECK(is_line(&said, "right kept"));
+    said = (osi_verdict){143, 0, OSI_VERDICT_BROKE, OSI_LEFT, OSI_LEFT, OSI_RULE_TOKEN_NOT_HELD, OSI_SAID_DT, 1, 65535};
     CHECK(is_line(&said, "left 1 broke packet 143 Data TokenNotHeld"));
     said.side = said.by = OSI_RIGHT;
     CHECK(is_line(&said, "right 65535 broke packet 143 Data TokenNotHeld"));
@@ -664,12 +645,12 @@ static void verdicts_are_written(void)
     said.rule = OSI_RULE_OUTSIDE;
     said.said = OSI_SAID_RS;
     CHECK(is_line(&said, "right 65535 leaves packet 143 Restart Outside"));
-    said = (osi_watch_verdict){0, 0, OSI_VERDICT_TOO_MANY, OSI_LEFT, OSI_LEFT, OSI_RULE_NONE, OSI_SAID_NOTHING, 1, 2};
+    said = (osi_verdict){0, 0, OSI_VERDICT_TOO_MANY, OSI_LEFT, OSI_LEFT, OSI_RULE_NONE, OSI_SAID_NOTHING, 1, 2};
     CHECK(is_line(&said, "left 1 too many"));
     said.kind = OSI_VERDICT_NOT_JUDGED;
     said.rule = OSI_RULE_LIMIT;
     CHECK(is_line(&said, "left 1 not judged Limit"));
-    said = (osi_watch_verdict){92, OSI_NO_CONNECTION, OSI_VERDICT_BROKE, OSI_RIGHT, OSI_RIGHT, OSI_RULE_REFERENCE_IN_USE,
+    said = (osi_verdict){92, OSI_NO_CONNECTION, OSI_VERDICT_BROKE, OSI_RIGHT, OSI_RIGHT, OSI_RULE_REFERENCE_IN_USE,
                                OSI_SAID_TRANSPORT_CC, 0, 0};
     CHECK(is_line(&said, "right broke packet 92 CC ReferenceInUse"));
     said.kind = OSI_VERDICT_NOT_JUDGED;
@@ -682,24 +663,24 @@ static void verdicts_are_written(void)
     said.said = OSI_SAID_TPDU;
     CHECK(is_line(&said, "right not judged after right packet 18446744073709551615 TPDU BadParameterLength"));
     memset(text, 'x', sizeof text);
-    const size_t length = osi_watch_verdict_text(&said, NULL, 0);
-    CHECK(osi_watch_verdict_text(&said, text, 6) == length && strcmp(text, "right") == 0 && text[6] == 'x');
-    CHECK(osi_watch_verdict_text(&said, text, 1) == length && text[0] == 0 && text[1] == 'i');
+    const size_t length = osi_verdict_text(&said, NULL, 0);
+    CHECK(osi_verdict_text(&said, text, 6) == length && strcmp(text, "right") == 0 && text[6] == 'x');
+    CHECK(osi_verdict_text(&said, text, 1) == length && text[0] == 0 && text[1] == 'i');
 }
 
-/* Each number that a verdict of a watch may have for what was sent, and for the rule, has its word. */
+/* Each number that a verdict may have for what was sent, and for the rule, has its word. */
 static void each_word_is_known(void)
 {
-    osi_watch_verdict said = {0, 0, OSI_VERDICT_BROKE, OSI_LEFT, OSI_LEFT, OSI_RULE_OUTSIDE, OSI_SAID_CN, 1, 2};
-    char text[OSI_WATCH_VERDICT_TEXT];
+    osi_verdict said = {0, 0, OSI_VERDICT_BROKE, OSI_LEFT, OSI_LEFT, OSI_RULE_OUTSIDE, OSI_SAID_CN, 1, 2};
+    char text[OSI_VERDICT_TEXT];
     for (uint32_t number = 1; number < 300; number++) {
         said.said = number;
         said.rule = OSI_RULE_OUTSIDE;
-        osi_watch_verdict_text(&said, text, sizeof text);
+        osi_verdict_text(&said, text, sizeof text);
         CHECK_QUIETLY((strstr(text, "unknown") == NULL) == (strcmp(osi_said_name(number), "unknown") != 0));
         said.said = OSI_SAID_DT;
         said.rule = number;
-        osi_watch_verdict_text(&said, text, sizeof text);
+        osi_verdict_text(&said, text, sizeof text);
         CHECK_QUIETLY((strstr(text, "unknown") == NULL) == (strcmp(osi_rule_name(number), "unknown") != 0));
     }
 }
@@ -707,54 +688,35 @@ static void each_word_is_known(void)
 /* More passes on the first connection than is judged of one: that is said once of each of its sides, and the second is judged on. */
 static void more_than_is_judged_of_a_connection_passes(void)
 {
-    osi_watch watch = OSI_WATCH;
-    osi_watch_verdict verdict;
-    CHECK(osi_watch_new(&watch) == OSI_OK);
-    open_on(&watch, 1);
-    open_on(&watch, 3);
+    osi_judge judge = OSI_JUDGE;
+    osi_verdict verdict;
+    CHECK(osi_judge_new(&judge) == OSI_OK);
+    open_on(&judge, 1);
+    open_on(&judge, 3);
     uint8_t ak[] = {3, 0, 0, 9, 4, 0x6F, 0, 1, 0};
     dt2[7] = 2;
     int sent = 0;
     do {
         dt2[8] = 0x80 | ((1 + sent++) & 127);
-        see(&watch, OSI_LEFT, dt2, sizeof dt2);
+        pass(&judge, OSI_LEFT, dt2, sizeof dt2);
         ak[8] = (uint8_t)((1 + sent) & 127);
-        see(&watch, OSI_RIGHT, ak, sizeof ak);
-    } while (osi_watch_next(&watch, &verdict) == OSI_NOTHING && sent < 5000);
+        pass(&judge, OSI_RIGHT, ak, sizeof ak);
+    } while (osi_judge_next(&judge, &verdict) == OSI_NOTHING && sent < 5000);
     /* CN, AC and DTs count 20 and 8 octets of user data, each with 48 more. */
     CHECK(sent == (196608 - 2 * (20 + 48)) / (8 + 48) + 1);
     for (uint32_t side = OSI_LEFT; side <= OSI_RIGHT; side++) {
         CHECK(verdict.side == side && verdict.kind == OSI_VERDICT_NOT_JUDGED && verdict.rule == OSI_RULE_LIMIT);
         CHECK(verdict.connection == 0 && verdict.left == 1 && verdict.right == 2);
-        CHECK(osi_watch_next(&watch, &verdict) == (side == OSI_LEFT ? OSI_OK : OSI_NOTHING));
+        CHECK(osi_judge_next(&judge, &verdict) == (side == OSI_LEFT ? OSI_OK : OSI_NOTHING));
     }
     dt2[7] = 3;
     dt2[8] = 0x81;
-    see(&watch, OSI_RIGHT, dt2, sizeof dt2);
-    CHECK(osi_watch_next(&watch, &verdict) == OSI_OK && verdict.connection == 1 && verdict.kind == OSI_VERDICT_BROKE);
-    osi_watch_free(&watch);
-}
-
-/* A capture that begins in the middle of a connection is not judged; and slots that hold no watch, or hold one already. */
-static void watches_that_are_refused(void)
-{
-    osi_watch watch = OSI_WATCH;
-    osi_watch_verdict verdict;
-    size_t used = 1;
-    CHECK(osi_watch_feed(&watch, OSI_LEFT, cr, sizeof cr, &used) == OSI_SLOT_EMPTY && used == 0);
-    CHECK(osi_watch_next(&watch, &verdict) == OSI_SLOT_EMPTY && verdict.kind == OSI_VERDICT_NONE);
-    osi_watch_free(&watch);
-    CHECK(osi_watch_new(&watch) == OSI_OK && osi_watch_new(&watch) == OSI_IN_USE);
-    CHECK(osi_watch_feed(&watch, 2, cr, sizeof cr, &used) == OSI_BAD_ARGUMENT && used == 0);
-    CHECK(osi_watch_feed(&watch, OSI_LEFT, OSI_NO_DATA, &used) == OSI_OK && used == 0);
-    see(&watch, OSI_LEFT, dt, sizeof dt);
-    for (uint32_t side = OSI_LEFT; side <= OSI_RIGHT; side++) {
-        CHECK(osi_watch_next(&watch, &verdict) == OSI_OK && verdict.side == side && verdict.kind == OSI_VERDICT_NOT_JUDGED);
-        CHECK(verdict.rule == OSI_RULE_NO_OPENING && verdict.by == OSI_LEFT && verdict.connection == OSI_NO_CONNECTION);
-    }
-    CHECK(has_none(&watch));
-    osi_watch_free(&watch);
-    osi_watch_free(&watch);
+    pass(&judge, OSI_RIGHT, dt2, sizeof dt2);
+    CHECK(osi_judge_next(&judge, &verdict) == OSI_OK && verdict.connection == 1 && verdict.kind == OSI_VERDICT_BROKE);
+    CHECK(kind_so_far(&judge, 0, OSI_LEFT) == OSI_VERDICT_NOT_JUDGED && kind_so_far(&judge, 1, OSI_LEFT) == OSI_VERDICT_KEPT);
+    CHECK(has_line(&judge, "right 2 not judged Limit\n"));
+    CHECK(has_line(&judge, "right broke the protocol first, packet "));
+    osi_judge_free(&judge);
 }
 
 #ifdef KNOWS_WHAT_IS_ALLOCATED
@@ -763,28 +725,28 @@ static size_t taken_on_a_connection(size_t length)
 {
     static uint8_t data[8196], large_cr[sizeof cr], large_cc[sizeof cc];
     const size_t before = allocated();
-    osi_watch watch = OSI_WATCH;
-    osi_watch_verdict verdict;
+    osi_judge judge = OSI_JUDGE;
+    osi_verdict verdict;
     memcpy(large_cr, cr, sizeof cr);
     memcpy(large_cc, cc, sizeof cc);
     large_cr[13] = large_cc[13] = 13; /* TPDUs of 8,192 octets */
     memcpy(data, dt, sizeof dt);
     data[2] = (uint8_t)(length >> 8);
     data[3] = (uint8_t)(length & 255);
-    CHECK(osi_watch_new(&watch) == OSI_OK);
-    see(&watch, OSI_LEFT, large_cr, sizeof large_cr);
-    see(&watch, OSI_RIGHT, large_cc, sizeof large_cc);
+    CHECK(osi_judge_new(&judge) == OSI_OK);
+    pass(&judge, OSI_LEFT, large_cr, sizeof large_cr);
+    pass(&judge, OSI_RIGHT, large_cc, sizeof large_cc);
     cn[7] = 13;
-    see(&watch, OSI_LEFT, cn, sizeof cn);
+    pass(&judge, OSI_LEFT, cn, sizeof cn);
     cn[7] = 14;
-    see(&watch, OSI_RIGHT, cn, sizeof cn);
+    pass(&judge, OSI_RIGHT, cn, sizeof cn);
     do {
         data[length - 1]++;
-        see(&watch, OSI_LEFT, data, length);
-    } while (osi_watch_next(&watch, &verdict) == OSI_NOTHING);
+        pass(&judge, OSI_LEFT, data, length);
+    } while (osi_judge_next(&judge, &verdict) == OSI_NOTHING);
     CHECK(verdict.kind == OSI_VERDICT_NOT_JUDGED && verdict.rule == OSI_RULE_LIMIT);
     const size_t taken = allocated() - before;
-    osi_watch_free(&watch);
+    osi_judge_free(&judge);
     return taken;
 }
 
@@ -798,28 +760,42 @@ static void a_connection_takes_little_memory(void)
 #else
 static void a_connection_takes_little_memory(void)
 {
+    printf("not there: mallinfo2, by which the memory of a judge is measured\n");
 }
 #endif
 
-/* What is not a side, and slots that hold no judge or hold one already. */
+/* What is not a side, and slots that hold no judge or hold one already. A capture that begins in the middle of a connection is not
+ * judged, and its text says so. */
 static void judges_that_are_refused(void)
 {
     osi_judge judge = OSI_JUDGE;
     osi_verdict verdict;
     osi_octets lent;
     size_t used = 1;
+    uint64_t connections = 1;
     CHECK(osi_judge_feed(&judge, OSI_LEFT, cr, sizeof cr, &used) == OSI_SLOT_EMPTY && used == 0);
-    CHECK(osi_judge_verdict(&judge, OSI_LEFT, &verdict) == OSI_SLOT_EMPTY && verdict.kind == OSI_VERDICT_NONE);
-    CHECK(!osi_judge_next(&judge, &verdict) && osi_judge_write(&judge) == OSI_SLOT_EMPTY);
+    CHECK(osi_judge_verdict(&judge, 0, OSI_LEFT, &verdict) == OSI_SLOT_EMPTY && verdict.kind == OSI_VERDICT_NONE);
+    CHECK(osi_judge_next(&judge, &verdict) == OSI_SLOT_EMPTY && verdict.kind == OSI_VERDICT_NONE);
+    CHECK(osi_judge_connections(&judge, &connections) == OSI_SLOT_EMPTY && connections == 0);
+    CHECK(osi_judge_write(&judge) == OSI_SLOT_EMPTY);
     osi_judge_text(&judge, &lent);
     CHECK(lent.length == 0 && lent.at != NULL);
     osi_judge_free(&judge);
     CHECK(osi_judge_new(&judge) == OSI_OK && osi_judge_new(&judge) == OSI_IN_USE);
+    CHECK(says(&judge, "left packets 0 octets 0 rest 0\nright packets 0 octets 0 rest 0\nnot judged: no octets\n"));
     CHECK(osi_judge_feed(&judge, 2, cr, sizeof cr, &used) == OSI_BAD_ARGUMENT && used == 0);
-    CHECK(osi_judge_verdict(&judge, 2, &verdict) == OSI_BAD_ARGUMENT && verdict.kind == OSI_VERDICT_NONE);
+    CHECK(osi_judge_verdict(&judge, 0, 2, &verdict) == OSI_BAD_ARGUMENT && verdict.kind == OSI_VERDICT_NONE);
+    CHECK(osi_judge_verdict(&judge, 0, OSI_LEFT, &verdict) == OSI_NO_SUCH_CONNECTION);
     CHECK(osi_judge_feed(&judge, OSI_LEFT, OSI_NO_DATA, &used) == OSI_OK && used == 0);
-    pass(&judge, OSI_LEFT, cc, sizeof cc);
-    CHECK(osi_judge_next(&judge, &verdict) && verdict.kind == OSI_VERDICT_NOT_JUDGED && verdict.rule == OSI_RULE_NO_OPENING);
+    pass(&judge, OSI_LEFT, dt, sizeof dt);
+    for (uint32_t side = OSI_LEFT; side <= OSI_RIGHT; side++) {
+        CHECK(osi_judge_next(&judge, &verdict) == OSI_OK && verdict.side == side && verdict.kind == OSI_VERDICT_NOT_JUDGED);
+        CHECK(verdict.rule == OSI_RULE_NO_OPENING && verdict.by == OSI_LEFT && verdict.connection == OSI_NO_CONNECTION);
+        CHECK(kind_so_far(&judge, OSI_NO_CONNECTION, side) == OSI_VERDICT_NOT_JUDGED);
+    }
+    CHECK(has_none(&judge));
+    CHECK(says(&judge, "left packets 1 octets 19 rest 0\nright packets 0 octets 0 rest 0\n"
+                       "not judged: the capture begins in the middle of a connection\n"));
     osi_judge_free(&judge);
     osi_judge_free(&judge);
 }
@@ -854,15 +830,13 @@ int main(void)
     lines_that_nobody_fetches_are_bounded();
     a_break_is_told();
     the_first_break_is_told_first();
-    more_than_a_judge_keeps_passes(true);
-    more_than_a_judge_keeps_passes(false);
-    a_judge_takes_little_memory();
+    what_right_sends_first_is_told_late(cr, sizeof cr, false);
+    what_right_sends_first_is_told_late(dt, sizeof dt, true);
     a_break_is_told_of_its_connection();
     a_break_of_transport_is_told();
     more_than_is_judged_of_a_connection_passes();
     verdicts_are_written();
     each_word_is_known();
-    watches_that_are_refused();
     a_connection_takes_little_memory();
     judges_that_are_refused();
     names();

@@ -1,6 +1,6 @@
 /*
- * A verdict of a watch as a line of text, in the words of `osi judge`. It reads the numbers of the struct alone, and takes no
- * memory. It is tested (bindings/c/test_osi.c, bindings/python/tests/test_watch.py), and not proved.
+ * A verdict as a line of text, in the words of `osi judge`. It reads the numbers of the struct alone, and takes no
+ * memory. It is tested (bindings/c/test_osi.c, bindings/python/tests/test_judge.py), and not proved.
  */
 #include "osi.h"
 
@@ -92,9 +92,6 @@ static const char *rule_words(uint32_t rule)
         WORDS(OSI_RULE_BAD_CONCATENATION, "BadConcatenation");
         WORDS(OSI_RULE_TRAILING_OCTETS, "TrailingOctets");
         WORDS(OSI_RULE_NO_OPENING, "NoOpening");
-        WORDS(OSI_RULE_OTHER_CLASS, "OtherClass");
-        WORDS(OSI_RULE_MORE_CONNECTIONS, "MoreConnections");
-        WORDS(OSI_RULE_REFUSED, "Refused");
         WORDS(OSI_RULE_BAD_VERSION, "BadVersion");
         WORDS(OSI_RULE_BAD_LENGTH, "BadLength");
         WORDS(OSI_RULE_BAD_LI, "BadLi");
@@ -128,14 +125,14 @@ static const char *side_words(uint32_t side)
 }
 
 /* The side of a session by the reference that it gave the connection; a transport by the side alone. */
-static void add_session(struct line *line, const osi_watch_verdict *verdict)
+static void add_session(struct line *line, const osi_verdict *verdict)
 {
     add(line, side_words(verdict->side));
     add(line, " ");
     add_number(line, verdict->side == OSI_RIGHT ? verdict->right : verdict->left);
 }
 
-static void add_side(struct line *line, const osi_watch_verdict *verdict)
+static void add_side(struct line *line, const osi_verdict *verdict)
 {
     if (verdict->said <= OSI_SAID_TSDU)
         add_session(line, verdict);
@@ -144,7 +141,7 @@ static void add_side(struct line *line, const osi_watch_verdict *verdict)
 }
 
 /* The packet, what was sent in it, and the rule. */
-static void add_packet(struct line *line, const osi_watch_verdict *verdict)
+static void add_packet(struct line *line, const osi_verdict *verdict)
 {
     add(line, " packet ");
     add_number(line, verdict->offset);
@@ -154,7 +151,7 @@ static void add_packet(struct line *line, const osi_watch_verdict *verdict)
     add(line, rule_words(verdict->rule));
 }
 
-static void add_not_judged(struct line *line, const osi_watch_verdict *verdict)
+static void add_not_judged(struct line *line, const osi_verdict *verdict)
 {
     if (verdict->said == OSI_SAID_NOTHING) {
         add_session(line, verdict);
@@ -168,10 +165,17 @@ static void add_not_judged(struct line *line, const osi_watch_verdict *verdict)
     }
 }
 
-size_t osi_watch_verdict_text(const osi_watch_verdict *verdict, char *text, size_t size)
+size_t osi_verdict_text(const osi_verdict *verdict, char *text, size_t size)
 {
     struct line line = {text, size, 0};
     switch (verdict->kind) {
+        case OSI_VERDICT_KEPT:
+            if (verdict->connection == OSI_NO_CONNECTION)
+                add(&line, side_words(verdict->side));
+            else
+                add_session(&line, verdict);
+            add(&line, " kept");
+            break;
         case OSI_VERDICT_BROKE:
             add_side(&line, verdict);
             add(&line, " broke");

@@ -624,24 +624,35 @@ static void an_end_is_traced()
     CHECK(none.traced(osi::direction::sent, keep) == code::slot_empty);
 }
 
-/* A connection that passes is judged, and the first break is told first. */
-static void a_connection_is_judged()
+/* A byte connection that passes is judged; a break before the class is known ends the judgement of both sides. */
+static void a_byte_connection_is_judged()
 {
     static_assert(!std::is_copy_constructible_v<osi::judge> && std::is_nothrow_move_constructible_v<osi::judge>);
     const std::array<std::uint8_t, 14> cr = {3, 0, 0, 14, 9, 0xE0, 0, 0, 0, 1, 0, 0xC0, 1, 10};
     std::vector<osi::verdict> told;
     const auto keep = [&](const osi::verdict &verdict) { told.push_back(verdict); };
     osi::judge empty;
-    CHECK(!empty && empty.feed(osi::tap_side::left, cr).code == code::slot_empty && !empty.next());
-    CHECK(empty.text().code == code::slot_empty && empty.of(osi::tap_side::left).kind == osi::verdict_kind::none);
+    CHECK(!empty && empty.feed(osi::tap_side::left, cr).code == code::slot_empty && empty.next().code == code::slot_empty);
+    CHECK(empty.text().code == code::slot_empty && empty.of(0, osi::tap_side::left).code == code::slot_empty);
+    CHECK(empty.connections().code == code::slot_empty);
     auto made = osi::judge::make();
     CHECK(made && *made);
     osi::judge judge = std::move(*made);
-    CHECK(*judge.feed_all(osi::tap_side::left, cr, keep) == cr.size() && told.empty());
-    CHECK(judge.of(osi::tap_side::left).kind == osi::verdict_kind::kept && judge.of(osi::tap_side::left).reference == 1);
-    CHECK(*judge.feed_all(osi::tap_side::right, "HTTP/1.1 400", keep) == 12 && told.size() == 1);
-    CHECK(told[0].side == osi::tap_side::right && told[0].kind == osi::verdict_kind::broke && told[0].offset == 0);
-    CHECK(told[0].rule == osi::rule::bad_version && told[0].said == osi::said::tpkt && told[0].reference == 0);
+    CHECK(*judge.feed_all(osi::tap_side::left, cr, keep) == cr.size() && told.empty() && judge.next().code == code::nothing);
+    CHECK(*judge.connections() == 1 && judge.of(1, osi::tap_side::left).code == code::no_such_connection);
+    const auto kept = judge.of(0, osi::tap_side::left);
+    CHECK(kept && kept->kind == osi::verdict_kind::kept && kept->left == 1 && kept->right == 0 && kept->connection == 0u);
+    CHECK(osi::verdict_line(*kept).text() == "left 1 kept");
+    CHECK(judge.of_transport(osi::tap_side::left)->kind == osi::verdict_kind::kept);
+    CHECK(*judge.feed_all(osi::tap_side::right, "HTTP/1.1 400", keep) == 12 && told.size() == 3);
+    CHECK(told[0].side == osi::tap_side::right && told[0].kind == osi::verdict_kind::broke && !told[0].connection);
+    CHECK(told[0].rule == osi::rule::bad_version && told[0].said == osi::said::tpkt && told[0].offset == 0);
+    CHECK(told[1].side == osi::tap_side::left && told[1].kind == osi::verdict_kind::not_judged && told[1].by == osi::tap_side::right);
+    CHECK(told[2].side == osi::tap_side::right && told[2].rule == osi::rule::bad_version && told[2].said == osi::said::tpkt);
+    CHECK(judge.of_transport(osi::tap_side::right)->kind == osi::verdict_kind::broke);
+    CHECK(osi::verdict_line(told[0]).text() == "right broke packet 0 TPKT BadVersion");
+    CHECK(osi::verdict_line(told[1]).text() == "left not judged after right packet 0 TPKT BadVersion");
+    CHECK(osi::verdict_line(osi::verdict()).text().empty());
     const auto text = judge.text();
     CHECK(text && text->substr(text->find("right broke the")) == "right broke the protocol first, packet 0: TPKT BadVersion\n");
     CHECK(osi::name(told[0].rule) == "OSI_RULE_BAD_VERSION" && osi::name(told[0].said) == "OSI_SAID_TPKT");
@@ -651,34 +662,6 @@ static void a_connection_is_judged()
     no_slot = true;
     if (is_refused())
         CHECK(osi::judge::make().code == code::no_memory);
-    no_slot = false;
-}
-
-/* All connections of a byte connection are watched; a break before the class is known ends the judgement of both sides. */
-static void a_byte_connection_is_watched()
-{
-    static_assert(!std::is_copy_constructible_v<osi::watch> && std::is_nothrow_move_constructible_v<osi::watch>);
-    const std::array<std::uint8_t, 14> cr = {3, 0, 0, 14, 9, 0xE0, 0, 0, 0, 1, 0, 0xC0, 1, 10};
-    std::vector<osi::watch_verdict> told;
-    const auto keep = [&](const osi::watch_verdict &verdict) { told.push_back(verdict); };
-    osi::watch empty;
-    CHECK(!empty && empty.feed(osi::tap_side::left, cr).code == code::slot_empty && empty.next().code == code::slot_empty);
-    auto made = osi::watch::make();
-    CHECK(made && *made);
-    osi::watch watch = std::move(*made);
-    CHECK(*watch.feed_all(osi::tap_side::left, cr, keep) == cr.size() && told.empty() && watch.next().code == code::nothing);
-    CHECK(*watch.feed_all(osi::tap_side::right, "HTTP/1.1 400", keep) == 12 && told.size() == 3);
-    CHECK(told[0].side == osi::tap_side::right && told[0].kind == osi::verdict_kind::broke && !told[0].connection);
-    CHECK(told[1].side == osi::tap_side::left && told[1].kind == osi::verdict_kind::not_judged && told[1].by == osi::tap_side::right);
-    CHECK(told[2].side == osi::tap_side::right && told[2].rule == osi::rule::bad_version && told[2].said == osi::said::tpkt);
-    CHECK(osi::verdict_line(told[0]).text() == "right broke packet 0 TPKT BadVersion");
-    CHECK(osi::verdict_line(told[1]).text() == "left not judged after right packet 0 TPKT BadVersion");
-    CHECK(osi::verdict_line(osi::watch_verdict()).text().empty());
-    watch.reset();
-    CHECK(!watch);
-    no_slot = true;
-    if (is_refused())
-        CHECK(osi::watch::make().code == code::no_memory);
     no_slot = false;
 }
 
@@ -818,8 +801,7 @@ int main()
     calls_are_judged();
     codes_have_texts();
     numbers_have_names();
-    a_connection_is_judged();
-    a_byte_connection_is_watched();
+    a_byte_connection_is_judged();
     a_function_that_throws_loses_nothing();
     a_function_may_throw_each_time();
     kept_octets_are_fed_first();

@@ -217,10 +217,10 @@ class ByLibrary(unittest.TestCase):
     def test_a_stream_that_is_too_long_is_watched_no_further(self):
         rows = Rows()
         opening = [rows.row(piece.side, piece.octets) for piece in tapped.read(test_judged.stored("restart")[0])[:4]]
-        much = bytes.fromhex("0300c35002f08001000100") + bytes(50000 - 11)
-        self.assertEqual(self.printed(*opening, *(rows.row("left", much) for _ in range(3))), "")
+        much = bytes.fromhex("030003e802f08001000100") + bytes(1000 - 11)
+        self.assertEqual(self.printed(*opening, *(rows.row("left", much) for _ in range(180))), "")
         said = "not judged further: more passed than a judge of the library keeps"
-        self.assertEqual(self.printed(rows.row("left", much)), f"{NAME}: {said}\n")
+        self.assertEqual(self.printed(*(rows.row("left", much) for _ in range(20))), f"{NAME}: {said}\n")
 
     def test_connections_of_class_2_are_watched_on_after_a_break(self):
         """Two connections of class 2; on the second, right sends data without the token."""

@@ -43,18 +43,18 @@ def closed_connections(count):
         yield True, peers.packet(b"\5\xc0" + left + right)
 
 
-def watched():
-    """What a look for verdicts costs a watch for each connection that was ever requested on its byte connection."""
-    from osi_session import TapSide, Watch
+def judged():
+    """What a look for verdicts costs a judge for each connection that was ever requested on its byte connection."""
+    from osi_session import Judge, TapSide
     for count in (1_000, 15_000):
-        with Watch() as watch:
+        with Judge() as judge:
             for is_right, octets in closed_connections(count):
-                watch.feed(TapSide.RIGHT if is_right else TapSide.LEFT, octets)
+                judge.feed(TapSide.RIGHT if is_right else TapSide.LEFT, octets)
             times = []
             for _ in range(20):
                 began = time.perf_counter()
-                told = list(watch.verdicts())
+                told = list(judge.verdicts())
                 times.append(time.perf_counter() - began)
         each = 1e9 * min(times) / count
-        yield (f"osi_watch_next takes {each:.0f} ns for each of {count} connections", not told and each <= MOST_LOOK,
+        yield (f"osi_judge_next takes {each:.0f} ns for each of {count} connections", not told and each <= MOST_LOOK,
                f"the bound is {MOST_LOOK} ns; {told[:3]}")

@@ -33,7 +33,7 @@ PREFIXES = {
     osi_session.Said: "OSI_SAID_",
 }
 # The functions that this package calls, by the kind of their first argument.
-PARTS = (_library.FUNCTIONS, _library.JUDGES, _library.WATCHES, _library.LINES, _library.TEXTS)
+PARTS = (_library.FUNCTIONS, _library.JUDGES, _library.LINES, _library.TEXTS)
 # Members that stand for more than one number, or for none, and so have no name in C.
 JOINED = {("Classes", "BOTH"), ("Classes", "NONE"), ("Units", "NONE"), ("Tokens", "NONE")}
 
@@ -72,7 +72,7 @@ def sections():
         begins = {"OSI_OK": "osi_code_name", "OSI_CLASS_0": None, "OSI_NONE": "osi_indication_name",
                   "OSI_END_NONE": "osi_end_name", "OSI_PHASE_NONE": "osi_phase_name", "OSI_TRACE_OFF": None,
                   "OSI_LEFT": None, "OSI_VERDICT_NONE": "osi_verdict_name", "OSI_RULE_NONE": "osi_rule_name",
-                  "OSI_SAID_NOTHING": "osi_said_name", "OSI_WATCH_VERDICT_TEXT": None}
+                  "OSI_SAID_NOTHING": "osi_said_name", "OSI_VERDICT_TEXT": None}
         function = begins.get(name, function)
         if function:
             found[function][value] = name
@@ -124,7 +124,7 @@ class Layout(unittest.TestCase):
                     self.assertEqual(of_c[prefix + member], value, f"{kind.__name__}.{member}")
                     seen.add(prefix + member)
         tags = self.tags()
-        self.assertEqual(seen | set(tags), set(of_c) - {"OSI_NONE", "OSI_END_NONE", "OSI_WATCH_VERDICT_TEXT"})
+        self.assertEqual(seen | set(tags), set(of_c) - {"OSI_NONE", "OSI_END_NONE", "OSI_VERDICT_TEXT"})
         self.assertEqual({of_c[name] for name in tags}, set(_values.KINDS))
 
     def tags(self):

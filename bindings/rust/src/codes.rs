@@ -104,7 +104,7 @@ impl fmt::Display for Error {
         f.write_str(match self {
             Error::BadArgument => "a number or a length is outside its range",
             Error::NoMemory => "there is no memory",
-            Error::NoSuchConnection => "this end never gave the reference",
+            Error::NoSuchConnection => "no connection has this reference or number",
             Error::Ended => "the connection is over",
             Error::BadState => "the call is not allowed in this phase",
             Error::NotSelected => "a functional unit or a token is not selected",

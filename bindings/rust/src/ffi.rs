@@ -130,7 +130,7 @@ pub struct osi_counters {
     pub sent: osi_tally,
 }
 
-/// A slot that holds the judge of one connection, or none.
+/// A slot that holds the judge of a byte connection, or none.
 #[repr(C)]
 pub struct osi_judge {
     pub full: bool,
@@ -144,27 +144,6 @@ pub const OSI_JUDGE: osi_judge = osi_judge { full: false, inner: osi_end_inner {
 #[derive(Clone, Copy, Default)]
 pub struct osi_verdict {
     pub offset: u64,
-    pub kind: u32,
-    pub side: u32,
-    pub rule: u32,
-    pub said: u32,
-    pub reference: u16,
-}
-
-/// A slot that holds the watch of a byte connection, or none.
-#[repr(C)]
-pub struct osi_watch {
-    pub full: bool,
-    pub inner: osi_end_inner,
-}
-
-/// `OSI_WATCH`.
-pub const OSI_WATCH: osi_watch = osi_watch { full: false, inner: osi_end_inner { at: std::ptr::null_mut() } };
-
-#[repr(C)]
-#[derive(Clone, Copy, Default)]
-pub struct osi_watch_verdict {
-    pub offset: u64,
     pub connection: u64,
     pub kind: u32,
     pub side: u32,
@@ -176,7 +155,7 @@ pub struct osi_watch_verdict {
 }
 
 pub const OSI_NO_CONNECTION: u64 = u64::MAX;
-pub const OSI_WATCH_VERDICT_TEXT: usize = 96;
+pub const OSI_VERDICT_TEXT: usize = 96;
 pub const OSI_OK: u32 = 0;
 pub const OSI_NO_MEMORY: u32 = 3;
 pub const OSI_NOTHING: u32 = 5;
@@ -288,22 +267,17 @@ extern "C" {
         length: usize,
         used: *mut usize,
     ) -> u32;
-    pub fn osi_judge_next(judge: *mut osi_judge, verdict: *mut osi_verdict) -> bool;
-    pub fn osi_judge_verdict(judge: *mut osi_judge, side: u32, verdict: *mut osi_verdict) -> u32;
+    pub fn osi_judge_next(judge: *mut osi_judge, verdict: *mut osi_verdict) -> u32;
+    pub fn osi_judge_verdict(
+        judge: *mut osi_judge,
+        connection: u64,
+        side: u32,
+        verdict: *mut osi_verdict,
+    ) -> u32;
+    pub fn osi_judge_connections(judge: *mut osi_judge, connections: *mut u64) -> u32;
     pub fn osi_judge_write(judge: *mut osi_judge) -> u32;
     pub fn osi_judge_text(judge: *mut osi_judge, text: *mut osi_octets);
-    pub fn osi_watch_new(watch: *mut osi_watch) -> u32;
-    pub fn osi_watch_free(watch: *mut osi_watch);
-    pub fn osi_watch_feed(
-        watch: *mut osi_watch,
-        side: u32,
-        piece: *const u8,
-        length: usize,
-        used: *mut usize,
-    ) -> u32;
-    pub fn osi_watch_next(watch: *mut osi_watch, verdict: *mut osi_watch_verdict) -> u32;
-    pub fn osi_watch_verdict_text(verdict: *const osi_watch_verdict, text: *mut c_char, size: usize)
-        -> usize;
+    pub fn osi_verdict_text(verdict: *const osi_verdict, text: *mut c_char, size: usize) -> usize;
     pub fn osi_version() -> *const c_char;
 }
 

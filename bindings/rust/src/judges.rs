@@ -1,4 +1,4 @@
-//! Judging a connection between two other programs, while it passes.
+//! Judging a byte connection between two other programs, while it passes.
 
 use crate::codes::Error;
 use crate::end::lent;
@@ -7,7 +7,7 @@ use std::fmt;
 use std::marker::PhantomData;
 use std::str;
 
-/// A side of a connection that a [`Judge`] watches.
+/// A side of a byte connection that a [`Judge`] watches.
 #[derive(Clone, Copy, Debug, PartialEq, Eq, Hash)]
 pub enum TapSide {
     /// The side that opened the byte connection, and sent the CR.
@@ -16,13 +16,13 @@ pub enum TapSide {
     Right = 1,
 }
 
-/// What a [`Verdict`] says of a side. [`Kept`](VerdictKind::Kept) may change while octets pass. The others may change
+/// What a [`Verdict`] says. [`Kept`](VerdictKind::Kept) may change while octets pass. The others may change
 /// only to [`None`](VerdictKind::None), if the other side leaves the profile.
 #[derive(Clone, Copy, Debug, PartialEq, Eq, Hash)]
 pub enum VerdictKind {
-    /// Nothing: the other side left the profile before.
+    /// Nothing: the other side of the connection left the profile.
     None = 0,
-    /// All that it sent so far is what a conforming end may send.
+    /// All that was judged of it is what a conforming end may send.
     Kept = 1,
     /// It broke the protocol.
     Broke = 2,
@@ -86,12 +86,6 @@ pub enum Rule {
     TrailingOctets = 46,
     /// No break: the capture begins in the middle of a connection. Its first packet has no CR.
     NoOpening = 50,
-    /// No break: the connection is not of class 0.
-    OtherClass = 51,
-    /// No break: a second CR.
-    MoreConnections = 52,
-    /// No break: the connection is refused. It is in no verdict.
-    Refused = 53,
     /// No packet begins there: its version is not 3 (RFC 1006 section 6).
     BadVersion = 54,
     /// No packet begins there: its length is below 7.
@@ -112,7 +106,7 @@ pub enum Rule {
     WrongForm = 62,
     /// A TSDU of more than 1,048,576 octets.
     TsduTooLong = 63,
-    /// No break: more passed than a judge keeps.
+    /// No break: more was to be kept of a connection than a judge keeps.
     Limit = 70,
     /// No break: there are more than 128 connections at once. Or nobody can tell whether the unit is right,
     /// since a connection is not judged any more.
@@ -237,9 +231,6 @@ pub(crate) const RULES: &[Rule] = &[
     Rule::BadConcatenation,
     Rule::TrailingOctets,
     Rule::NoOpening,
-    Rule::OtherClass,
-    Rule::MoreConnections,
-    Rule::Refused,
     Rule::BadVersion,
     Rule::BadLength,
     Rule::BadLi,
@@ -296,24 +287,30 @@ pub(crate) const SAID: &[Said] = &[
     Said::TransportEr,
 ];
 
-/// A verdict on a side of a connection.
+/// A verdict on a side of a byte connection.
 #[derive(Clone, Copy, Debug, PartialEq, Eq, Hash)]
 pub struct Verdict {
     /// The side.
     pub side: TapSide,
     /// What is said of it.
     pub kind: VerdictKind,
-    /// What it sent.
+    /// What was sent.
     pub said: Said,
     /// The rule that it broke.
     pub rule: Rule,
-    /// The offset of the packet in its direction, from 0. A TSDU has that of its last packet.
+    /// The offset of the packet, in the direction of [`by`](Verdict::by), from 0. A TSDU has that of its last packet.
     pub offset: u64,
-    /// The reference that this side gave the connection; `None` if it gave none so far.
-    pub reference: Option<u16>,
+    /// The side that sent the packet. If nothing more of both sides is judged, it may be the other one.
+    pub by: TapSide,
+    /// The number of the connection in the order of the CRs, from 0; `None` if it is of no single one.
+    pub connection: Option<u64>,
+    /// The reference that left gave the connection; `None` if it gave none.
+    pub left: Option<u16>,
+    /// The same of right.
+    pub right: Option<u16>,
 }
 
-pub(crate) fn side_of(number: u32) -> TapSide {
+fn side_of(number: u32) -> TapSide {
     if number == TapSide::Right as u32 {
         TapSide::Right
     } else {
@@ -321,15 +318,15 @@ pub(crate) fn side_of(number: u32) -> TapSide {
     }
 }
 
-pub(crate) fn kind_of(number: u32) -> VerdictKind {
+fn kind_of(number: u32) -> VerdictKind {
     KINDS.into_iter().find(|kind| *kind as u32 == number).unwrap_or(VerdictKind::None)
 }
 
-pub(crate) fn said_of(number: u32) -> Said {
+fn said_of(number: u32) -> Said {
     SAID.iter().copied().find(|said| *said as u32 == number).unwrap_or(Said::Nothing)
 }
 
-pub(crate) fn rule_of(number: u32) -> Rule {
+fn rule_of(number: u32) -> Rule {
     RULES.iter().copied().find(|rule| *rule as u32 == number).unwrap_or(Rule::None)
 }
 
@@ -341,23 +338,47 @@ impl Verdict {
             said: said_of(shown.said),
             rule: rule_of(shown.rule),
             offset: shown.offset,
-            reference: (shown.reference != 0).then_some(shown.reference),
+            by: side_of(shown.by),
+            connection: (shown.connection != ffi::OSI_NO_CONNECTION).then_some(shown.connection),
+            left: (shown.left != 0).then_some(shown.left),
+            right: (shown.right != 0).then_some(shown.right),
+        }
+    }
+
+    fn shown(&self) -> ffi::osi_verdict {
+        ffi::osi_verdict {
+            offset: self.offset,
+            connection: self.connection.unwrap_or(ffi::OSI_NO_CONNECTION),
+            kind: self.kind as u32,
+            side: self.side as u32,
+            by: self.by as u32,
+            rule: self.rule as u32,
+            said: self.said as u32,
+            left: self.left.unwrap_or(0),
+            right: self.right.unwrap_or(0),
         }
     }
 }
 
+/// The line of the verdict, in the words of `osi judge`: `left 1 broke packet 143 Data TokenNotHeld`. `osi.h` lists the
+/// forms.
 impl fmt::Display for Verdict {
     fn fmt(&self, f: &mut fmt::Formatter<'_>) -> fmt::Result {
-        write!(f, "{:?} {:?} packet {}: {:?} {:?}", self.side, self.kind, self.offset, self.said, self.rule)
+        let mut text = [0u8; ffi::OSI_VERDICT_TEXT];
+        // SAFETY: the text has as many octets as the call is told.
+        let length = unsafe { ffi::osi_verdict_text(&self.shown(), text.as_mut_ptr().cast(), text.len()) };
+        f.pad(str::from_utf8(text.get(..length).unwrap_or_default()).unwrap_or_default())
     }
 }
 
-/// Watches a connection between two other programs, and says which side first sent what no conforming end could
-/// have sent there: `osi judge`, piece by piece. It needs no [`End`](crate::End), no key and no clock.
+/// Judges a byte connection between two other programs: it says which side first sent what no conforming end could have
+/// sent there, as `osi judge` does, while the octets pass. It judges both classes of transport and any number of
+/// connections: the transport of each side, and the session of each side of each connection. It needs no
+/// [`End`](crate::End), no key and no clock.
 ///
-/// It reads one connection of class 0, from its first octet on. It keeps the TSDUs that passed, in at most 1 MiB:
-/// those of 196,608 octets of both sides together, and no more than 4,096 of them. What passes after that is not
-/// judged, and a side that was kept until then has [`VerdictKind::NotJudged`] with [`Rule::Limit`].
+/// Of each connection it keeps the TSDUs that passed, in at most 1 MiB. A DT counts the octets of its user data and 48
+/// more, and 196,608 are judged. What passes on the connection after that is not judged, and a side that was kept
+/// until then has [`VerdictKind::NotJudged`] with [`Rule::Limit`].
 ///
 /// ```
 /// use osi_session::{Judge, Rule, TapSide, VerdictKind};
@@ -365,8 +386,9 @@ impl fmt::Display for Verdict {
 /// # fn main() -> Result<(), osi_session::Error> {
 /// let mut judge = Judge::new()?;
 /// judge.feed(TapSide::Left, b"GET / HTTP/1.1")?;
-/// let verdict = judge.next_verdict().expect("no packet begins so");
+/// let verdict = judge.next_verdict()?.expect("no packet begins so");
 /// assert_eq!((verdict.kind, verdict.rule, verdict.offset), (VerdictKind::Broke, Rule::BadVersion, 0));
+/// assert_eq!(verdict.to_string(), "left broke packet 0 TPKT BadVersion");
 /// # Ok(())
 /// # }
 /// ```
@@ -382,7 +404,7 @@ unsafe impl Send for Judge {}
 // SAFETY, of each call below: the slot began as OSI_JUDGE, only these functions read or write it, and `&mut self`
 // keeps two calls apart and ends the borrow of text that was lent.
 impl Judge {
-    /// The judge of a connection on which nothing has passed.
+    /// The judge of a byte connection on which nothing has passed.
     ///
     /// # Errors
     /// [`Error::NoMemory`].
@@ -409,23 +431,63 @@ impl Judge {
         }
     }
 
-    /// A verdict that is certain, whatever passes later: at most one on each side, that on the side that broke the
-    /// protocol first before the other, and never [`VerdictKind::Kept`].
-    pub fn next_verdict(&mut self) -> Option<Verdict> {
+    /// A verdict that is certain, whatever passes later: each once, that on the break that passed first before the
+    /// others, and never [`VerdictKind::Kept`].
+    ///
+    /// What right sends before the first packet of left is certain once that packet has passed: if it is no CR, the
+    /// capture begins in the middle of a connection, and nothing is judged ([`Rule::NoOpening`]).
+    ///
+    /// # Errors
+    /// [`Error::NoMemory`]: make the call again when there is memory.
+    pub fn next_verdict(&mut self) -> Result<Option<Verdict>, Error> {
         let mut shown = ffi::osi_verdict::default();
-        unsafe { ffi::osi_judge_next(self.at(), &mut shown) }.then(|| Verdict::of(&shown))
+        match unsafe { ffi::osi_judge_next(self.at(), &mut shown) } {
+            ffi::OSI_OK => Ok(Some(Verdict::of(&shown))),
+            ffi::OSI_NOTHING => Ok(None),
+            code => Err(Error::of(code)),
+        }
     }
 
-    /// The verdict on a side by what has passed so far, whether it is certain or not. If the connection is over,
-    /// [`VerdictKind::Kept`] is final.
-    pub fn verdict(&mut self, side: TapSide) -> Verdict {
-        let mut shown = ffi::osi_verdict::default();
-        // It answers OSI_OK, since the slot holds a judge, and the number is one of the two.
-        unsafe { ffi::osi_judge_verdict(self.at(), side as u32, &mut shown) };
-        Verdict::of(&shown)
+    /// The verdict by what has passed so far, whether it is certain or not, on the session of a side of the connection
+    /// with this number.
+    ///
+    /// # Errors
+    /// [`Error::NoSuchConnection`] if no connection has this number so far, and [`Error::NoMemory`].
+    pub fn verdict(&mut self, connection: u64, side: TapSide) -> Result<Verdict, Error> {
+        self.ask(connection, side)
     }
 
-    /// The text of the verdict on what has passed so far, in the lines of `osi judge`.
+    /// The verdict by what has passed so far on the transport of a side: its first break, else the packet after which
+    /// nothing more of it is judged, else [`VerdictKind::Kept`].
+    ///
+    /// # Errors
+    /// [`Error::NoMemory`].
+    pub fn transport_verdict(&mut self, side: TapSide) -> Result<Verdict, Error> {
+        self.ask(ffi::OSI_NO_CONNECTION, side)
+    }
+
+    fn ask(&mut self, connection: u64, side: TapSide) -> Result<Verdict, Error> {
+        let mut shown = ffi::osi_verdict::default();
+        match unsafe { ffi::osi_judge_verdict(self.at(), connection, side as u32, &mut shown) } {
+            ffi::OSI_OK => Ok(Verdict::of(&shown)),
+            code => Err(Error::of(code)),
+        }
+    }
+
+    /// How many connections were requested so far. Their numbers are 0 to one less.
+    ///
+    /// # Errors
+    /// [`Error::NoMemory`].
+    pub fn connections(&mut self) -> Result<u64, Error> {
+        let mut connections = 0;
+        match unsafe { ffi::osi_judge_connections(self.at(), &mut connections) } {
+            ffi::OSI_OK => Ok(connections),
+            code => Err(Error::of(code)),
+        }
+    }
+
+    /// The text of the verdict on all that has passed so far: what `osi judge` prints for it. Its last line is "both kept
+    /// the protocol" only if all that passed was judged.
     ///
     /// # Errors
     /// [`Error::NoMemory`].

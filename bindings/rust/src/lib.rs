@@ -90,7 +90,6 @@ mod indications;
 mod judges;
 mod terms;
 mod traces;
-mod watches;
 
 /// The version of the library for C. `CARGO_PKG_VERSION` is that of this crate.
 #[must_use]
@@ -107,7 +106,6 @@ pub use indications::Indication;
 pub use judges::{Judge, NotFed, Rule, Said, TapSide, Verdict, VerdictKind};
 pub use terms::{Classes, Opening, Phase, Reference, Refusal, Side, Sides, Sizes, Terms, Tokens, Units};
 pub use traces::{Counters, Direction, Tally, Trace};
-pub use watches::{Watch, WatchVerdict};
 
 /// These do not compile. Two threads can't use an end at the same time:
 ///

@@ -4,11 +4,9 @@ pub mod a_handle_is_a_box
 pub mod a_slot_lends_what_it_holds
 pub mod what_each_slot_holds
 pub mod what_is_lent_is_stored
-pub mod verdicts_are_fetched_in_turn
 pub mod octets_are_followed_by_zeros
-pub mod a_piece_passes_turn_by_turn
-pub mod a_piece_passes_to_a_tap
+pub mod a_piece_passes_to_a_judge
 pub mod a_note_is_of_what_passed
-pub mod what_is_fetched_of_a_tap
+pub mod what_is_fetched_of_a_judge
+pub mod what_is_asked_of_a_judge
 pub mod each_connection_is_looked_at
-pub mod what_is_told_is_by_facts

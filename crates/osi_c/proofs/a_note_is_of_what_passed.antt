@@ -1,5 +1,5 @@
 -- What C is told of a side of a connection is by what was found of what passed on it, and its references are those that passed.
--- For the functions of `notes` and `note_codes`.
+-- For the functions of `notes` and `verdicts`.
 use Rattle.std.proofs.Common.{arith, ◌≡◌, ℕ, Bool, Option, Some, None}
 use Rattle.osi_judge.specs.declared.directions.Direction.{Direction}
 use Rattle.osi_judge.specs.declared.findings.Finding.{Finding}
@@ -11,11 +11,11 @@ use Rattle.osi_tap.specs.Holding.{line_in, HoldsFound, HoldsJoined, IsHeard, IsP
 use Rattle.osi_tap.specs.Rooms.{is_over}
 use Rattle.osi_tap.proofs.the_session_of_a_side_is_known.{session_at}
 use Rattle.osi_verdict.specs.Leaving.{is_dropped}
-use Rattle.osi_c.specs.NoteCodes.{named_in}
 use Rattle.osi_c.specs.Notes.{note_of_found, note_unless, IsNoteOf, IsNoteAt}
-use Rattle.osi_c.specs.declared.note_codes.References.{References}
+use Rattle.osi_c.specs.Verdicts.{named_in}
 use Rattle.osi_c.specs.declared.notes.Note.{Note}
-use Rattle.osi_c.specs.declared.notes.Note.TheVariants.{Nothing}
+use Rattle.osi_c.specs.declared.notes.Note.TheVariants.{Silent}
+use Rattle.osi_c.specs.declared.verdicts.References.{References}
 
 -- the note that is made of what was found of both sides
 pub note_is : (d : Direction) (c : Connection) (j : Joined) (f g : Finding) (o : ℕ) (b : Break) (dropped over : Bool) (n m : Note)
@@ -29,7 +29,7 @@ pub note_held : (d : Direction) (o : Option Joined) (c : Connection) (n : Note) 
     → ((j : Joined) → HoldsJoined c j → IsNoteOf d j n) → IsNoteAt d o n
 note_held d o c n h k = grind arith
 
-pub note_missing : (d : Direction) (o : Option Joined) → HoldsFound None o → IsNoteAt d o Nothing
+pub note_missing : (d : Direction) (o : Option Joined) → HoldsFound None o → IsNoteAt d o Silent
 note_missing d o h = grind arith
 
 pub names_held : (o : Option Joined) (c : Connection) (r : References) → HoldsFound (Some c) o

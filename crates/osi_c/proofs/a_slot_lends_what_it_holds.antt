@@ -1,5 +1,5 @@
 -- What `get_mut` of a slot does, whatever is in the box: it lends what the pointer points to, and then the slot holds its last value.
--- For the proofs by hand of the three slots' `get_mut`, each of which is an instance of this.
+-- For the proofs by hand of the two slots' `get_mut`, each of which is an instance of this.
 use Rattle.std.proofs.Common.{◌≡◌, ℕ, List, [], ◌∷◌, refl, sym, ◌∙◌}
 use Rattle.std.proofs.raw_atomic.Walks.{proved}
 use seplogic.Ra.Ura.{Ura}

@@ -1,25 +1,32 @@
 -- If nothing is due of each connection that a tap holds, nothing is due of the connection with any number.
--- For `is_still` of `notes`, and for `due_by`, `due_of_each` and `sessions_due` of `tap_watching`.
-use Rattle.std.proofs.Common.{◌≡◌, refl, sym, subst, ℕ, zero, suc, ◌+◌, ◌<◌, ◌≤◌, ◌⊎◌, inl, inr, arith, List, [], ◌∷◌, ◌++◌, length, get_or}
+-- For `is_still`, `due_by`, `due_of_each` and `sessions_due`.
+use Rattle.std.proofs.Common.{◌≡◌, ◌∙◌, refl, sym, ap, subst, ℕ, zero, suc, ◌+◌, ◌<◌, ◌≤◌, ◌⊎◌, inl, inr, arith, List, [], ◌∷◌, ◌++◌, length, get_or}
 use Rattle.std.proofs.Common.{Bool, true, false, Option, Some, None}
 use Rattle.std.proofs.lemmas.Bool.{eqb-true}
 use Rattle.std.specs.Prelude.{IfNone, slice_get}
 use Rattle.std.specs.List.{find}
+use Rattle.osi_judge.specs.Captures.{Capture}
 use Rattle.osi_judge.specs.declared.directions.Direction.{Direction}
 use Rattle.osi_judge.specs.declared.directions.Direction.TheVariants.{Left, Right}
 use Rattle.osi_tap.specs.declared.connections.Connection.{Connection}
-use Rattle.osi_tap.specs.declared.tap.Tap.{Tap}
 use Rattle.osi_tap.specs.Connections.{Joined, has_number, numbered}
 use Rattle.osi_tap.specs.Holding.{AreHeard, HoldAll, HoldsJoined, IsHeard}
 use Rattle.osi_tap.specs.Standing.{HoldsState, IsJudged, IsSettled}
 use Rattle.osi_tap.specs.Tapping.{State}
-use Rattle.osi_c.specs.Notes.{IsNoteAt, IsNoteOf, IsStill, StillIf}
-use Rattle.osi_c.specs.TapWatching.{is_among, HasNone, HasNoneBy, HasNoneByEach, HasNoneOf, HasNoneOfSessions}
+use Rattle.osi_c.specs.Judges.{fed, Knows}
+use Rattle.osi_c.specs.Notes.{IsNoteAt, IsNoteOf, IsStill, IsStillOf, StillIf, is_certain}
+use Rattle.osi_c.specs.Fetching.{is_among, HasNone, HasNoneBy, HasNoneByEach, HasNoneOf, HasNoneOfSessions}
+use Rattle.osi_c.specs.declared.judges.Judge.{Judge}
+use Rattle.osi_c.specs.declared.notes.Note.{Note}
 use Rattle.osi_c.specs.declared.notes.Note.TheVariants as note
 use Rattle.osi_c.specs.declared.subjects.Subject.{Subject}
 use Rattle.osi_c.specs.declared.subjects.Subject.TheVariants.{Session}
 
 -- ---- one connection
+
+pub still_both : (c : Connection) (n m : Note) → ((j : Joined) → HoldsJoined c j → IsHeard c → IsNoteOf Left j n)
+    → ((j : Joined) → HoldsJoined c j → IsHeard c → IsNoteOf Right j m) → is_certain n ≡ false → is_certain m ≡ false → IsStill c
+still_both c n m left right e f j h k = ((n, left j h k, e), (m, right j h k, f))
 
 pub still_if : (b : Bool) (c : Connection) → b ≡ true → StillIf b c → IsStill c
 still_if b c e h = grind arith
@@ -28,9 +35,9 @@ pub none_as : {X : Type 0} (r : Option X) (A B : Type 0) → (A → B) → IfNon
 none_as h h2 h3 f h4 = grind arith
 
 -- by its number
-pub by_its_number : (t : Tap) (told : List Subject) (c : Connection) (n : ℕ) → ((j : Joined) → HoldsJoined c j → n ≡ j.number)
-    → HasNoneOf t told n → HasNoneBy t told c
-by_its_number t told c n is h = inr (λ j holds. subst (λ (m : ℕ). HasNoneOf t told m) (is j holds) h)
+pub by_its_number : (w : Judge) (told : List Subject) (c : Connection) (n : ℕ) → ((j : Joined) → HoldsJoined c j → n ≡ j.number)
+    → HasNoneOf w told n → HasNoneBy w told c
+by_its_number w told c n is h = inr (λ j holds. subst (λ (m : ℕ). HasNoneOf w told m) (is j holds) h)
 
 -- ---- one after the other
 
@@ -59,74 +66,96 @@ each_place P cs m le h i c e = let lt = within cs i c e in h i c (omega (arith, 
 -- ---- the one with a number
 
 -- nothing is certain of a side of a connection, or nothing is due of it
-abbrev Silent : Direction → Tap → List Subject → Joined → Type 0
-Silent d t told j = IsNoteOf d j note.Nothing ⊎ HasNone t told (Session j.number d)
+abbrev Silent : Direction → Judge → List Subject → Joined → Type 0
+Silent d w told j = IsStillOf d j ⊎ HasNone w told (Session j.number d)
 
-abbrev AreSilent : Direction → Tap → List Subject → List Joined → Type 0
-AreSilent d t told [] = Unit {0}
-AreSilent d t told (j ∷ js) = Silent d t told j × AreSilent d t told js
+abbrev AreSilent : Direction → Judge → List Subject → List Joined → Type 0
+AreSilent d w told [] = Unit {0}
+AreSilent d w told (j ∷ js) = Silent d w told j × AreSilent d w told js
 
-none_of_a_side : (d : Direction) (t : Tap) (told : List Subject) (n : ℕ) → HasNoneOf t told n → HasNone t told (Session n d)
-none_of_a_side Left t told n h = h.0
-none_of_a_side Right t told n h = h.1
+none_of_a_side : (d : Direction) (w : Judge) (told : List Subject) (n : ℕ) → HasNoneOf w told n → HasNone w told (Session n d)
+none_of_a_side Left w told n h = h.0
+none_of_a_side Right w told n h = h.1
 
-silent : (d : Direction) (t : Tap) (told : List Subject) (c : Connection) (j : Joined) → HoldsJoined c j → IsHeard c → HasNoneBy t told c
-    → Silent d t told j
-silent d t told c j h k none = elim none [
-  | inl still ↦ inl (grind arith)
-  | inr due ↦ inr (none_of_a_side d t told j.number (due j h))
+still_of : (d : Direction) (c : Connection) (j : Joined) → IsStill c → HoldsJoined c j → IsHeard c → IsStillOf d j
+still_of Left c j still h k = (still j h k).0
+still_of Right c j still h k = (still j h k).1
+
+silent : (d : Direction) (w : Judge) (told : List Subject) (c : Connection) (j : Joined) → HoldsJoined c j → IsHeard c → HasNoneBy w told c
+    → Silent d w told j
+silent d w told c j h k none = elim none [
+  | inl still ↦ inl (still_of d c j still h k)
+  | inr due ↦ inr (none_of_a_side d w told j.number (due j h))
 ]
 
-all_silent : (d : Direction) (t : Tap) (told : List Subject) (cs : List Connection) (js : List Joined) → HoldAll cs js → AreHeard cs
-    → HasNoneByEach t told cs → AreSilent d t told js
-all_silent d t told [] [] h k each = tt
-all_silent d t told [] (j ∷ js) h k each = absurd h
-all_silent d t told (c ∷ cs) [] h k each = absurd h
-all_silent d t told (c ∷ cs) (j ∷ js) h k each =
-    (silent d t told c j h.0 k.0 (each zero c refl), all_silent d t told cs js h.1 k.1 (λ i x e. each (suc i) x e))
+all_silent : (d : Direction) (w : Judge) (told : List Subject) (cs : List Connection) (js : List Joined) → HoldAll cs js → AreHeard cs
+    → HasNoneByEach w told cs → AreSilent d w told js
+all_silent d w told [] [] h k each = tt
+all_silent d w told [] (j ∷ js) h k each = absurd h
+all_silent d w told (c ∷ cs) [] h k each = absurd h
+all_silent d w told (c ∷ cs) (j ∷ js) h k each =
+    (silent d w told c j h.0 k.0 (each zero c refl), all_silent d w told cs js h.1 k.1 (λ i x e. each (suc i) x e))
 
-both_silent : (d : Direction) (t : Tap) (told : List Subject) (js ks : List Joined) → AreSilent d t told js → AreSilent d t told ks
-    → AreSilent d t told (js ++ ks)
-both_silent d t told [] ks h k = k
-both_silent d t told (j ∷ js) ks h k = (h.0, both_silent d t told js ks h.1 k)
+both_silent : (d : Direction) (w : Judge) (told : List Subject) (js ks : List Joined) → AreSilent d w told js → AreSilent d w told ks
+    → AreSilent d w told (js ++ ks)
+both_silent d w told [] ks h k = k
+both_silent d w told (j ∷ js) ks h k = (h.0, both_silent d w told js ks h.1 k)
 
-abbrev SilentAt : Direction → Tap → List Subject → ℕ → Option Joined → Type 0
-SilentAt d t told number None = Unit {0}
-SilentAt d t told number (Some j) = (j.number ≡ number) × Silent d t told j
+abbrev SilentAt : Direction → Judge → List Subject → ℕ → Option Joined → Type 0
+SilentAt d w told number None = Unit {0}
+SilentAt d w told number (Some j) = (j.number ≡ number) × Silent d w told j
 
-silent_found : (d : Direction) (t : Tap) (told : List Subject) (number : ℕ) (js : List Joined) → AreSilent d t told js
-    → SilentAt d t told number (find (has_number number) js)
-silent_found d t told number [] h = tt
-silent_found d t told number (j ∷ js) h = grind (arith, eqb-true, silent_found d t told number js h.1)
+silent_found : (d : Direction) (w : Judge) (told : List Subject) (number : ℕ) (js : List Joined) → AreSilent d w told js
+    → SilentAt d w told number (find (has_number number) js)
+silent_found d w told number [] h = tt
+silent_found d w told number (j ∷ js) h = grind (arith, eqb-true, silent_found d w told number js h.1)
 
-note_of_silent : (d : Direction) (t : Tap) (told : List Subject) (s : State) (number : ℕ) (o : Option Joined)
-    → numbered number s.course.sessions ≡ o → HoldsState t s → IsSettled t → is_among told (Session number d) ≡ false
-    → SilentAt d t told number o → IsNoteAt d (numbered number s.course.sessions) note.Nothing
-note_of_silent d t told s number None e h k fresh is = subst (λ (o : Option Joined). IsNoteAt d o note.Nothing) (sym e) refl
-note_of_silent d t told s number (Some j) e h k fresh is = elim is.1 [
-  | inl said ↦ subst (λ (o : Option Joined). IsNoteAt d o note.Nothing) (sym e) said
-  | inr none ↦ grind arith
+not_both : (b : Bool) → b ≡ true → b ≡ false → ⊥
+not_both b h k = cc
+
+-- what is told of a side of a connection is not certain
+abbrev IsStillAt : Direction → Option Joined → Type 0
+IsStillAt d o = (n : Note) × IsNoteAt d o n × (is_certain n ≡ false)
+
+of_none : (d : Direction) (w : Judge) (told : List Subject) (capture : Capture) (number : ℕ) (j : Joined) → j.number ≡ number
+    → Knows w capture → IsSettled w.tap → is_among told (Session number d) ≡ false → HasNone w told (Session j.number d)
+    → IsStillAt d (numbered number (fed capture).course.sessions)
+of_none d w told capture number j e h k fresh none = elim none [
+  | inl before ↦ absurd (not_both (is_among told (Session number d)) (ap (λ (n : ℕ). is_among told (Session n d)) (sym e) ∙ before) fresh)
+  | inr nothing ↦ subst (λ (n : ℕ). IsStillAt d (numbered n (fed capture).course.sessions)) e (nothing capture h k)
+]
+
+note_of_silent : (d : Direction) (w : Judge) (told : List Subject) (capture : Capture) (number : ℕ) (o : Option Joined)
+    → numbered number (fed capture).course.sessions ≡ o → Knows w capture → IsSettled w.tap → is_among told (Session number d) ≡ false
+    → SilentAt d w told number o → IsStillAt d (numbered number (fed capture).course.sessions)
+note_of_silent d w told capture number None e h k fresh is =
+    subst (λ (o : Option Joined). IsStillAt d o) (sym e) (note.Silent, refl, refl)
+note_of_silent d w told capture number (Some j) e h k fresh is = elim is.1 [
+  | inl said ↦ subst (λ (o : Option Joined). IsStillAt d o) (sym e) said
+  | inr none ↦ of_none d w told capture number j is.0 h k fresh none
 ]
 
 -- ---- any number
 
-module _ (t : Tap) (told : List Subject) (cs ds : List Connection)
-    (placed : (s : State) → HoldsState t s → IsJudged t → HoldAll cs s.course.sessions.live) (heard : IsSettled t → AreHeard cs)
-    (replaced : (s : State) → HoldsState t s → IsJudged t → HoldAll ds s.course.sessions.done) (gone : IsSettled t → AreHeard ds)
-    (each : HasNoneByEach t told cs) (other : HasNoneByEach t told ds) where
-  by_number : (d : Direction) (number : ℕ) (s : State) → HoldsState t s → IsSettled t → is_among told (Session number d) ≡ false
-      → IsNoteAt d (numbered number s.course.sessions) note.Nothing
-  by_number d number s h k fresh =
-      note_of_silent d t told s number (numbered number s.course.sessions) refl h k fresh
-      (silent_found d t told number (s.course.sessions.live ++ s.course.sessions.done)
-      (both_silent d t told s.course.sessions.live s.course.sessions.done
-      (all_silent d t told cs s.course.sessions.live (placed s h k.judged) (heard k) each)
-      (all_silent d t told ds s.course.sessions.done (replaced s h k.judged) (gone k) other)))
+module _ (w : Judge) (told : List Subject) (cs ds : List Connection)
+    (placed : (s : State) → HoldsState w.tap s → IsJudged w.tap → HoldAll cs s.course.sessions.live)
+    (heard : IsSettled w.tap → AreHeard cs)
+    (replaced : (s : State) → HoldsState w.tap s → IsJudged w.tap → HoldAll ds s.course.sessions.done)
+    (gone : IsSettled w.tap → AreHeard ds) (each : HasNoneByEach w told cs) (other : HasNoneByEach w told ds) where
+  by_number : (d : Direction) (number : ℕ) (capture : Capture) → Knows w capture → IsSettled w.tap
+      → is_among told (Session number d) ≡ false → IsStillAt d (numbered number (fed capture).course.sessions)
+  by_number d number capture h k fresh =
+      let all = (fed capture).course.sessions in
+      note_of_silent d w told capture number (numbered number all) refl h k fresh
+      (silent_found d w told number (all.live ++ all.done)
+      (both_silent d w told all.live all.done
+      (all_silent d w told cs all.live (placed (fed capture) h.holds k.judged) (heard k) each)
+      (all_silent d w told ds all.done (replaced (fed capture) h.holds k.judged) (gone k) other)))
 
-  none_by : (d : Direction) (number : ℕ) (b : Bool) → is_among told (Session number d) ≡ b → HasNone t told (Session number d)
+  none_by : (d : Direction) (number : ℕ) (b : Bool) → is_among told (Session number d) ≡ b → HasNone w told (Session number d)
   none_by d number true e = inl e
-  none_by d number false e = inr (λ s h k. by_number d number s h k e)
+  none_by d number false e = inr (λ capture h k. by_number d number capture h k e)
 
-  pub of_any_number : HasNoneOfSessions t told
-  of_any_number = λ s h k number lt.
+  pub of_any_number : HasNoneOfSessions w told
+  of_any_number = λ capture h k number lt.
       (none_by Left number (is_among told (Session number Left)) refl, none_by Right number (is_among told (Session number Right)) refl)

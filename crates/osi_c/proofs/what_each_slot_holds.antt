@@ -1,21 +1,16 @@
--- The three kinds of slot: of an end, of a judge, and of a watch of a byte connection.
+-- The two kinds of slot: of an end, and of a judge.
 -- For the proofs by hand of each one's handle and `get_mut`.
 use Rattle.std.proofs.Common.{refl}
 use Rattle.osi_c.specs.contracts.handles.Contents.{the_row as contents}
 use Rattle.osi_c.specs.contracts.handles.Handle.{the_type as end_handle}
 use Rattle.osi_c.specs.contracts.slots.OsiEnd.{the_type as end_slot}
-use Rattle.osi_c.specs.contracts.watches.Watch.{the_row as judge}
-use Rattle.osi_c.specs.contracts.handles.watch.WatchHandle.{the_type as judge_handle}
-use Rattle.osi_c.specs.contracts.judges.OsiJudge.{the_type as judge_slot}
-use Rattle.osi_c.specs.contracts.tap_watches.TapWatch.{the_row as watch}
-use Rattle.osi_c.specs.contracts.handles.tap.TapHandle.{the_type as watch_handle}
-use Rattle.osi_c.specs.contracts.tap_slots.OsiWatch.{the_type as watch_slot}
+use Rattle.osi_c.specs.contracts.judges.Judge.{the_row as judge}
+use Rattle.osi_c.specs.contracts.handles.judge.JudgeHandle.{the_type as judge_handle}
+use Rattle.osi_c.specs.contracts.judge_slots.OsiJudge.{the_type as judge_slot}
 use Rattle.osi_c.specs.Lent.{holding as holding_an_end}
 use Rattle.osi_c.specs.LentJudge.{holding as holding_a_judge}
-use Rattle.osi_c.specs.LentTap.{holding as holding_a_watch}
 use Rattle.osi_c.proofs.handles.Contents.TheLaws.{the_row_laws as contents_laws}
-use Rattle.osi_c.proofs.watches.Watch.TheLaws.{the_row_laws as judge_laws}
-use Rattle.osi_c.proofs.tap_watches.TapWatch.TheLaws.{the_row_laws as watch_laws}
+use Rattle.osi_c.proofs.judges.Judge.TheLaws.{the_row_laws as judge_laws}
 use Rattle.osi_c.proofs.a_slot_holds_a_box.{SlotKind}
 
 abbrev pub of_an_end : SlotKind
@@ -54,26 +49,6 @@ of_a_judge = record {
   slot_one = judge_slot.to_one;
   tied = λ s. s.tied;
   holding = holding_a_judge;
-  holding_full = λ s x. refl;
-  holding_inner = λ s x. refl;
-}
-
-abbrev pub of_a_watch : SlotKind
-of_a_watch = record {
-  held = watch;
-  laws = watch_laws;
-  handle = watch_handle;
-  at = λ h. h.at;
-  value = λ h. h.value;
-  made = λ p m. record { at = p; value = m };
-  made_at = λ p m. refl;
-  made_value = λ p m. refl;
-  slot = watch_slot;
-  full = λ s. s.full;
-  inner = λ s. s.inner;
-  slot_one = watch_slot.to_one;
-  tied = λ s. s.tied;
-  holding = holding_a_watch;
   holding_full = λ s x. refl;
   holding_inner = λ s x. refl;
 }

@@ -1,7 +1,6 @@
 pub mod Owned
 pub mod Lent
 pub mod LentJudge
-pub mod LentTap
 pub mod Codes
 pub mod Arguments
 pub mod Traced
@@ -9,12 +8,11 @@ pub mod Ends
 pub mod Tracing
 pub mod Addressed
 pub mod Told
-pub mod Watched
 pub mod Ruled
-pub mod Verdicts
-pub mod Watching
+pub mod Judges
 pub mod Subjects
 pub mod Notes
-pub mod NoteCodes
-pub mod TapFed
-pub mod TapWatching
+pub mod Verdicts
+pub mod Fetching
+pub mod Asking
+pub mod Judgements

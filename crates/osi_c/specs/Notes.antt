@@ -1,28 +1,27 @@
--- What C is told of a byte connection that it watches, by what passed.
-use Rattle.std.specs.Prelude.{◌≡◌, ℕ, ◌==◌, Bool, true, false, if◌then◌else◌, Option, Some, None}
-use Rattle.osi_tpkt.specs.Stream.{offset_of}
+-- What C is told of a byte connection, by what passed.
+use Rattle.std.specs.Prelude.{◌≡◌, ℕ, Bool, true, false, if◌then◌else◌, Option, Some, None}
 use Rattle.osi_judge.specs.declared.directions.Direction.{Direction}
 use Rattle.osi_judge.specs.declared.directions.Direction.TheVariants.{Left, Right}
 use Rattle.osi_judge.specs.declared.findings.Finding.{Finding}
 use Rattle.osi_judge.specs.declared.findings.Finding.TheVariants as finding
 use Rattle.osi_judge.specs.declared.rules.Break.{Break}
-use Rattle.osi_judge.specs.Captures.{other}
+use Rattle.osi_judge.specs.Captures.{Capture, other, stream}
 use Rattle.osi_judge.specs.Judging.{Watched}
 use Rattle.osi_tap.specs.declared.connections.Connection.{Connection}
 use Rattle.osi_tap.specs.declared.marks.Mark.{Mark}
-use Rattle.osi_tap.specs.declared.marks.UnitKind.{UnitKind}
-use Rattle.osi_tap.specs.declared.marks.UnitKind.TheVariants.{Cr}
-use Rattle.osi_tap.specs.declared.tap.Tap.{Tap}
-use Rattle.osi_tap.specs.Connections.{Joined, spoken, numbered, count}
+use Rattle.osi_tap.specs.Connections.{Joined, spoken, numbered}
 use Rattle.osi_tap.specs.Courses.{marks_of}
 use Rattle.osi_tap.specs.Holding.{HoldsJoined, IsHeard, IsPlace}
 use Rattle.osi_tap.specs.KnownSessions.{IsSession}
 use Rattle.osi_tap.specs.Rooms.{is_over}
-use Rattle.osi_tap.specs.Standing.{HoldsState, IsSettled}
+use Rattle.osi_tap.specs.Standing.{IsSettled}
 use Rattle.osi_tap.specs.Tapping.{State}
 use Rattle.osi_verdict.specs.Leaving.{is_dropped}
+use Rattle.osi_dispute.specs.Openings.{begins_late}
+use Rattle.osi_c.specs.Judges.{fed, Knows}
+use Rattle.osi_c.specs.declared.judges.Judge.{Judge}
 use Rattle.osi_c.specs.declared.notes.Note.{Note}
-use Rattle.osi_c.specs.declared.notes.Note.TheVariants.{Nothing, Broke, Leaves, TooMany, Over, Stopped, Halted, Unopened}
+use Rattle.osi_c.specs.declared.notes.Note.TheVariants.{Silent, Kept, Broke, Leaves, TooMany, Over, Stopped, Halted, Unopened}
 use Rattle.osi_c.specs.declared.subjects.Subject.{Subject}
 use Rattle.osi_c.specs.declared.subjects.Subject.TheVariants.{Session, Transport, Rest}
 
@@ -32,14 +31,14 @@ use Rattle.osi_c.specs.declared.subjects.Subject.TheVariants.{Session, Transport
 -- it is judged no further
 abbrev pub note_of_found : (is_over : Bool) → Finding → (offset : ℕ) → Break → Note
 note_of_found true finding.Kept offset by = Over
-note_of_found false finding.Kept offset by = Nothing
+note_of_found false finding.Kept offset by = Kept
 note_of_found is_over (finding.Broke i) offset by = Broke offset by
 note_of_found is_over (finding.Left i) offset by = Leaves offset by
 note_of_found is_over finding.TooMany offset by = TooMany
 
--- after the other side left the profile, a side is judged no further
+-- after the other side left the profile, nothing is told of a side
 abbrev pub note_unless : (is_dropped : Bool) → Note → Note
-note_unless true n = Nothing
+note_unless true n = Silent
 note_unless false n = n
 
 -- of a side of a connection
@@ -53,52 +52,57 @@ pub record IsNoteOf (d : Direction) (j : Joined) (n : Note) : Type 0 where
   pub tells : n ≡ note_unless (is_dropped own.finding beside.finding) (note_of_found (is_over j.room) own.finding offset own.by)
 
 abbrev pub IsNoteAt : Direction → Option Joined → Note → Type 0
-IsNoteAt d None n = n ≡ Nothing
+IsNoteAt d None n = n ≡ Silent
 IsNoteAt d (Some j) n = IsNoteOf d j n
 
--- nothing is certain of either side of a connection that a tap holds, once each session has heard all
+-- ---- of a transport
+
+-- the first break, unless nothing of the capture is judged
+abbrev pub note_of_break : (is_late : Bool) → Option Mark → Note
+note_of_break is_late None = Kept
+note_of_break is_late (Some m) = if is_late then Silent else Stopped m
+
+-- the packet after which nothing more is judged
+abbrev pub note_of_halt : (is_late : Bool) → Option Mark → Note
+note_of_halt is_late None = Kept
+note_of_halt is_late (Some m) = if is_late then Unopened m else Halted m
+
+-- ---- of any subject
+
+-- by what a capture comes to, which begins in the middle of a connection or not
+abbrev pub IsNote : State → (is_late : Bool) → Subject → Note → Type 0
+IsNote s is_late (Session number d) n = IsNoteAt d (numbered number s.course.sessions) n
+IsNote s is_late (Transport d) n = n ≡ note_of_break is_late (marks_of d s.course).broke
+IsNote s is_late (Rest d) n = n ≡ note_of_halt is_late (marks_of d s.course).halted
+
+abbrev pub is_late_in : Capture → Bool
+is_late_in capture = begins_late (fed capture) (stream Left capture)
+
+-- whatever the judge was fed
+abbrev pub Tells : Judge → Subject → Note → Type 0
+Tells w k n = (capture : Capture) → Knows w capture → IsSettled w.tap → IsNote (fed capture) (is_late_in capture) k n
+
+-- ---- what is certain
+
+-- a side that keeps the protocol may break it later, and of a side of which nothing is told nothing is certain
+abbrev pub is_certain : Note → Bool
+is_certain Silent = false
+is_certain Kept = false
+is_certain n = true
+
+-- nothing is certain of a side of a connection
+abbrev pub IsStillOf : Direction → Joined → Type 0
+IsStillOf d j = (n : Note) × IsNoteOf d j n × (is_certain n ≡ false)
+
+-- of either side of a connection that a tap holds, once each session has heard all
 abbrev pub IsStill : Connection → Type 0
-IsStill c = (j : Joined) → HoldsJoined c j → IsHeard c → IsNoteOf Left j Nothing × IsNoteOf Right j Nothing
+IsStill c = (j : Joined) → HoldsJoined c j → IsHeard c → IsStillOf Left j × IsStillOf Right j
 
 abbrev pub StillIf : Bool → Connection → Type 0
 StillIf true c = IsStill c
 StillIf false c = Unit {0}
 
--- ---- of a transport
-
-abbrev pub is_no_cr : UnitKind → Bool
-is_no_cr Cr = false
-is_no_cr unit = true
-
--- The capture begins in the middle of a connection: no connection was requested before the unit, and it requests none.
-abbrev pub is_unopened : (is_none : Bool) → Option UnitKind → Bool
-is_unopened false unit = false
-is_unopened true None = false
-is_unopened true (Some unit) = is_no_cr unit
-
-abbrev pub note_of_break : (is_none : Bool) → Option Mark → Note
-note_of_break is_none None = Nothing
-note_of_break is_none (Some m) = if is_unopened is_none m.unit then Nothing else Stopped m
-
-abbrev pub note_of_halt : (is_none : Bool) → Option Mark → Note
-note_of_halt is_none None = Nothing
-note_of_halt is_none (Some m) = if is_unopened is_none m.unit then Unopened m else Halted m
-
--- ---- of any subject
-
--- no connection was requested
-abbrev pub is_none_in : State → Bool
-is_none_in s = offset_of (count s.course.sessions) == 0
-
-abbrev pub IsNote : State → Subject → Note → Type 0
-IsNote s (Session number d) n = IsNoteAt d (numbered number s.course.sessions) n
-IsNote s (Transport d) n = n ≡ note_of_break (is_none_in s) (marks_of d s.course).broke
-IsNote s (Rest d) n = n ≡ note_of_halt (is_none_in s) (marks_of d s.course).halted
-
--- whatever the tap was fed
-abbrev pub Tells : Tap → Subject → Note → Type 0
-Tells t k n = (s : State) → HoldsState t s → IsSettled t → IsNote s k n
-
-abbrev pub is_certain : Note → Bool
-is_certain Nothing = false
-is_certain n = true
+-- of a subject, whatever the judge was fed
+abbrev pub TellsNothing : Judge → Subject → Type 0
+TellsNothing w k = (capture : Capture) → Knows w capture → IsSettled w.tap
+    → (n : Note) × IsNote (fed capture) (is_late_in capture) k n × (is_certain n ≡ false)

@@ -2,8 +2,6 @@
 use Rattle.std.specs.Prelude.{◌≡◌, ℕ, Option, Some, None}
 use Rattle.osi_judge.specs.declared.rules.Rule.{Rule}
 use Rattle.osi_judge.specs.declared.rules.Rule.TheVariants as rule
-use Rattle.osi_judge.specs.declared.stops.Stop.{Stop}
-use Rattle.osi_judge.specs.declared.stops.Stop.TheVariants as stop
 use Rattle.osi_session.specs.declared.breaches.Breach.{Breach}
 use Rattle.osi_session.specs.declared.breaches.Breach.TheVariants as breach
 use Rattle.osi_spdu.specs.declared.faults.SpduFault.{SpduFault}
@@ -36,13 +34,6 @@ said_code (Some unit.NotFinished) = 15
 said_code (Some unit.Abort) = 16
 said_code (Some unit.AbortAccept) = 17
 said_code None = 18
-
--- a packet or transport unit at which a side was stopped
-abbrev pub stopped_at_code : Stop → ℕ
-stopped_at_code (stop.BadPacket fault) = 19
-stopped_at_code stop.TsduTooLong = 21
-stopped_at_code stop.WrongForm = 22
-stopped_at_code s = 20
 
 -- ---- rules
 
@@ -79,15 +70,3 @@ unit_code (tpdu.UnknownCode at) = 57
 unit_code (tpdu.BadParameterLength at) = 58
 unit_code (tpdu.BadParameterValue at) = 59
 unit_code (tpdu.DuplicateParameter at) = 60
-
-abbrev pub stop_code : Stop → ℕ
-stop_code stop.NoOpening = 50
-stop_code stop.OtherClass = 51
-stop_code stop.MoreConnections = 52
-stop_code stop.Refused = 53
-stop_code (stop.BadPacket fault) = packet_code fault
-stop_code (stop.BadUnit fault) = unit_code fault
-stop_code stop.UnexpectedUnit = 61
-stop_code stop.WrongForm = 62
-stop_code stop.TsduTooLong = 63
-stop_code stop.NothingToAnswer = 33

@@ -1,156 +1,173 @@
--- What C is told of a side of a connection that it watches.
-use Rattle.std.specs.Prelude.{◌≡◌, ℕ, nat_lt, Bool, true, false, ◌&&◌, Option, Some, None, if◌then◌else◌}
-use Rattle.osi_judge.specs.Captures.{Capture, other}
-use Rattle.osi_judge.specs.Feeding.{Tapped, stopped_of}
-use Rattle.osi_judge.specs.Following.{judged, half_of, first_in}
-use Rattle.osi_judge.specs.Stops.{is_break}
-use Rattle.osi_judge.specs.Tapping.{IsFoundIn, IsStoppedIn, IsFirstIn}
+-- What C is told of a byte connection, in the numbers of C.
+use Rattle.std.specs.Prelude.{◌≡◌, ℕ, ◌-◌, ◌^◌, Option, Some, None}
 use Rattle.osi_judge.specs.declared.directions.Direction.{Direction}
-use Rattle.osi_judge.specs.declared.directions.Direction.TheVariants.{Left, Right}
-use Rattle.osi_judge.specs.declared.findings.Finding.{Finding}
-use Rattle.osi_judge.specs.declared.findings.Finding.TheVariants as finding
-use Rattle.osi_judge.specs.declared.rules.Break.{Break}
-use Rattle.osi_judge.specs.declared.stops.Stopped.{Stopped}
-use Rattle.osi_verdict.specs.Facts.{Facts, AreFacts, IsFirstOf, is_refusal, left_first, other_left}
-use Rattle.osi_verdict.specs.Verdicts.{Knows, KeepsIn}
-use Rattle.osi_c.specs.Ruled.{said_code, stopped_at_code, IsRule, stop_code}
-use Rattle.osi_c.specs.Watched.{side_of}
-use Rattle.osi_c.specs.declared.verdicts.Told.{Told}
-use Rattle.osi_c.specs.declared.verdicts.Told.TheVariants as told
+use Rattle.osi_rules.specs.declared.findings.Rule.{Rule}
+use Rattle.osi_rules.specs.declared.findings.Rule.TheVariants as rule
+use Rattle.osi_tap.specs.declared.marks.Cause.{Cause}
+use Rattle.osi_tap.specs.declared.marks.Cause.TheVariants as cause
+use Rattle.osi_tap.specs.declared.marks.UnitKind.{UnitKind}
+use Rattle.osi_tap.specs.declared.marks.UnitKind.TheVariants as unit
+use Rattle.osi_tap.specs.declared.tap.Tap.{Tap}
+use Rattle.osi_tap.specs.Connections.{Joined, numbered}
+use Rattle.osi_tap.specs.Standing.{HoldsState, IsSettled}
+use Rattle.osi_tap.specs.Tapping.{State}
+use Rattle.osi_c.specs.Judges.{side_of}
 use Rattle.osi_c.specs.declared.verdicts.OsiVerdict.{OsiVerdict}
-use Rattle.osi_c.specs.declared.watches.Watch.{Watch}
+use Rattle.osi_c.specs.declared.verdicts.References.{References}
+use Rattle.osi_c.specs.declared.notes.Note.{Note}
+use Rattle.osi_c.specs.declared.notes.Note.TheVariants.{Silent, Kept, Broke, Leaves, TooMany, Over, Stopped, Halted, Unopened}
+use Rattle.osi_c.specs.declared.subjects.Subject.{Subject}
+use Rattle.osi_c.specs.declared.subjects.Subject.TheVariants.{Session, Transport, Rest}
+use Rattle.osi_c.specs.Ruled.{said_code, IsRule, packet_code, unit_code}
+use Rattle.osi_c.specs.Subjects.{side_in}
 
--- ---- what is told is a function of what is known of both sides
+-- ---- what a transport sent, and the rule that it broke
 
--- A side whose transport is looked at no further broke the protocol, or is judged no further; a refusal ends a connection
--- that kept it.
-abbrev pub told_at : Stopped → Told
-told_at s = if is_break s.stop then told.Stopped s else (if is_refusal s.stop then told.Kept else told.Unjudged s)
+abbrev pub transport_rule_code : Rule → ℕ
+transport_rule_code rule.NothingToAnswer = 33
+transport_rule_code rule.UnexpectedUnit = 61
+transport_rule_code rule.WrongForm = 62
+transport_rule_code rule.TsduTooLong = 63
+transport_rule_code rule.OneConnection = 80
+transport_rule_code rule.Negotiating = 81
+transport_rule_code rule.ReferenceInUse = 82
+transport_rule_code rule.UnknownReference = 83
+transport_rule_code rule.BadAnswer = 84
+transport_rule_code rule.LargerSize = 85
+transport_rule_code rule.Closed = 86
+transport_rule_code rule.OutOfSequence = 87
+transport_rule_code rule.NoCredit = 88
+transport_rule_code rule.SizeExceeded = 89
+transport_rule_code rule.CreditReduced = 90
 
--- of a side of which every TSDU is explained
-abbrev pub told_of_kept : (is_full : Bool) → Option Stopped → Told
-told_of_kept is_full (Some s) = told_at s
-told_of_kept true None = told.Full
-told_of_kept false None = told.Kept
+abbrev pub cause_code : Cause → ℕ
+cause_code (cause.BadPacket fault) = packet_code fault
+cause_code (cause.BadUnit fault) = unit_code fault
+cause_code (cause.Broke broken) = transport_rule_code broken
+cause_code cause.Outside = 34
+cause_code cause.TooMany = 71
 
--- The session is to blame by the packet at this offset, unless the transport was to blame before: a DT of left may come before the
--- answer to its CR.
-abbrev pub told_of_blamed : Option Stopped → (offset : ℕ) → Told → Told
-told_of_blamed None offset t = t
-told_of_blamed (Some s) offset t = if is_break s.stop && nat_lt s.offset offset then told.Stopped s else t
+abbrev pub unit_said_code : UnitKind → ℕ
+unit_said_code unit.Dt = 21
+unit_said_code unit.Dr = 22
+unit_said_code unit.Cr = 23
+unit_said_code unit.Cc = 24
+unit_said_code unit.Dc = 25
+unit_said_code unit.Ak = 26
+unit_said_code unit.Er = 27
 
-abbrev pub told_of_found : (is_full : Bool) → Finding → Option Stopped → (offset : ℕ) → Break → Told
-told_of_found is_full finding.Kept stopped offset by = told_of_kept is_full stopped
-told_of_found is_full (finding.Broke i) stopped offset by = told_of_blamed stopped offset (told.Broke offset by)
-told_of_found is_full (finding.Left i) stopped offset by = told_of_blamed stopped offset (told.Leaves offset by)
-told_of_found is_full finding.TooMany stopped offset by = told.TooMany
+-- octets that begin no packet, or a packet whose units can't be read
+abbrev pub unread_said_code : Cause → ℕ
+unread_said_code (cause.BadPacket fault) = 19
+unread_said_code c = 20
 
--- after the other side left the profile first, a side is judged no further
-abbrev pub told_unless : (dropped : Bool) → Told → Told
-told_unless true t = told.Unwatched
-told_unless false t = t
+abbrev pub mark_said_code : Option UnitKind → Cause → ℕ
+mark_said_code (Some u) c = unit_said_code u
+mark_said_code None c = unread_said_code c
 
-abbrev pub told_by : (dropped is_full : Bool) → Facts → Told
-told_by dropped is_full f = told_unless dropped (told_of_found is_full f.found f.stopped f.offset f.by)
+abbrev pub mark_kind_code : Cause → ℕ
+mark_kind_code cause.Outside = 3
+mark_kind_code c = 2
 
-abbrev pub of_side : Direction → (left right : Facts) → Facts
-of_side Left left right = left
-of_side Right left right = right
+-- ---- what is told
 
--- ---- what is told is true of what passed
+abbrev pub kind_code : Note → ℕ
+kind_code Silent = 0
+kind_code Kept = 1
+kind_code (Broke offset by) = 2
+kind_code (Leaves offset by) = 3
+kind_code TooMany = 4
+kind_code Over = 5
+kind_code (Stopped m) = mark_kind_code m.cause
+kind_code (Halted m) = 5
+kind_code (Unopened m) = 5
 
--- If it says that a side kept the protocol, broke it, or left the profile, that was found of this side.
-abbrev pub IsTrue : Direction → Capture → (is_full : Bool) → Told → Type 0
-IsTrue d capture is_full told.Kept = KeepsIn d capture
-IsTrue d capture is_full (told.Broke offset by) = (i : ℕ) × IsFoundIn d capture (finding.Broke i)
-IsTrue d capture is_full (told.Stopped s) = IsStoppedIn d capture (Some s) × (is_break s.stop ≡ true)
-IsTrue d capture is_full (told.Leaves offset by) = (i : ℕ) × IsFoundIn d capture (finding.Left i)
-IsTrue d capture is_full told.TooMany = IsFoundIn d capture finding.TooMany
-IsTrue d capture is_full (told.Unjudged s) = IsStoppedIn d capture (Some s) × (is_break s.stop ≡ false)
-IsTrue d capture is_full told.Full = IsFoundIn d capture finding.Kept × (is_full ≡ true)
-IsTrue d capture is_full told.Unwatched = Unit {0}
+abbrev pub IsRuleOf : Note → ℕ → Type 0
+IsRuleOf Silent code = code ≡ 0
+IsRuleOf Kept code = code ≡ 0
+IsRuleOf (Broke offset by) code = IsRule by.rule code
+IsRuleOf (Leaves offset by) code = code ≡ 34
+IsRuleOf TooMany code = code ≡ 0
+IsRuleOf Over code = code ≡ 70
+IsRuleOf (Stopped m) code = code ≡ cause_code m.cause
+IsRuleOf (Halted m) code = code ≡ cause_code m.cause
+IsRuleOf (Unopened m) code = code ≡ 50
 
--- What is told of a side, with the reference that the side gave the connection, by facts of both sides of a capture.
-pub record IsTold (d : Direction) (capture : Capture) (is_full : Bool) (t : Told) (reference : Option ℕ) : Type 0 where
-  pub first : Option Direction
-  pub left : Facts
-  pub right : Facts
-  pub of_left : AreFacts Left capture left
-  pub of_right : AreFacts Right capture right
-  pub is_first : IsFirstIn capture first
-  pub first_of : IsFirstOf first left right
-  pub tells : t ≡ told_by (left_first first (other d) (of_side (other d) left right).found) is_full (of_side d left right)
-  pub gives : reference ≡ (of_side d left right).reference
-  pub is_true : IsTrue d capture is_full t
+abbrev pub said_in : Note → ℕ
+said_in Silent = 0
+said_in Kept = 0
+said_in (Broke offset by) = said_code by.said
+said_in (Leaves offset by) = said_code by.said
+said_in TooMany = 0
+said_in Over = 0
+said_in (Stopped m) = mark_said_code m.unit m.cause
+said_in (Halted m) = mark_said_code m.unit m.cause
+said_in (Unopened m) = mark_said_code m.unit m.cause
 
--- whatever capture the judge was fed
-abbrev pub Tells : Direction → Watch → Told → Option ℕ → Type 0
-Tells d w t reference = (capture : Capture) → Knows w.judge capture → IsTold d capture w.is_full t reference
+-- of the packet
+abbrev pub offset_in : Note → ℕ
+offset_in Silent = 0
+offset_in Kept = 0
+offset_in (Broke offset by) = offset
+offset_in (Leaves offset by) = offset
+offset_in TooMany = 0
+offset_in Over = 0
+offset_in (Stopped m) = m.offset
+offset_in (Halted m) = m.offset
+offset_in (Unopened m) = m.offset
 
--- ---- by what the judge keeps
+-- the side that sent the packet
+abbrev pub by_in : Subject → Note → Direction
+by_in k (Stopped m) = m.direction
+by_in k (Halted m) = m.direction
+by_in k (Unopened m) = m.direction
+by_in k n = side_in k
 
-abbrev pub told_of_half : (is_full : Bool) → Tapped → Told
-told_of_half is_full h = told_of_found is_full h.side.finding (stopped_of h) h.line.last h.side.by
+-- ---- the connection
 
-abbrev pub told_in : Direction → Watch → Told
-told_in d w = told_unless (other_left d (first_in w.judge) (judged w.judge)) (told_of_half w.is_full (half_of d (judged w.judge)))
+abbrev pub number_of_mark : Note → Option ℕ
+number_of_mark (Stopped m) = m.connection
+number_of_mark (Halted m) = m.connection
+number_of_mark (Unopened m) = m.connection
+number_of_mark n = None
 
-abbrev pub reference_in : Direction → Watch → Option ℕ
-reference_in d w = (half_of d (judged w.judge)).line.reference
+-- its number; none if it is of no single one
+abbrev pub number_in : Subject → Note → Option ℕ
+number_in (Session number d) n = Some number
+number_in (Transport d) n = number_of_mark n
+number_in (Rest d) n = number_of_mark n
 
--- a side that keeps the protocol may break it later, and of a side that is not judged any more nothing is told
-abbrev pub is_certain : Told → Bool
-is_certain told.Kept = false
-is_certain told.Unwatched = false
-is_certain t = true
-
--- ---- as numbers
-
-abbrev pub kind_code : Told → ℕ
-kind_code told.Unwatched = 0
-kind_code told.Kept = 1
-kind_code (told.Broke offset by) = 2
-kind_code (told.Stopped s) = 2
-kind_code (told.Leaves offset by) = 3
-kind_code told.TooMany = 4
-kind_code (told.Unjudged s) = 5
-kind_code told.Full = 5
-
-abbrev pub IsRuleOf : Told → ℕ → Type 0
-IsRuleOf (told.Broke offset by) code = IsRule by.rule code
-IsRuleOf (told.Stopped s) code = code ≡ stop_code s.stop
-IsRuleOf (told.Leaves offset by) code = code ≡ 34
-IsRuleOf (told.Unjudged s) code = code ≡ stop_code s.stop
-IsRuleOf told.Full code = code ≡ 70
-IsRuleOf t code = code ≡ 0
-
-abbrev pub said_in : Told → ℕ
-said_in (told.Broke offset by) = said_code by.said
-said_in (told.Stopped s) = stopped_at_code s.stop
-said_in (told.Leaves offset by) = said_code by.said
-said_in (told.Unjudged s) = stopped_at_code s.stop
-said_in t = 0
-
-abbrev pub offset_in : Told → ℕ
-offset_in (told.Broke offset by) = offset
-offset_in (told.Stopped s) = s.offset
-offset_in (told.Leaves offset by) = offset
-offset_in (told.Unjudged s) = s.offset
-offset_in t = 0
+abbrev pub number_code : Option ℕ → ℕ
+number_code None = 2 ^ 64 - 1
+number_code (Some number) = number
 
 -- 0 if the side gave none
 abbrev pub reference_code : Option ℕ → ℕ
 reference_code None = 0
 reference_code (Some reference) = reference
 
-pub record Shows (d : Direction) (t : Told) (reference : Option ℕ) (v : OsiVerdict) : Type 0 where
-  pub side : side_of v.side ≡ Some d
-  pub kind : v.kind ≡ kind_code t
-  pub rule : IsRuleOf t v.rule
-  pub said : v.said ≡ said_in t
-  pub offset : v.offset ≡ offset_in t
-  pub names : v.reference ≡ reference_code reference
+-- its references
+abbrev pub named_in : Option Joined → References
+named_in None = record { left = 0; right = 0 }
+named_in (Some j) = record { left = j.calling; right = reference_code j.called }
+
+abbrev pub IsNamed : Tap → Option ℕ → (left right : ℕ) → Type 0
+IsNamed t None left right = (left ≡ 0) × (right ≡ 0)
+IsNamed t (Some number) left right = (s : State) → HoldsState t s → IsSettled t
+    → (left ≡ (named_in (numbered number s.course.sessions)).left) × (right ≡ (named_in (numbered number s.course.sessions)).right)
+
+-- ---- a verdict
+
+pub record Shows (t : Tap) (k : Subject) (n : Note) (v : OsiVerdict) : Type 0 where
+  pub offset : v.offset ≡ offset_in n
+  pub connection : v.connection ≡ number_code (number_in k n)
+  pub kind : v.kind ≡ kind_code n
+  pub side : side_of v.side ≡ Some (side_in k)
+  pub by : side_of v.by ≡ Some (by_in k n)
+  pub rule : IsRuleOf n v.rule
+  pub said : v.said ≡ said_in n
+  pub names : IsNamed t (number_in k n) v.left v.right
 
 -- none
 abbrev pub nothing : OsiVerdict
-nothing = record { offset = 0; kind = 0; side = 0; rule = 0; said = 0; reference = 0 }
+nothing = record { offset = 0; connection = 0; kind = 0; side = 0; by = 0; rule = 0; said = 0; left = 0; right = 0 }

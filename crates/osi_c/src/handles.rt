@@ -1,8 +1,7 @@
 //! A value on the heap as C keeps it.
 
+pub(crate) mod judge;
 pub(crate) mod loose;
-pub(crate) mod tap;
-pub(crate) mod watch;
 
 ghost use Rattle.std.specs.Prelude.{Option};
 ghost use Rattle.std.specs.Coded.{coded_option};

@@ -173,12 +173,6 @@ pub(crate) const RULE_TRAILING_OCTETS: u32 = 46;
 
 pub(crate) const RULE_NO_OPENING: u32 = 50;
 
-pub(crate) const RULE_OTHER_CLASS: u32 = 51;
-
-pub(crate) const RULE_MORE_CONNECTIONS: u32 = 52;
-
-pub(crate) const RULE_REFUSED: u32 = 53;
-
 pub(crate) const RULE_BAD_VERSION: u32 = 54;
 
 pub(crate) const RULE_BAD_LENGTH: u32 = 55;

@@ -1,47 +1,64 @@
-//! The slot that C keeps of a judge.
+//! What a slot of C holds that judges a byte connection.
 
-ghost use Rattle.std.specs.Prelude.{◌≡◌, is_some};
+ghost use Rattle.std.specs.Prelude.{◌≡◌, ◌≤◌, ◌<◌, [], IfOk, OnErr, length, take};
+ghost use Rattle.osi_c.specs.Judges.{IsNew, Passes, TakesPiece};
 
-use crate::handles::loose::Loose;
-use crate::handles::watch::WatchHandle;
-use crate::watches::Watch;
-use std::alloc::Global;
-use std::mem::replace;
+use crate::subjects::Subject;
+use osi_dispute::Opening;
+use osi_judge::Direction;
+use osi_tap::Tap;
+use std::alloc::{AllocError, Global};
 
-/// The slot of a judge in C: it holds a judge, or none. It begins as zeros.
-#[repr(C)]
-pub struct OsiJudge {
-    pub(crate) full: bool,
-    pub(crate) inner: WatchHandle,
-    ghost tied: { full ≡ is_some inner.value },
+/// How much of a connection is judged: DTs that count so much together, each its octets of user data and 48 more. So no more
+/// than 4,096 DTs are.
+const MOST_OF_A_CONNECTION: usize = 196_608;
+
+/// The contents of a C slot that judges a byte connection: the tap; how the octets of left begin; of what C was told; and the text
+/// that C asked for last. The text is lent until the next call.
+#[derive(Drop)]
+pub struct Judge {
+    pub tap: Tap,
+    pub opening: Opening,
+    pub told: Vec<Subject>,
+    pub text: Vec<u8>,
 }
 
-impl OsiJudge {
-    ghost use Rattle.std.specs.Prelude.{◌≡◌, IsNone, Some, option_map};
-    ghost use types.Logic.{sem};
-    ghost use Rattle.osi_c.specs.LentJudge.{KeepsSlot};
-
-    /// What the slot holds, to be read.
-    pub(crate) fn get(&mut self) -> Option<&Watch>
-        ensures* same { sem 𝓛 (KeepsSlot self.entry) }
-        ensures value { option_map (λ c. c.now) result ≡ self.old.inner.value }
-    {
-        if !self.full {
-            return None;
-        }
-        Some(self.get_mut())
+/// Nothing has passed.
+pub(crate) fn fresh(alloc: Global) -> Judge
+    ensures { IsNew result }
+{
+    Judge {
+        tap: Tap::within(alloc, MOST_OF_A_CONNECTION),
+        opening: Opening::new(),
+        told: Vec::new(alloc),
+        text: Vec::new(alloc),
     }
+}
 
-    /// Puts a box into an empty slot.
-    pub(crate) fn fill(&mut self, loose: Loose<Watch, Global>)
-        requires { IsNone self.old.inner.value }
-        ensures { self.new.inner.value ≡ Some loose.value }
-    {
-        let inner = WatchHandle::of_loose(loose);
-        let OsiJudge {
-            full: _,
-            inner: old,
-        } = replace(self, OsiJudge { full: true, inner });
-        old.discard();
+/// Octets of a side pass: those up to the end of a header or of a packet.
+fn pass(judge: &mut Judge, side: Direction, octets: &[u8]) -> Result<usize, AllocError>
+    ensures used { IfOk result (λ n. n ≤ length octets.now) }
+    ensures some { IfOk result (λ n. 0 < length octets.now → 0 < n) }
+    ensures passes { IfOk result (λ n. Passes side (take n octets.now) judge.old judge.new) }
+    ensures err { OnErr result (Passes side [] judge.old judge.new) }
+{
+    let used = judge.tap.feed(side, octets)?;
+    let (passed, _) = octets.split_at(used);
+    judge.opening.pass(side, passed);
+    Ok(used)
+}
+
+/// A piece of a side passes. Says how many of its octets did: all, or fewer if memory ran out.
+pub(crate) fn take_piece(judge: &mut Judge, side: Direction, piece: &[u8]) -> usize
+    ensures { TakesPiece side piece.now result judge.old judge.new }
+{
+    let mut rest = piece;
+    'rest: while !rest.is_empty() {
+        let Ok(used) = pass(judge, side, rest) else {
+            return piece.len() - rest.len();
+        };
+        let (_, behind) = rest.split_at(used);
+        rest = behind;
     }
+    piece.len()
 }

@@ -1,19 +1,18 @@
-//! Judging a connection that passes, for C.
+//! Judging a byte connection that passes, for C.
 
 ghost use Rattle.std.specs.Prelude.{◌≡◌, None};
-ghost use Rattle.osi_c.specs.Watched.{begins_of, Begins, feeding_of, Feeds};
+ghost use Rattle.osi_c.specs.Judges.{begins_of, Begins, feeding_of, Feeds};
 
 use crate::codes::{BAD_ARGUMENT, CLOSED, IN_USE, NO_MEMORY, OK};
+use crate::handles::judge::JudgeHandle;
 use crate::handles::loose::Loose;
-use crate::handles::watch::WatchHandle;
-use crate::judges::OsiJudge;
+use crate::judge_slots::OsiJudge;
+use crate::judges::{fresh, take_piece};
 use crate::verdicts::side_by;
-use crate::watches::{Watch, take_piece};
-use osi_judge::Judge;
 use std::alloc::Global;
 use std::mem::replace;
 
-/// Makes the judge of a connection of which nothing has passed.
+/// Makes the judge of a byte connection on which nothing has passed.
 #[unsafe(no_mangle)]
 pub extern "C" fn osi_judge_new(alloc: Global, judge: &mut OsiJudge) -> u32
     ensures { Begins (begins_of result) judge.old.inner.value judge.new.inner.value }
@@ -21,18 +20,7 @@ pub extern "C" fn osi_judge_new(alloc: Global, judge: &mut OsiJudge) -> u32
     if judge.full {
         return IN_USE;
     }
-    let Ok(fresh) = Judge::new(alloc) else {
-        return NO_MEMORY;
-    };
-    let watch = Watch {
-        judge: fresh,
-        octets: 0,
-        is_full: false,
-        left_told: false,
-        right_told: false,
-        text: Vec::new(alloc),
-    };
-    let Ok(loose) = Loose::new(alloc, watch) else {
+    let Ok(loose) = Loose::new(alloc, fresh(alloc)) else {
         return NO_MEMORY;
     };
     judge.fill(loose);
@@ -48,7 +36,7 @@ pub extern "C" fn osi_judge_free(alloc: Global, judge: &mut OsiJudge)
         judge,
         OsiJudge {
             full: false,
-            inner: WatchHandle::empty(),
+            inner: JudgeHandle::empty(),
         },
     );
     if full {

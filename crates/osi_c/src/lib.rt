@@ -1,8 +1,7 @@
-//! One end of a byte connection, and the judge and the watch of one that passes, for C: the functions that
-//! `include/osi.h` declares.
+//! One end of a byte connection, and the judge of one that passes, for C: the functions that `include/osi.h` declares.
 //!
-//! Each function is a call of [`osi_stack::Stack`], [`osi_judge::Judge`] or [`osi_tap::Tap`], and its contract says what
-//! that call's contract says, in the numbers of C. `OsiEnd`, `OsiJudge` and `OsiWatch` are the slots that a C program
+//! Each function is a call of [`osi_stack::Stack`] or [`osi_tap::Tap`], and its contract says what that call's contract says, in
+//! the numbers of C. The text of a judge is that of `osi_dispute`. `OsiEnd` and `OsiJudge` are the slots that a C program
 //! holds. Every argument is allowed except a pointer to nothing: numbers that are out of range give `BAD_ARGUMENT`, and
 //! an empty slot gives `CLOSED`.
 //!
@@ -13,28 +12,25 @@
 
 mod addresses;
 mod arguments;
+mod asking;
 mod calls;
 mod codes;
 mod ends;
+mod fetching;
 mod handles;
 mod header;
 mod indications;
+mod judge_slots;
+mod judgements;
 mod judges;
 mod judging;
-mod note_codes;
 mod notes;
 mod rules;
 mod slots;
 mod standings;
 mod streams;
 mod subjects;
-mod tap_feeding;
-mod tap_slots;
-mod tap_watches;
-mod tap_watching;
 mod telling;
 mod traces;
 mod tracing;
 mod verdicts;
-mod watches;
-mod watching;

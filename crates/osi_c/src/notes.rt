@@ -1,24 +1,29 @@
-//! What C is told of a byte connection that it watches.
+//! What C is told of a byte connection.
 
-ghost use Rattle.std.specs.Prelude.{◌≡◌, ◌==◌};
+ghost use Rattle.std.specs.Prelude.{◌≡◌};
+ghost use Rattle.osi_judge.specs.Captures.{Capture};
 ghost use Rattle.osi_tap.specs.Connections.{Joined, numbered};
 ghost use Rattle.osi_tap.specs.Holding.{HoldsJoined, IsHeard};
 ghost use Rattle.osi_tap.specs.Standing.{HoldsState, IsSettled};
 ghost use Rattle.osi_tap.specs.Tapping.{State};
 ghost use Rattle.osi_verdict.specs.Facts.{is_left};
 ghost use Rattle.osi_verdict.specs.Leaving.{is_dropped};
-ghost use Rattle.osi_c.specs.Notes.{note_of_found, note_unless, is_no_cr, is_unopened, note_of_break, note_of_halt, is_certain};
+ghost use Rattle.osi_c.specs.Judges.{Knows};
+ghost use Rattle.osi_c.specs.Notes.{note_of_found, note_unless, note_of_break, note_of_halt, is_certain, is_late_in};
 ghost use Rattle.osi_c.specs.Notes.{IsNoteOf, IsNoteAt, StillIf, Tells};
 
+use crate::judges::Judge;
 use crate::subjects::Subject;
 use osi_judge::{Break, Direction, Finding};
-use osi_tap::{Connection, Mark, Tap, UnitKind};
+use osi_tap::{Connection, Mark, Tap};
 
 /// What is told.
 #[derive(Clone, Copy)]
 pub(crate) enum Note {
-    /// Nothing that is certain.
-    Nothing,
+    /// Nothing.
+    Silent,
+    /// It kept the protocol so far.
+    Kept,
     /// The session of the side broke the protocol by the packet at this offset.
     Broke(u64, Break),
     /// It left the profile by the packet at this offset.
@@ -41,7 +46,7 @@ fn is_left(finding: Finding) -> bool
     matches!(finding, Finding::Left(_))
 }
 
-/// Whether a side is not told of: the other side left the profile, and this side did not.
+/// Whether nothing is told of a side: the other side left the profile, and this side did not.
 fn is_dropped(own: Finding, other: Finding) -> bool
     ensures { result ≡ is_dropped own other }
 {
@@ -57,7 +62,7 @@ fn note_of_found(is_over: bool, finding: Finding, offset: u64, by: Break) -> Not
             if is_over {
                 return Note::Over;
             }
-            Note::Nothing
+            Note::Kept
         }
         Finding::Broke(_) => Note::Broke(offset, by),
         Finding::Left(_) => Note::Leaves(offset, by),
@@ -69,7 +74,7 @@ fn note_unless(is_dropped: bool, note: Note) -> Note
     ensures { result ≡ note_unless is_dropped note }
 {
     if is_dropped {
-        return Note::Nothing;
+        return Note::Silent;
     }
     note
 }
@@ -94,7 +99,7 @@ fn note_of_session(tap: &Tap, number: usize, direction: Direction) -> Note
     ensures { (s : State) → HoldsState tap.now s → IsSettled tap.now → IsNoteAt direction (numbered number s.course.sessions) result }
 {
     match tap.connection(number) {
-        None => Note::Nothing,
+        None => Note::Silent,
         Some(joint) => note_of_joint(joint, direction),
     }
 }
@@ -114,36 +119,15 @@ pub(crate) fn is_still(joint: &Connection) -> bool
     true
 }
 
-/// Whether it is no CR.
-fn is_no_cr(unit: UnitKind) -> bool
-    ensures { result ≡ is_no_cr unit }
-{
-    !matches!(unit, UnitKind::Cr)
-}
-
-/// Whether the capture begins in the middle of a connection, if this unit is the first that was found to be wrong: no
-/// connection was requested before it, and it requests none.
-fn is_unopened(is_none: bool, unit: Option<UnitKind>) -> bool
-    ensures { result ≡ is_unopened is_none unit }
-{
-    if !is_none {
-        return false;
-    }
-    match unit {
-        None => false,
-        Some(unit) => is_no_cr(unit),
-    }
-}
-
 /// What is told of the first break of the transport of a side.
-fn note_of_break(is_none: bool, broke: Option<Mark>) -> Note
-    ensures { result ≡ note_of_break is_none broke }
+fn note_of_break(is_late: bool, broke: Option<Mark>) -> Note
+    ensures { result ≡ note_of_break is_late broke }
 {
     match broke {
-        None => Note::Nothing,
+        None => Note::Kept,
         Some(mark) => {
-            if is_unopened(is_none, mark.unit) {
-                return Note::Nothing;
+            if is_late {
+                return Note::Silent;
             }
             Note::Stopped(mark)
         }
@@ -151,13 +135,13 @@ fn note_of_break(is_none: bool, broke: Option<Mark>) -> Note
 }
 
 /// What is told of a side of which nothing more is judged.
-fn note_of_halt(is_none: bool, halted: Option<Mark>) -> Note
-    ensures { result ≡ note_of_halt is_none halted }
+fn note_of_halt(is_late: bool, halted: Option<Mark>) -> Note
+    ensures { result ≡ note_of_halt is_late halted }
 {
     match halted {
-        None => Note::Nothing,
+        None => Note::Kept,
         Some(mark) => {
-            if is_unopened(is_none, mark.unit) {
+            if is_late {
                 return Note::Unopened(mark);
             }
             Note::Halted(mark)
@@ -165,14 +149,22 @@ fn note_of_halt(is_none: bool, halted: Option<Mark>) -> Note
     }
 }
 
-/// What is told.
-pub(crate) fn note_of(tap: &Tap, subject: Subject) -> Note
-    ensures { Tells tap.now subject result }
+/// Whether the capture begins in the middle of a connection.
+fn is_late(judge: &Judge) -> bool
+    ensures { (capture : Capture) → Knows judge.now capture → IsSettled judge.now.tap → result ≡ is_late_in capture }
 {
+    osi_dispute::is_late(&judge.tap, &judge.opening)
+}
+
+/// What is told, once all that passed is judged.
+pub(crate) fn note_of(judge: &Judge, subject: Subject) -> Note
+    ensures { Tells judge.now subject result }
+{
+    let tap = &judge.tap;
     match subject {
         Subject::Session(number, direction) => note_of_session(tap, number, direction),
-        Subject::Transport(direction) => note_of_break(tap.count() == 0, tap.broke(direction)),
-        Subject::Rest(direction) => note_of_halt(tap.count() == 0, tap.halted(direction)),
+        Subject::Transport(direction) => note_of_break(is_late(judge), tap.broke(direction)),
+        Subject::Rest(direction) => note_of_halt(is_late(judge), tap.halted(direction)),
     }
 }
 
@@ -180,5 +172,5 @@ pub(crate) fn note_of(tap: &Tap, subject: Subject) -> Note
 pub(crate) fn is_certain(note: &Note) -> bool
     ensures { result ≡ is_certain note.now }
 {
-    !matches!(note, Note::Nothing)
+    !matches!(note, Note::Silent | Note::Kept)
 }

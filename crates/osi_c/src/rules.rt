@@ -1,11 +1,11 @@
 //! The numbers of what a side sent, and of the rules that it broke.
 
 ghost use Rattle.std.specs.Prelude.{◌≡◌};
-ghost use Rattle.osi_c.specs.Ruled.{said_code, stopped_at_code, IsBreach, spelling_code, IsRule, packet_code, unit_code, stop_code};
+ghost use Rattle.osi_c.specs.Ruled.{said_code, IsBreach, spelling_code, IsRule, packet_code, unit_code};
 
 use crate::codes::{NO_MEMORY, refusal};
 use crate::header;
-use osi_judge::{Rule, Stop};
+use osi_judge::Rule;
 use osi_session::Breach;
 use osi_spdu::{Kind, SpduFault};
 use osi_tpdu::TpduFault;
@@ -34,18 +34,6 @@ pub(crate) fn said_code(said: Option<Kind>) -> u32
         Some(Kind::Abort) => header::SAID_AB,
         Some(Kind::AbortAccept) => header::SAID_AA,
         None => header::SAID_TSDU,
-    }
-}
-
-/// At what the transport of a side was stopped.
-pub(crate) fn stopped_at_code(stop: Stop) -> u32
-    ensures { result ≡ stopped_at_code stop }
-{
-    match stop {
-        Stop::BadPacket(_) => header::SAID_TPKT,
-        Stop::TsduTooLong => header::SAID_TRANSPORT_DT,
-        Stop::WrongForm => header::SAID_TRANSPORT_DR,
-        _ => header::SAID_TPDU,
     }
 }
 
@@ -105,23 +93,5 @@ pub(crate) fn unit_code(fault: TpduFault) -> u32
         TpduFault::BadParameterLength(_) => header::RULE_BAD_TPDU_PARAMETER_LENGTH,
         TpduFault::BadParameterValue(_) => header::RULE_BAD_TPDU_PARAMETER_VALUE,
         TpduFault::DuplicateParameter(_) => header::RULE_DUPLICATE_TPDU_PARAMETER,
-    }
-}
-
-/// Why the transport of a side is looked at no further.
-pub(crate) fn stop_code(stop: Stop) -> u32
-    ensures { result ≡ stop_code stop }
-{
-    match stop {
-        Stop::NoOpening => header::RULE_NO_OPENING,
-        Stop::OtherClass => header::RULE_OTHER_CLASS,
-        Stop::MoreConnections => header::RULE_MORE_CONNECTIONS,
-        Stop::Refused => header::RULE_REFUSED,
-        Stop::BadPacket(fault) => packet_code(fault),
-        Stop::BadUnit(fault) => unit_code(fault),
-        Stop::UnexpectedUnit => header::RULE_UNEXPECTED_UNIT,
-        Stop::WrongForm => header::RULE_WRONG_FORM,
-        Stop::TsduTooLong => header::RULE_TSDU_TOO_LONG,
-        Stop::NothingToAnswer => header::RULE_NOTHING_TO_ANSWER,
     }
 }

@@ -1,4 +1,4 @@
-//! What C is told of on a byte connection that it watches.
+//! Of what C is told on a byte connection.
 
 ghost use Rattle.std.specs.Prelude.{◌≡◌};
 ghost use Rattle.std.specs.List.{list_any};

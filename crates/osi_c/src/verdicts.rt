@@ -1,53 +1,46 @@
-//! What C is told of a side of a connection that it watches.
+//! What C is told of a byte connection, in the numbers of C.
 
 ghost use Rattle.std.specs.Prelude.{◌≡◌, Some};
-ghost use Rattle.osi_judge.specs.Following.{judged, half_of, first_in};
-ghost use Rattle.osi_verdict.specs.Facts.{is_first, is_left, is_refusal, other_left};
-ghost use Rattle.osi_c.specs.Verdicts.{told_at, told_of_kept, told_of_blamed, told_of_found, told_of_half, told_in, is_certain, kind_code};
-ghost use Rattle.osi_c.specs.Verdicts.{IsRuleOf, said_in, offset_in};
-ghost use Rattle.osi_c.specs.Verdicts.{reference_in, reference_code, Shows, nothing};
-ghost use Rattle.osi_c.specs.Watched.{side_of};
+ghost use Rattle.osi_tap.specs.Connections.{Joined, numbered, reference_of};
+ghost use Rattle.osi_tap.specs.Holding.{HoldsJoined};
+ghost use Rattle.osi_tap.specs.Standing.{HoldsState, IsSettled};
+ghost use Rattle.osi_tap.specs.Tapping.{State};
+ghost use Rattle.osi_c.specs.Verdicts.{transport_rule_code, cause_code, unit_said_code, unread_said_code, mark_said_code};
+ghost use Rattle.osi_c.specs.Verdicts.{mark_kind_code, kind_code};
+ghost use Rattle.osi_c.specs.Verdicts.{IsRuleOf, said_in, offset_in, by_in, number_of_mark, number_in, number_code};
+ghost use Rattle.osi_c.specs.Verdicts.{named_in, IsNamed, Shows, nothing};
+ghost use Rattle.osi_c.specs.Subjects.{side_in};
+ghost use Rattle.osi_c.specs.Verdicts.{reference_code};
+ghost use Rattle.osi_c.specs.Judges.{side_of};
 
-use crate::rules::{rule_code, said_code, stop_code, stopped_at_code};
-use crate::watches::Watch;
-use osi_judge::{Break, Direction, Finding, Judge, Stop, Stopped};
+use crate::header;
+use crate::notes::Note;
+use crate::rules::{packet_code, rule_code, said_code, unit_code};
+use crate::subjects::Subject;
+use osi_judge::Direction;
+use osi_rules::Rule;
+use osi_tap::{Cause, Connection, Tap, UnitKind};
 
-/// The number of the rule of who leaves the profile.
-const OUTSIDE: u32 = 34;
-/// The number of the rule of a connection of which more passed than is judged.
-const LIMIT: u32 = 70;
-
-/// What is told of a side.
-#[derive(Clone, Copy)]
-pub(crate) enum Told {
-    /// It kept the protocol.
-    Kept,
-    /// Its session broke the protocol by the packet at this offset.
-    Broke(u64, Break),
-    /// Its transport broke the protocol.
-    Stopped(Stopped),
-    /// Its session left the profile by the packet at this offset.
-    Leaves(u64, Break),
-    /// Too many sessions explain it.
-    TooMany,
-    /// It is judged no further, by what its transport sent.
-    Unjudged(Stopped),
-    /// It is judged no further, since more passed than is judged.
-    Full,
-    /// It is judged no further, since the other side left the profile.
-    Unwatched,
-}
-
-/// A verdict on a side, in the numbers of C.
+/// A verdict on a side of a byte connection, in the numbers of C.
 #[repr(C)]
 #[derive(Clone, Copy)]
 pub struct OsiVerdict {
     pub offset: u64,
+    pub connection: u64,
     pub kind: u32,
     pub side: u32,
+    pub by: u32,
     pub rule: u32,
     pub said: u32,
-    pub reference: u16,
+    pub left: u16,
+    pub right: u16,
+}
+
+/// The references of a connection: 0 for one that was not given.
+#[derive(Clone, Copy)]
+pub(crate) struct References {
+    pub(crate) left: u16,
+    pub(crate) right: u16,
 }
 
 /// No verdict.
@@ -56,11 +49,14 @@ pub(crate) fn nothing() -> OsiVerdict
 {
     OsiVerdict {
         offset: 0,
+        connection: 0,
         kind: 0,
         side: 0,
+        by: 0,
         rule: 0,
         said: 0,
-        reference: 0,
+        left: 0,
+        right: 0,
     }
 }
 
@@ -75,7 +71,7 @@ pub(crate) fn side_by(number: u32) -> Option<Direction>
     }
 }
 
-pub(crate) fn side_code(side: Direction) -> u32
+fn side_code(side: Direction) -> u32
     ensures { side_of result ≡ Some side }
 {
     match side {
@@ -84,187 +80,8 @@ pub(crate) fn side_code(side: Direction) -> u32
     }
 }
 
-fn is_first(first: Option<Direction>, side: Direction) -> bool
-    ensures { result ≡ is_first first side }
-{
-    match (first, side) {
-        (Some(Direction::Left), Direction::Left) => true,
-        (Some(Direction::Right), Direction::Right) => true,
-        _ => false,
-    }
-}
-
-fn is_left(finding: Finding) -> bool
-    ensures { result ≡ is_left finding }
-{
-    matches!(finding, Finding::Left(_))
-}
-
-/// Whether the other side left the profile first: then this one is judged no further.
-fn is_unwatched(judge: &Judge, side: Direction) -> bool
-    ensures { result ≡ other_left side (first_in judge.now) (judged judge.now) }
-{
-    let other = side.other();
-    if !is_first(judge.first(), other) {
-        return false;
-    }
-    is_left(judge.finding(other))
-}
-
-fn is_refusal(stop: Stop) -> bool
-    ensures { result ≡ is_refusal stop }
-{
-    matches!(stop, Stop::Refused)
-}
-
-/// What is told of a side whose transport is looked at no further.
-fn told_at(stopped: Stopped) -> Told
-    ensures { result ≡ told_at stopped }
-{
-    if stopped.stop.is_break() {
-        return Told::Stopped(stopped);
-    }
-    if is_refusal(stopped.stop) {
-        return Told::Kept;
-    }
-    Told::Unjudged(stopped)
-}
-
-/// What is told of a side of which every TSDU is explained.
-fn told_of_kept(is_full: bool, stopped: Option<Stopped>) -> Told
-    ensures { result ≡ told_of_kept is_full stopped }
-{
-    match stopped {
-        Some(stopped) => told_at(stopped),
-        None => {
-            if is_full {
-                return Told::Full;
-            }
-            Told::Kept
-        }
-    }
-}
-
-/// What is told of a side whose session is to blame by the packet at this offset: that its transport broke the protocol, if it
-/// did so before. A DT of left may come before the answer to its CR.
-fn told_of_blamed(stopped: Option<Stopped>, offset: u64, told: Told) -> Told
-    ensures { result ≡ told_of_blamed stopped offset told }
-{
-    let Some(stopped) = stopped else {
-        return told;
-    };
-    if stopped.stop.is_break() && stopped.offset < offset {
-        return Told::Stopped(stopped);
-    }
-    told
-}
-
-/// What is told of a side of which this is known.
-fn told_of_found(
-    is_full: bool,
-    finding: Finding,
-    stopped: Option<Stopped>,
-    offset: u64,
-    by: Break,
-) -> Told
-    ensures { result ≡ told_of_found is_full finding stopped offset by }
-{
-    match finding {
-        Finding::Kept => told_of_kept(is_full, stopped),
-        Finding::Broke(_) => told_of_blamed(stopped, offset, Told::Broke(offset, by)),
-        Finding::Left(_) => told_of_blamed(stopped, offset, Told::Leaves(offset, by)),
-        Finding::TooMany => Told::TooMany,
-    }
-}
-
-/// What is told of a side, unless it is judged no further after the other side left the profile.
-fn told_of_half(watch: &Watch, side: Direction) -> Told
-    ensures { result ≡ told_of_half watch.now.is_full (half_of side (judged watch.now.judge)) }
-{
-    let judge = &watch.judge;
-    let finding = judge.finding(side);
-    let stopped = judge.stopped(side);
-    let offset = judge.offset(side);
-    told_of_found(
-        watch.is_full,
-        finding,
-        stopped,
-        offset,
-        judge.side(side).by(),
-    )
-}
-
-/// What is told of a side.
-pub(crate) fn told_of(watch: &Watch, side: Direction) -> Told
-    ensures { result ≡ told_in side watch.now }
-{
-    if is_unwatched(&watch.judge, side) {
-        return Told::Unwatched;
-    }
-    told_of_half(watch, side)
-}
-
-/// Whether it stays so, whatever passes.
-pub(crate) fn is_certain(told: &Told) -> bool
-    ensures { result ≡ is_certain told.now }
-{
-    !matches!(told, Told::Kept | Told::Unwatched)
-}
-
-fn kind_code(told: &Told) -> u32
-    ensures { result ≡ kind_code told.now }
-{
-    match told {
-        Told::Unwatched => 0,
-        Told::Kept => 1,
-        Told::Broke(..) | Told::Stopped(_) => 2,
-        Told::Leaves(..) => 3,
-        Told::TooMany => 4,
-        Told::Unjudged(_) | Told::Full => 5,
-    }
-}
-
-fn rule_of(told: &Told) -> u32
-    ensures { IsRuleOf told.now result }
-{
-    match *told {
-        Told::Broke(_, by) => rule_code(by.rule),
-        Told::Stopped(stopped) => stop_code(stopped.stop),
-        Told::Leaves(..) => OUTSIDE,
-        Told::Unjudged(stopped) => stop_code(stopped.stop),
-        Told::Full => LIMIT,
-        Told::Kept => 0,
-        Told::TooMany => 0,
-        Told::Unwatched => 0,
-    }
-}
-
-fn said_in(told: &Told) -> u32
-    ensures { result ≡ said_in told.now }
-{
-    match *told {
-        Told::Broke(_, by) => said_code(by.said),
-        Told::Stopped(stopped) => stopped_at_code(stopped.stop),
-        Told::Leaves(_, by) => said_code(by.said),
-        Told::Unjudged(stopped) => stopped_at_code(stopped.stop),
-        _ => 0,
-    }
-}
-
-fn offset_in(told: &Told) -> u64
-    ensures { result ≡ offset_in told.now }
-{
-    match *told {
-        Told::Broke(offset, _) => offset,
-        Told::Stopped(stopped) => stopped.offset,
-        Told::Leaves(offset, _) => offset,
-        Told::Unjudged(stopped) => stopped.offset,
-        _ => 0,
-    }
-}
-
 /// The number of a reference: 0 if there is none.
-pub(crate) fn reference_code(reference: Option<u16>) -> u16
+fn reference_code(reference: Option<u16>) -> u16
     ensures { result ≡ reference_code reference }
 {
     match reference {
@@ -273,16 +90,279 @@ pub(crate) fn reference_code(reference: Option<u16>) -> u16
     }
 }
 
-/// What is told of a side, in the numbers of C, with the reference that the side gave the connection; 0 if it gave none.
-pub(crate) fn shown(told: &Told, side: Direction, watch: &Watch) -> OsiVerdict
-    ensures { Shows side told.now (reference_in side watch.now) result }
+fn transport_rule_code(rule: Rule) -> u32
+    ensures { result ≡ transport_rule_code rule }
 {
+    match rule {
+        Rule::UnexpectedUnit => header::RULE_UNEXPECTED_UNIT,
+        Rule::OneConnection => header::RULE_ONE_CONNECTION,
+        Rule::Negotiating => header::RULE_NEGOTIATING,
+        Rule::ReferenceInUse => header::RULE_REFERENCE_IN_USE,
+        Rule::UnknownReference => header::RULE_UNKNOWN_REFERENCE,
+        Rule::WrongForm => header::RULE_WRONG_FORM,
+        Rule::BadAnswer => header::RULE_BAD_ANSWER,
+        Rule::LargerSize => header::RULE_LARGER_SIZE,
+        Rule::Closed => header::RULE_CLOSED,
+        Rule::OutOfSequence => header::RULE_OUT_OF_SEQUENCE,
+        Rule::NoCredit => header::RULE_NO_CREDIT,
+        Rule::SizeExceeded => header::RULE_SIZE_EXCEEDED,
+        Rule::TsduTooLong => header::RULE_TSDU_TOO_LONG,
+        Rule::CreditReduced => header::RULE_CREDIT_REDUCED,
+        Rule::NothingToAnswer => header::RULE_NOTHING_TO_ANSWER,
+    }
+}
+
+fn cause_code(cause: Cause) -> u32
+    ensures { result ≡ cause_code cause }
+{
+    match cause {
+        Cause::BadPacket(fault) => packet_code(fault),
+        Cause::BadUnit(fault) => unit_code(fault),
+        Cause::Broke(rule) => transport_rule_code(rule),
+        Cause::Outside => header::RULE_OUTSIDE,
+        Cause::TooMany => header::RULE_TOO_MANY_CONNECTIONS,
+    }
+}
+
+fn unit_said_code(unit: UnitKind) -> u32
+    ensures { result ≡ unit_said_code unit }
+{
+    match unit {
+        UnitKind::Cr => header::SAID_TRANSPORT_CR,
+        UnitKind::Cc => header::SAID_TRANSPORT_CC,
+        UnitKind::Dr => header::SAID_TRANSPORT_DR,
+        UnitKind::Dc => header::SAID_TRANSPORT_DC,
+        UnitKind::Dt => header::SAID_TRANSPORT_DT,
+        UnitKind::Ak => header::SAID_TRANSPORT_AK,
+        UnitKind::Er => header::SAID_TRANSPORT_ER,
+    }
+}
+
+/// Octets that begin no packet, or a packet whose units can't be read.
+fn unread_said_code(cause: Cause) -> u32
+    ensures { result ≡ unread_said_code cause }
+{
+    match cause {
+        Cause::BadPacket(_) => header::SAID_TPKT,
+        _ => header::SAID_TPDU,
+    }
+}
+
+/// What was sent: a unit, or what could not be read.
+fn mark_said_code(unit: Option<UnitKind>, cause: Cause) -> u32
+    ensures { result ≡ mark_said_code unit cause }
+{
+    match unit {
+        Some(unit) => unit_said_code(unit),
+        None => unread_said_code(cause),
+    }
+}
+
+/// Whether a side broke a rule, or left the profile.
+fn mark_kind_code(cause: Cause) -> u32
+    ensures { result ≡ mark_kind_code cause }
+{
+    match cause {
+        Cause::Outside => 3,
+        _ => 2,
+    }
+}
+
+fn kind_code(note: &Note) -> u32
+    ensures { result ≡ kind_code note.now }
+{
+    match *note {
+        Note::Silent => 0,
+        Note::Kept => 1,
+        Note::Broke(..) => 2,
+        Note::Leaves(..) => 3,
+        Note::TooMany => 4,
+        Note::Over => 5,
+        Note::Stopped(mark) => mark_kind_code(mark.cause),
+        Note::Halted(_) => 5,
+        Note::Unopened(_) => 5,
+    }
+}
+
+fn rule_of(note: &Note) -> u32
+    ensures { IsRuleOf note.now result }
+{
+    match *note {
+        Note::Silent => 0,
+        Note::Kept => 0,
+        Note::Broke(_, by) => rule_code(by.rule),
+        Note::Leaves(..) => header::RULE_OUTSIDE,
+        Note::TooMany => 0,
+        Note::Over => header::RULE_LIMIT,
+        Note::Stopped(mark) => cause_code(mark.cause),
+        Note::Halted(mark) => cause_code(mark.cause),
+        Note::Unopened(_) => header::RULE_NO_OPENING,
+    }
+}
+
+fn said_in(note: &Note) -> u32
+    ensures { result ≡ said_in note.now }
+{
+    match *note {
+        Note::Silent => 0,
+        Note::Kept => 0,
+        Note::Broke(_, by) => said_code(by.said),
+        Note::Leaves(_, by) => said_code(by.said),
+        Note::TooMany => 0,
+        Note::Over => 0,
+        Note::Stopped(mark) => mark_said_code(mark.unit, mark.cause),
+        Note::Halted(mark) => mark_said_code(mark.unit, mark.cause),
+        Note::Unopened(mark) => mark_said_code(mark.unit, mark.cause),
+    }
+}
+
+fn offset_in(note: &Note) -> u64
+    ensures { result ≡ offset_in note.now }
+{
+    match *note {
+        Note::Silent => 0,
+        Note::Kept => 0,
+        Note::Broke(offset, _) => offset,
+        Note::Leaves(offset, _) => offset,
+        Note::TooMany => 0,
+        Note::Over => 0,
+        Note::Stopped(mark) => mark.offset,
+        Note::Halted(mark) => mark.offset,
+        Note::Unopened(mark) => mark.offset,
+    }
+}
+
+fn side_in(subject: Subject) -> Direction
+    ensures { result ≡ side_in subject }
+{
+    match subject {
+        Subject::Session(_, side) => side,
+        Subject::Transport(side) => side,
+        Subject::Rest(side) => side,
+    }
+}
+
+/// The side that sent the packet.
+fn by_in(subject: Subject, note: &Note) -> Direction
+    ensures { result ≡ by_in subject note.now }
+{
+    match *note {
+        Note::Stopped(mark) => mark.direction,
+        Note::Halted(mark) => mark.direction,
+        Note::Unopened(mark) => mark.direction,
+        _ => side_in(subject),
+    }
+}
+
+fn number_of_mark(note: &Note) -> Option<usize>
+    ensures { result ≡ number_of_mark note.now }
+{
+    match *note {
+        Note::Stopped(mark) => mark.connection,
+        Note::Halted(mark) => mark.connection,
+        Note::Unopened(mark) => mark.connection,
+        _ => None,
+    }
+}
+
+/// The number of the connection; none if it is of no single one.
+fn number_in(subject: Subject, note: &Note) -> Option<usize>
+    ensures { result ≡ number_in subject note.now }
+{
+    match subject {
+        Subject::Session(number, _) => Some(number),
+        Subject::Transport(_) => number_of_mark(note),
+        Subject::Rest(_) => number_of_mark(note),
+    }
+}
+
+/// The side that is told of.
+fn side_code_in(subject: Subject) -> u32
+    ensures { side_of result ≡ Some (side_in subject) }
+{
+    side_code(side_in(subject))
+}
+
+/// The side that sent the packet.
+fn by_code_in(subject: Subject, note: &Note) -> u32
+    ensures { side_of result ≡ Some (by_in subject note.now) }
+{
+    side_code(by_in(subject, note))
+}
+
+fn number_code(number: Option<usize>) -> u64
+    ensures { result ≡ number_code number }
+{
+    match number {
+        None => u64::MAX,
+        Some(number) => number as u64,
+    }
+}
+
+/// The reference that a side gave a connection.
+fn reference_in(joint: &Connection, direction: Direction) -> u16
+    ensures { (j : Joined) → HoldsJoined joint.now j → result ≡ reference_code (reference_of direction j) }
+{
+    reference_code(joint.reference(direction))
+}
+
+/// The references of a connection.
+fn references_in(joint: &Connection) -> References
+    ensures { (j : Joined) → HoldsJoined joint.now j → result ≡ named_in (Some j) }
+{
+    let left = reference_in(joint, Direction::Left);
+    let right = reference_in(joint, Direction::Right);
+    References { left, right }
+}
+
+/// The same of the connection with this number.
+fn references_at(tap: &Tap, number: usize) -> References
+    ensures { (s : State) → HoldsState tap.now s → IsSettled tap.now → result ≡ named_in (numbered number s.course.sessions) }
+{
+    match tap.connection(number) {
+        None => References { left: 0, right: 0 },
+        Some(joint) => references_in(joint),
+    }
+}
+
+/// The same, if it is known which connection that is.
+fn references_of(tap: &Tap, number: Option<usize>) -> References
+    ensures { IsNamed tap.now number result.left result.right }
+{
+    match number {
+        None => References { left: 0, right: 0 },
+        Some(number) => references_at(tap, number),
+    }
+}
+
+/// The number of the connection.
+fn connection_code(subject: Subject, note: &Note) -> u64
+    ensures { result ≡ number_code (number_in subject note.now) }
+{
+    number_code(number_in(subject, note))
+}
+
+/// Its references.
+fn references_for(tap: &Tap, subject: Subject, note: &Note) -> References
+    ensures { IsNamed tap.now (number_in subject note.now) result.left result.right }
+{
+    references_of(tap, number_in(subject, note))
+}
+
+/// What is told, in the numbers of C.
+pub(crate) fn shown(tap: &Tap, subject: Subject, note: &Note) -> OsiVerdict
+    ensures { Shows tap.now subject note.now result }
+{
+    let references = references_for(tap, subject, note);
     OsiVerdict {
-        offset: offset_in(told),
-        kind: kind_code(told),
-        side: side_code(side),
-        rule: rule_of(told),
-        said: said_in(told),
-        reference: reference_code(watch.judge.reference(side)),
+        offset: offset_in(note),
+        connection: connection_code(subject, note),
+        kind: kind_code(note),
+        side: side_code_in(subject),
+        by: by_code_in(subject, note),
+        rule: rule_of(note),
+        said: said_in(note),
+        left: references.left,
+        right: references.right,
     }
 }

@@ -1,7 +1,7 @@
 -- What the proofs of this crate take from the library, from the crates below and from its own definitions.
 pub use Rattle.std.proofs.Common.{Bool, Err, IfOk, IfSome, List, None, Ok, Option, Result, Some, [], ap, arith, cond, drop, eq-eqb, false}
 pub use Rattle.std.proofs.Common.{filter, get_or, if◌then◌else◌, inl, inr, length, map, not, refl, set, slice_get, subst, suc}
-pub use Rattle.std.proofs.Common.{sym, take, true, zero, ℕ, ◌&&◌, ◌++◌, ◌+◌, ◌-◌, ◌<◌, ◌==◌, ◌^◌, ◌∙◌, ◌∷◌, ◌≡◌, ◌≤◌, ◌⊎◌}
+pub use Rattle.std.proofs.Common.{sym, take, true, zero, ℕ, ◌&&◌, ◌||◌, ◌++◌, ◌+◌, ◌-◌, ◌<◌, ◌==◌, ◌^◌, ◌∙◌, ◌∷◌, ◌≡◌, ◌≤◌, ◌⊎◌}
 pub use Rattle.std.proofs.lemmas.Bool.{eqb-true}
 pub use Rattle.std.proofs.lemmas.Bool.Decides.{eqb_tells}
 pub use Rattle.std.proofs.lemmas.Grind.{flat_map-append}
@@ -39,7 +39,7 @@ pub use Rattle.osi_judge.specs.declared.rules.Break.{Break}
 pub use Rattle.osi_judge.specs.declared.standings.Stands.{Stands}
 pub use Rattle.osi_tap.proofs.a_capture_has_one_first_break.{one_first, still_held}
 pub use Rattle.osi_tap.proofs.a_piece_comes_to_what_its_octets_do.{after_more, looks}
-pub use Rattle.osi_tap.proofs.the_first_break_of_transport_is_told_of_its_side.{first_mark}
+pub use Rattle.osi_tap.proofs.the_first_break_of_transport_is_told_of_its_side.{first_mark_within}
 pub use Rattle.osi_tap.proofs.what_holds_of_a_result.{if_ok}
 pub use Rattle.osi_tap.proofs.who_is_to_blame.{broken}
 pub use Rattle.osi_tap.specs.Blaming.{IsMarkOf, IsToBlame, NobodyIs, SomeIs, SomeoneIs}
@@ -49,14 +49,16 @@ pub use Rattle.osi_tap.specs.Courses.{Course, marked, marks_of, noted_by, packet
 pub use Rattle.osi_tap.specs.Holding.{HoldsFound, HoldsJoined, IsHeard, IsPlace, line_in}
 pub use Rattle.osi_tap.specs.KnownSessions.{IsSession}
 pub use Rattle.osi_tap.specs.Lines.{place_in}
-pub use Rattle.osi_tap.specs.Standing.{HoldsState, IsSettled}
+pub use Rattle.osi_tap.specs.Standing.{HoldsState, IsJudged, IsSettled, first_in}
 pub use Rattle.osi_tap.specs.Streams.{Front, Streamed, counted, faulty, gathered, partial, whole}
-pub use Rattle.osi_tap.specs.Tapping.{State, after, begin, begun, comes_to, looked_at, octet_passes, stream_of, with_stream}
+pub use Rattle.osi_tap.specs.Tapping.{State, after, begin_within, begun, comes_to, looked_at, octet_passes, stream_of, with_stream}
 pub use Rattle.osi_tap.specs.declared.marks.Cause.{Cause}
 pub use Rattle.osi_tap.specs.declared.marks.Cause.TheVariants.{BadPacket, BadUnit}
 pub use Rattle.osi_tap.specs.declared.marks.First.{First}
 pub use Rattle.osi_tap.specs.declared.marks.Layer.{Layer}
 pub use Rattle.osi_tap.specs.declared.marks.Mark.{Mark}
+pub use Rattle.osi_tap.specs.declared.rooms.Room.{Room}
+pub use Rattle.osi_tap.specs.declared.rooms.Room.TheVariants.{All}
 pub use Rattle.osi_tap.specs.declared.tap.Tap.{Tap}
 pub use Rattle.osi_listing.specs.Capture.{is_blank, is_comment_sign}
 pub use Rattle.osi_dispute.specs.Adding.{AddsJudgement, AddsPair, AddsPairs, AddsReport}
@@ -67,12 +69,13 @@ pub use Rattle.osi_verdict.specs.Facts.{connection_by}
 pub use Rattle.osi_dispute.specs.Reading.{row, rows_left}
 pub use Rattle.osi_dispute.specs.ReportTexts.{last_line, last_status, pair_lines, read_lines, transport_lines}
 pub use Rattle.osi_dispute.specs.Reports.{ArePairs, IsFirstLast, IsLast, IsLastBy, IsMarkLast, IsPair, IsPairOf, IsReport, IsStrayLast}
-pub use Rattle.osi_dispute.specs.Reports.{Report}
+pub use Rattle.osi_dispute.specs.Reports.{HoldsReached, IsReached, Report, some_over}
 pub use Rattle.osi_dispute.specs.Reports.{SaysSo, Strayed, Tells, all_keep, carried, is_clear, is_opened, is_refused_in, kept_last, no_pair}
 pub use Rattle.osi_dispute.specs.Reports.{stray_last}
 pub use Rattle.osi_dispute.specs.Rows.{IsCaptureOf, Row, capture_of, digits_left, digits_on, rows_of, side_of}
 pub use Rattle.osi_dispute.specs.declared.reports.Last.{Last}
 pub use Rattle.osi_dispute.specs.declared.reports.Pair.{Pair}
+pub use Rattle.osi_dispute.specs.declared.reports.Together.{Together}
 pub use Rattle.osi_dispute.specs.declared.reports.Transport.{Transport}
 pub use Rattle.osi_verdict.specs.declared.texts.Judgement.{Judgement}
 pub use Rattle.osi_verdict.specs.declared.verdicts.Connection.{Connection}

@@ -2,7 +2,7 @@
 use Rattle.std.proofs.Common.{arith}
 use Rattle.osi_dispute.proofs.Vocabulary.{◌≡◌, subst, ℕ, List, [], ◌++◌, Option, Some, None, Result, Ok, Err, IfOk, Capture, stream, Tap}
 use Rattle.osi_dispute.proofs.Vocabulary.{HoldsState, State, comes_to, Judgement, Judges, Opening, Opens, unjudged, Row, capture_of, Last}
-use Rattle.osi_dispute.proofs.Vocabulary.{AddsJudgement}
+use Rattle.osi_dispute.proofs.Vocabulary.{AddsJudgement, All, IsReached, refl}
 use Rattle.osi_judge.specs.declared.directions.Direction.TheVariants as side
 
 -- what is added to no text
@@ -15,6 +15,10 @@ pub judges_as : (why : Option Last) (s : State) (old lines : List ℕ) (status :
     → Judges why s lines status
 judges_as why s old lines status e h =
     added_first why s lines status (subst (λ (x : List ℕ). AddsJudgement why s x lines status) e h)
+
+-- what a capture comes to, if of each connection all is judged
+pub all_reached : (capture : Capture) → IsReached (comes_to capture)
+all_reached capture = record { room = All; capture = capture; is = refl }
 
 -- these rows were fed, which are those of a text
 pub judged_rows : {E : Type 0} (r : Result Judgement E) (t : Tap) (o : Opening) (some rows : List Row) → some ≡ rows

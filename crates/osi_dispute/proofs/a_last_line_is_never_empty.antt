@@ -1,12 +1,12 @@
 -- No last line is empty, and the one that says that both sides kept the protocol says that all was judged: for the laws.
 use Rattle.std.proofs.Common.{arith}
-use Rattle.osi_dispute.proofs.Vocabulary.{◌≡◌, true, ◌&&◌, Bool, ℕ, List, [], Option, Some, None, Direction, Break, Mark, First}
+use Rattle.osi_dispute.proofs.Vocabulary.{◌≡◌, true, false, ◌&&◌, Bool, ℕ, List, [], Option, Some, None, Direction, Break, Mark, First}
 use Rattle.osi_dispute.proofs.Vocabulary.{Layer, State, Last, Pair, last_line, IsLast, IsLastBy, IsFirstLast, all_keep, carried, is_clear}
-use Rattle.osi_dispute.proofs.Vocabulary.{kept_last, NobodyIs}
+use Rattle.osi_dispute.proofs.Vocabulary.{kept_last, NobodyIs, some_over}
 use Rattle.osi_judge.specs.declared.directions.Direction.TheVariants as side
 use Rattle.osi_tap.specs.declared.marks.Layer.TheVariants as layer
 use Rattle.osi_dispute.specs.declared.reports.Last.TheVariants.{BothKept, Broke, Left, Transport, TooManySessions, TooManyConnections}
-use Rattle.osi_dispute.specs.declared.reports.Last.TheVariants.{NoOctets, BeginsLate}
+use Rattle.osi_dispute.specs.declared.reports.Last.TheVariants.{Limit, NoOctets, BeginsLate}
 use Rattle.osi_dispute.specs.ReportTexts.{mark_first}
 use Rattle.osi_verdict.specs.declared.verdicts.Unjudged.TheVariants.{TooMany}
 use Rattle.osi_verdict.specs.Names.{unjudged_text}
@@ -39,25 +39,30 @@ last_words (Broke d offset by) e = broke_words d offset by e
 last_words (Left d offset by) e = left_words d offset by e
 last_words (Transport d m) e = mark_words d m e
 last_words TooManySessions e = unjudged_words e
+last_words Limit e = grind arith
 last_words TooManyConnections e = grind arith
 last_words NoOctets e = grind arith
 last_words BeginsLate e = grind arith
 
 -- ---- both sides kept the protocol
 
-kept_by : (left right all : Bool) → BothKept ≡ kept_last (left && right) all → (left ≡ true) × (right ≡ true) × (all ≡ true)
-kept_by left right all e = grind arith
+kept_by : (left right all over : Bool) → BothKept ≡ kept_last (left && right) all over
+    → (left ≡ true) × (right ≡ true) × (all ≡ true) × (over ≡ false)
+kept_by left right all over e = grind arith
 
-kept_if : (o : Option First) (s : State) (ps : List Pair) → IsLastBy o s ps BothKept
-    → (is_clear (carried side.Left s) ≡ true) × (is_clear (carried side.Right s) ≡ true) × (all_keep ps ≡ true) × NobodyIs s.course.sessions
+abbrev AllIsJudged : State → List Pair → Type 0
+AllIsJudged s ps = (is_clear (carried side.Left s) ≡ true) × (is_clear (carried side.Right s) ≡ true) × (all_keep ps ≡ true)
+    × (some_over ps ≡ false) × NobodyIs s.course.sessions
+
+kept_if : (o : Option First) (s : State) (ps : List Pair) → IsLastBy o s ps BothKept → AllIsJudged s ps
 kept_if None s ps h =
-    let k = kept_by (is_clear (carried side.Left s)) (is_clear (carried side.Right s)) (all_keep ps) h.is in (k.0, k.1, k.2, h.nobody)
+    let k = kept_by (is_clear (carried side.Left s)) (is_clear (carried side.Right s)) (all_keep ps) (some_over ps) h.is in
+    (k.0, k.1, k.2, k.3, h.nobody)
 kept_if (Some f) s ps h = absurd (no_break f.layer s f h)
   where
     no_break : (l : Layer) (s : State) (f : First) → IsFirstLast l s f BothKept → ⊥
     no_break layer.Session s f h = grind arith
     no_break layer.Transport s f h = grind arith
 
-pub both_kept : (s : State) (ps : List Pair) → IsLast s ps BothKept
-    → (is_clear (carried side.Left s) ≡ true) × (is_clear (carried side.Right s) ≡ true) × (all_keep ps ≡ true) × NobodyIs s.course.sessions
+pub both_kept : (s : State) (ps : List Pair) → IsLast s ps BothKept → AllIsJudged s ps
 both_kept s ps h = kept_if h.first s ps h.says

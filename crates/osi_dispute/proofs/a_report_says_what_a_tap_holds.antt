@@ -5,11 +5,13 @@ use Rattle.osi_dispute.proofs.Vocabulary.{StandsFor, broke_session, Joined, Sess
 use Rattle.osi_dispute.proofs.Vocabulary.{marks_of, line_in, HoldsJoined, HoldsFound, IsHeard, IsPlace, First, Mark, State}
 use Rattle.osi_dispute.proofs.Vocabulary.{broken, Last, Pair, Told, connection_by, SaysSo, is_opened, is_refused_in, Tells}
 use Rattle.osi_dispute.proofs.Vocabulary.{IsPair, IsPairOf, ArePairs, no_pair, all_keep, carried, is_clear, kept_last, stray_last}
-use Rattle.osi_dispute.proofs.Vocabulary.{IsStrayLast, IsMarkLast}
+use Rattle.osi_dispute.proofs.Vocabulary.{IsStrayLast, IsMarkLast, IsReached, some_over, Tap, HoldsState, IsJudged, first_in}
+use Rattle.osi_dispute.proofs.Vocabulary.{first_mark_within}
 use Rattle.osi_judge.specs.declared.directions.Direction.TheVariants.{Left}
 use Rattle.osi_judge.specs.declared.findings.Finding.TheVariants as finding
 use Rattle.osi_judge.specs.Explaining.{Told as Said}
 use Rattle.osi_tap.specs.declared.connections.Connection.{Connection as Joint}
+use Rattle.osi_tap.specs.declared.marks.Layer.TheVariants as layer
 use Rattle.osi_dispute.specs.declared.reports.Last.TheVariants as ending
 use Rattle.osi_dispute.specs.declared.reports.Transport.{Transport as Carried}
 use Rattle.osi_verdict.specs.declared.verdicts.Told.TheVariants as what
@@ -65,6 +67,13 @@ pair_missing o p h k = grind arith
 
 -- ---- the last line
 
+-- a first break of transport is that of its side
+pub first_mark : (s : State) (t : Tap) (f : First) → IsReached s → HoldsState t s → IsJudged t → first_in t ≡ Some f
+    → f.layer ≡ layer.Transport → IsMarkOf f.direction f s.course
+first_mark s t f r h judged e is =
+    subst (λ (x : State). IsMarkOf f.direction f x.course) (sym r.is)
+    (first_mark_within r.room r.capture t f (subst (HoldsState t) r.is h) judged e is)
+
 -- the break that is told as the first is of transport
 pub mark_told : (s : State) (d : Direction) (f : First) (m : Mark) → Some m ≡ (marks_of d s.course).broke → f.direction ≡ d
     → IsMarkOf d f s.course → IsMarkLast s f (ending.Transport d m)
@@ -73,11 +82,11 @@ mark_told s d f m e w (k, b, is) = grind arith
 pub no_mark : (o : Option Mark) (k : Mark) → None ≡ o → o ≡ Some k → ⊥
 no_mark o k e f = let n : None ≡ Some k = e ∙ f in cc
 
-pub kept_is : (s : State) (ps : List Pair) (left right : Carried) (all : Bool) (last : Last) → left ≡ carried Left s
+pub kept_is : (s : State) (ps : List Pair) (left right : Carried) (all over : Bool) (last : Last) → left ≡ carried Left s
     → right ≡ carried Right s
-    → all ≡ all_keep ps → last ≡ kept_last (is_clear left && is_clear right) all
-    → last ≡ kept_last (is_clear (carried Left s) && is_clear (carried Right s)) (all_keep ps)
-kept_is s ps left right all last l r a e = e ∙ (λ i. kept_last (is_clear (l i) && is_clear (r i)) (a i))
+    → all ≡ all_keep ps → over ≡ some_over ps → last ≡ kept_last (is_clear left && is_clear right) all over
+    → last ≡ kept_last (is_clear (carried Left s) && is_clear (carried Right s)) (all_keep ps) (some_over ps)
+kept_is s ps left right all over last l r a o e = e ∙ (λ i. kept_last (is_clear (l i) && is_clear (r i)) (a i) (o i))
 
 -- it is of a session, which strayed
 pub stray_held : (s : State) (d : Direction) (c : Joint) (t : Told) (last : Last) (f : First) (number : ℕ) (j : Joined)

@@ -7,8 +7,8 @@ use Rattle.osi_dispute.proofs.Vocabulary.{Reach, units_of, Value, TpduFault, off
 use Rattle.osi_dispute.proofs.Vocabulary.{BadPacket, Mark, IsToBlame, SomeIs, SomeoneIs, Joined, Sessions, count, numbered, has_number}
 use Rattle.osi_dispute.proofs.Vocabulary.{asked_at, changed, packet_begins, meant, taken, taken_at, source_of, Course, marked, reached}
 use Rattle.osi_dispute.proofs.Vocabulary.{noted_by, unit_passes, units_pass, unread, packet_by, Front, partial, faulty, whole}
-use Rattle.osi_dispute.proofs.Vocabulary.{Streamed, counted, gathered, State, stream_of, with_stream, looked_at, begun, octet_passes, begin}
-use Rattle.osi_dispute.proofs.Vocabulary.{after, comes_to, looks}
+use Rattle.osi_dispute.proofs.Vocabulary.{Streamed, counted, gathered, State, stream_of, with_stream, looked_at, begun, octet_passes, begin_within}
+use Rattle.osi_dispute.proofs.Vocabulary.{after, looks, subst, Room, IsReached}
 use Rattle.osi_rules.specs.declared.findings.Meaning.TheVariants as meaning
 use Rattle.osi_rules.specs.declared.findings.Told.{Told}
 use Rattle.osi_judge.specs.declared.directions.Direction.TheVariants.{Left}
@@ -184,12 +184,17 @@ found_in : (d : Direction) (n : ℕ) (js : List Joined) → having n js ≤ 1 �
 found_in d n [] le h = absurd h
 found_in d n (j ∷ js) le h = found_by (j.number == n) d n j js refl le h (found_in d n js)
 
-pub found_blamed : (capture : Capture) (d : Direction) (n : ℕ) → count (comes_to capture).course.sessions < 2 ^ 64 - 1
-    → SomeoneIs d (Some n) (comes_to capture).course.sessions
-    → (j : Joined) × (numbered n (comes_to capture).course.sessions ≡ Some j) × IsToBlame d j
-found_blamed capture d n few h =
-    let s = (comes_to capture).course.sessions in
-    grind (arith, found_in, after_own capture begin (grind arith) few, having_both n s.live s.done, some_among d (Some n) s h)
+within_own : (room : Room) (capture : Capture) → IsOwn (after capture (begin_within room)).course.sessions
+within_own room capture = after_own capture (begin_within room) (grind arith)
+
+state_own : (s : State) → IsReached s → IsOwn s.course.sessions
+state_own s r = subst (λ (x : State). IsOwn x.course.sessions) (sym r.is) (within_own r.room r.capture)
+
+pub found_blamed : (s : State) (d : Direction) (n : ℕ) → IsReached s → count s.course.sessions < 2 ^ 64 - 1
+    → SomeoneIs d (Some n) s.course.sessions → (j : Joined) × (numbered n s.course.sessions ≡ Some j) × IsToBlame d j
+found_blamed s d n r few h =
+    let all = s.course.sessions in
+    grind (arith, found_in, state_own s r few, having_both n all.live all.done, some_among d (Some n) all h)
 
 -- no session is to blame whose connection has no number
 pub none_blamed : (d : Direction) (js : List Joined) → SomeIs d None js → ⊥

@@ -6,23 +6,23 @@ use Rattle.osi_tap.specs.Tapping.{State}
 use Rattle.osi_judge.specs.declared.directions.Direction.TheVariants.{Left, Right}
 use Rattle.osi_dispute.specs.declared.reports.Last.{Last}
 use Rattle.osi_dispute.specs.declared.reports.Pair.{Pair}
-use Rattle.osi_dispute.specs.Reports.{Report, IsReport, IsPairOf, ArePairs, all_keep, carried}
+use Rattle.osi_dispute.specs.declared.reports.Together.{Together}
+use Rattle.osi_dispute.specs.Reports.{Report, IsReport, IsPairOf, ArePairs, all_keep, some_over, carried}
 use Rattle.osi_dispute.specs.ReportTexts.{pair_lines, read_lines, report_text, last_line, last_status}
 
--- the lines of one connection, of which both sides kept the protocol or not
-pub record AddsPair (o : Option Joined) (old new : List ℕ) (keeps : Bool) : Type 0 where
-  pub pair : Pair
+-- the lines of one connection, of which this is reported
+pub record AddsPair (o : Option Joined) (old new : List ℕ) (pair : Pair) : Type 0 where
   pub is_pair : IsPairOf o pair
   pub added : new ≡ old ++ pair_lines pair
-  pub kept : keeps ≡ pair.keeps
 
--- those of the first so many connections
-pub record AddsPairs (s : Sessions) (count : ℕ) (old new : List ℕ) (keeps : Bool) : Type 0 where
+-- those of the first so many connections, of which this is reported together
+pub record AddsPairs (s : Sessions) (count : ℕ) (old new : List ℕ) (all : Together) : Type 0 where
   pub pairs : List Pair
   pub as_many : length pairs ≡ count
   pub each : ArePairs s 0 pairs
   pub added : new ≡ old ++ flat_map pair_lines pairs
-  pub kept : keeps ≡ all_keep pairs
+  pub kept : all.keeps ≡ all_keep pairs
+  pub over : all.over ≡ some_over pairs
 
 -- a report, and its status
 pub record AddsReport (s : State) (old new : List ℕ) (status : ℕ) : Type 0 where

@@ -41,6 +41,15 @@ called_back s = is_request (marks_of Right s.course).broke && not (is_some (mark
 abbrev pub begins_late : State → (left : List ℕ) → Bool
 begins_late s left = nat_lt 0 s.left.packets && is_another (first_code left) && not (called_back s)
 
+-- It may still turn out that it does: no packet of the side that called is whole, and its code has not passed, or is of another unit.
+-- If its octets begin no packet, none will be.
+abbrev pub is_undecided : Option ℕ → Bool
+is_undecided None = true
+is_undecided (Some code) = is_another (Some code)
+
+abbrev pub may_be_late : State → (left : List ℕ) → Bool
+may_be_late s left = (s.left.packets == 0) && is_undecided (first_code left) && not (is_some (marks_of Left s.course).broke)
+
 abbrev pub has_no_octets : State → Bool
 has_no_octets s = (s.left.octets == 0) && (s.right.octets == 0)
 
@@ -49,9 +58,12 @@ unjudged_by true late = Some NoOctets
 unjudged_by false true = Some BeginsLate
 unjudged_by false false = None
 
+abbrev pub unjudged_in : State → (left : List ℕ) → Option Last
+unjudged_in s left = unjudged_by (has_no_octets s) (begins_late s left)
+
 -- why nothing of a capture is judged, if that is so
 abbrev pub unjudged : Capture → Option Last
-unjudged capture = unjudged_by (has_no_octets (comes_to capture)) (begins_late (comes_to capture) (stream Left capture))
+unjudged capture = unjudged_in (comes_to capture) (stream Left capture)
 
 -- what is known of the octets that left sent first
 pub record Opens (o : Opening) (left : List ℕ) : Type 0 where

@@ -10,13 +10,16 @@ use Rattle.osi_listing.specs.Lines.{number_field}
 use Rattle.osi_dispute.specs.declared.reports.Pair.{Pair}
 use Rattle.osi_dispute.specs.declared.reports.Transport.{Transport as Carried}
 use Rattle.osi_dispute.specs.declared.reports.Last.{Last}
-use Rattle.osi_dispute.specs.declared.reports.Last.TheVariants.{BothKept, Broke, Left, Transport, TooManySessions, TooManyConnections}
-use Rattle.osi_dispute.specs.declared.reports.Last.TheVariants.{NoOctets, BeginsLate}
+use Rattle.osi_dispute.specs.declared.reports.Last.TheVariants.{BothKept, Broke, Left, Transport, TooManySessions, Limit}
+use Rattle.osi_dispute.specs.declared.reports.Last.TheVariants.{TooManyConnections, NoOctets, BeginsLate}
 use Rattle.osi_dispute.specs.Reports.{Report}
+use Rattle.osi_verdict.specs.declared.verdicts.Connection.{Connection}
+use Rattle.osi_verdict.specs.declared.verdicts.Connection.TheVariants.{Session}
+use Rattle.osi_verdict.specs.declared.verdicts.Told.TheVariants.{Kept}
 use Rattle.osi_verdict.specs.declared.verdicts.Unjudged.TheVariants.{TooMany}
 use Rattle.osi_verdict.specs.Names.{side_name}
 use Rattle.osi_dispute.specs.Causes.{marked_at_name, cause_name}
-use Rattle.osi_verdict.specs.Lines.{reading_line}
+use Rattle.osi_verdict.specs.Lines.{reading_line, without_line}
 use Rattle.osi_verdict.specs.Texts.{connection_lines, first_text, broke_first, left_first, unjudged_line}
 
 -- ---- transport
@@ -84,9 +87,18 @@ transport_lines left right =
 
 -- ---- connections
 
+-- of a session that kept the protocol as long as it was judged
+abbrev pub limit_lines : Direction → Connection → List ℕ
+limit_lines d (Session reference (Kept tsdus stands)) = without_line d reference (codes " not judged Limit")
+limit_lines d c = []
+
+abbrev pub over_lines : (over : Bool) → (left right : Connection) → List ℕ
+over_lines true left right = limit_lines side.Left left ++ limit_lines side.Right right
+over_lines false left right = []
+
 -- both sides of one
 abbrev pub pair_lines : Pair → List ℕ
-pair_lines p = connection_lines side.Left p.left ++ connection_lines side.Right p.right
+pair_lines p = connection_lines side.Left p.left ++ connection_lines side.Right p.right ++ over_lines p.over p.left p.right
 
 -- ---- the last line
 
@@ -103,6 +115,7 @@ last_line (Broke d offset by) = broke_first d offset by
 last_line (Left d offset by) = left_first d offset by
 last_line (Transport d m) = mark_first d m
 last_line TooManySessions = unjudged_line TooMany
+last_line Limit = codes "not judged: more passed on a connection than is kept\n"
 last_line TooManyConnections = codes "not judged: there are more than 128 connections at once\n"
 last_line NoOctets = codes "not judged: no octets\n"
 last_line BeginsLate = codes "not judged: the capture begins in the middle of a connection\n"

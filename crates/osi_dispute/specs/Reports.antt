@@ -1,6 +1,6 @@
 -- What a report says of a byte connection, by what a capture of it comes to.
 use Rattle.std.specs.Prelude.{◌≡◌, ℕ, ◌+◌, ◌-◌, ◌^◌, ◌<◌, Bool, true, false, not, ◌&&◌, is_some, List, [], ◌∷◌, length, Option, Some, None}
-use Rattle.std.specs.List.{list_all}
+use Rattle.std.specs.List.{list_all, list_any}
 use Rattle.osi_tpkt.specs.Stream.{offset_of}
 use Rattle.osi_judge.specs.declared.directions.Direction.{Direction}
 use Rattle.osi_judge.specs.declared.directions.Direction.TheVariants as side
@@ -14,19 +14,21 @@ use Rattle.osi_tap.specs.declared.marks.First.{First}
 use Rattle.osi_tap.specs.declared.marks.Layer.{Layer}
 use Rattle.osi_tap.specs.declared.marks.Layer.TheVariants as layer
 use Rattle.osi_tap.specs.declared.marks.Mark.{Mark}
+use Rattle.osi_tap.specs.declared.rooms.Room.{Room}
 use Rattle.osi_tap.specs.declared.tap.Tap.{Tap}
 use Rattle.osi_tap.specs.Blaming.{IsFirstOf, NobodyIs}
 use Rattle.osi_tap.specs.Connections.{Joined, Sessions, spoken, reference_of, numbered, count}
 use Rattle.osi_tap.specs.Courses.{marks_of, first_of}
 use Rattle.osi_tap.specs.KnownSessions.{IsSession}
 use Rattle.osi_tap.specs.Lines.{told, place_in}
+use Rattle.osi_tap.specs.Rooms.{is_over}
 use Rattle.osi_tap.specs.Streams.{reading_of}
 use Rattle.osi_tap.specs.Standing.{HoldsState, IsSettled}
-use Rattle.osi_tap.specs.Tapping.{State, stream_of, comes_to}
+use Rattle.osi_tap.specs.Tapping.{State, stream_of, after, begin_within}
 use Rattle.osi_dispute.specs.declared.reports.Pair.{Pair}
 use Rattle.osi_dispute.specs.declared.reports.Transport.{Transport as Carried}
 use Rattle.osi_dispute.specs.declared.reports.Last.{Last}
-use Rattle.osi_dispute.specs.declared.reports.Last.TheVariants.{BothKept, Broke, Left, Transport, TooManySessions, TooManyConnections}
+use Rattle.osi_dispute.specs.declared.reports.Last.TheVariants.{BothKept, Broke, Left, Transport, TooManySessions, Limit, TooManyConnections}
 use Rattle.osi_verdict.specs.declared.verdicts.Told.{Told}
 use Rattle.osi_verdict.specs.declared.verdicts.Told.TheVariants as told
 use Rattle.osi_verdict.specs.declared.verdicts.Connection.{Connection}
@@ -63,7 +65,7 @@ pub record Tells (d : Direction) (j : Joined) (own other : Watched) (c : Connect
   pub is : c ≡ connection_by (is_dropped own.finding other.finding) (reference_of d j) (broke_session own.finding) (is_refused_in j)
       (not (is_opened j)) session
 
--- this is reported of a connection: of both sides, and whether both kept the protocol
+-- this is reported of a connection: of both sides, whether both kept the protocol, and whether more passed than is judged
 pub record IsPair (j : Joined) (p : Pair) : Type 0 where
   pub left : Watched
   pub right : Watched
@@ -72,12 +74,13 @@ pub record IsPair (j : Joined) (p : Pair) : Type 0 where
   pub tells_left : Tells side.Left j left right p.left
   pub tells_right : Tells side.Right j right left p.right
   pub keeps : p.keeps ≡ (is_kept left.finding && is_kept right.finding)
+  pub over : p.over ≡ is_over j.room
 
 -- ---- all connections
 
 -- of a number that no connection has
 abbrev pub no_pair : Pair
-no_pair = record { left = Silent; right = Silent; keeps = true }
+no_pair = record { left = Silent; right = Silent; keeps = true; over = false }
 
 abbrev pub IsPairOf : Option Joined → Pair → Type 0
 IsPairOf None p = p ≡ no_pair
@@ -96,6 +99,10 @@ pub record ArePairsOf (s : Sessions) (ps : List Pair) : Type 0 where
 abbrev pub all_keep : List Pair → Bool
 all_keep ps = list_all (λ (p : Pair). p.keeps) ps
 
+-- of one more passed than is judged
+abbrev pub some_over : List Pair → Bool
+some_over ps = list_any (λ (p : Pair). p.over) ps
+
 -- ---- transport
 
 -- what is reported of the transport of a side: what was read, its first break, and where nothing more of it is judged
@@ -109,10 +116,11 @@ abbrev pub is_clear : Carried → Bool
 is_clear t = not (is_some t.broke) && not (is_some t.halted)
 
 -- the last line if nobody broke the protocol
-abbrev pub kept_last : (is_clear all_keep : Bool) → Last
-kept_last clear false = TooManySessions
-kept_last true true = BothKept
-kept_last false true = TooManyConnections
+abbrev pub kept_last : (is_clear all_keep some_over : Bool) → Last
+kept_last clear false over = TooManySessions
+kept_last clear true true = Limit
+kept_last true true false = BothKept
+kept_last false true false = TooManyConnections
 
 -- the last line if a session of this side was the first, of which this is told
 abbrev pub stray_last : Direction → Told → Option Last
@@ -146,7 +154,7 @@ IsFirstLast layer.Transport s f last = IsMarkLast s f last
 -- nobody broke the protocol, and the last line says whether all was judged
 pub record IsKeptLast (s : State) (ps : List Pair) (last : Last) : Type 0 where
   pub nobody : NobodyIs s.course.sessions
-  pub is : last ≡ kept_last (is_clear (carried side.Left s) && is_clear (carried side.Right s)) (all_keep ps)
+  pub is : last ≡ kept_last (is_clear (carried side.Left s) && is_clear (carried side.Right s)) (all_keep ps) (some_over ps)
 
 abbrev pub IsLastBy : Option First → State → List Pair → Last → Type 0
 IsLastBy None s ps last = IsKeptLast s ps last
@@ -160,11 +168,18 @@ pub record IsLast (s : State) (ps : List Pair) (last : Last) : Type 0 where
 
 -- ---- a tap that is asked
 
--- A tap that is settled holds what this capture comes to, which requests so few connections that each has a number of its own.
-pub record HoldsCapture (t : Tap) (capture : Capture) : Type 0 where
-  pub holds : HoldsState t (comes_to capture)
+-- what a capture comes to, if of each connection so much is judged
+pub record IsReached (s : State) : Type 0 where
+  pub room : Room
+  pub capture : Capture
+  pub is : s ≡ after capture (begin_within room)
+
+-- A tap that is settled holds what some capture comes to, which requests so few connections that each has a number of its own.
+pub record HoldsReached (t : Tap) (s : State) : Type 0 where
+  pub reached : IsReached s
+  pub holds : HoldsState t s
   pub settled : IsSettled t
-  pub few : count (comes_to capture).course.sessions < 2 ^ 64 - 1
+  pub few : count s.course.sessions < 2 ^ 64 - 1
 
 -- ---- the report
 

@@ -1,13 +1,13 @@
 //! Laws of judgements: what one text can be judged to be. Each function does nothing; its clauses are the laws.
 
-ghost use Rattle.std.specs.Prelude.{◌≡◌, true, ℕ, List, []};
+ghost use Rattle.std.specs.Prelude.{◌≡◌, true, false, ℕ, List, []};
 ghost use Rattle.osi_judge.specs.declared.directions.Direction.{Direction};
 ghost use Rattle.osi_judge.specs.declared.directions.Direction.TheVariants.{Left, Right};
 ghost use Rattle.osi_judge.specs.Captures.{Capture};
 ghost use Rattle.osi_judge.specs.Judging.{Watched};
 ghost use Rattle.osi_dispute.specs.Blaming.{BlameNowhere, IsBlameless};
 ghost use Rattle.osi_dispute.specs.Disputes.{IsJudgement};
-ghost use Rattle.osi_dispute.specs.Reports.{IsLast, IsReport, Report, all_keep, carried, is_clear};
+ghost use Rattle.osi_dispute.specs.Reports.{IsLast, IsReport, Report, all_keep, carried, is_clear, some_over};
 ghost use Rattle.osi_dispute.specs.ReportTexts.{last_line};
 ghost use Rattle.osi_dispute.specs.declared.reports.Last.{Last};
 ghost use Rattle.osi_dispute.specs.declared.reports.Last.TheVariants.{BothKept};
@@ -38,10 +38,10 @@ pub fn a_judgement_ends_with_a_line()
 {}
 
 /// If the last line says that both sides kept the protocol, all was judged: the transport of both sides broke no rule and was judged to
-/// its end, no session of any connection is to blame, and each kept the protocol.
+/// its end, no session of any connection is to blame, each kept the protocol, and of each all that passed was judged.
 pub fn both_kept_means_that_all_was_judged()
     ensures { (s : State) (pairs : List Pair) → IsLast s pairs BothKept → (is_clear (carried Left s) ≡ true)
-        × (is_clear (carried Right s) ≡ true) × (all_keep pairs ≡ true) × NobodyIs s.course.sessions }
+        × (is_clear (carried Right s) ≡ true) × (all_keep pairs ≡ true) × (some_over pairs ≡ false) × NobodyIs s.course.sessions }
 {}
 
 /// What is printed of a side is found of it. If what the capture comes to has no break of the side, neither of its transport nor of a

@@ -32,6 +32,10 @@
 //! begins in the middle of a connection (`specs/Openings`). Numbers and offsets are those of the listing of that side
 //! (`osi_listing`), and names those of transcripts (`osi_names`).
 //!
+//! [`push_judgement`] writes the text of a tap that somebody else fed, as the library for C does, beside an [`Opening`] that passed the
+//! same octets. Such a tap may have a bound for each connection. A side of a connection that reached it has a line that says so, and
+//! the last line then never says that both kept the protocol.
+//!
 //! It leaves judging to `osi_judge` and `osi_tap`, the lines of sessions to `osi_verdict`, and standard input and output to
 //! the program.
 #![tactic(auto)]
@@ -45,6 +49,7 @@ mod report_texts;
 mod reports;
 
 pub use disputes::judge_text;
+pub use openings::Opening;
 pub use pieces::{Piece, Pieces};
-pub use report_texts::push_report;
-pub use reports::{Last, Pair, Transport};
+pub use report_texts::{push_judgement, push_report};
+pub use reports::{Last, Pair, Together, Transport, is_late, is_undecided};

@@ -3,7 +3,7 @@
 ghost use Rattle.std.specs.Prelude.{◌≡◌, ◌++◌, ◌/◌, List, ℕ, []};
 ghost use Rattle.osi_judge.specs.Captures.{Capture, piece, stream};
 ghost use Rattle.osi_judge.specs.declared.directions.Direction.TheVariants.{Left};
-ghost use Rattle.osi_dispute.specs.Openings.{Opens, first_code, is_another, is_half_of_another};
+ghost use Rattle.osi_dispute.specs.Openings.{Opens, first_code, is_another, is_half_of_another, is_undecided};
 
 use osi_judge::Direction;
 
@@ -13,7 +13,7 @@ const CODE: usize = 5;
 
 /// The first octets of the side that called, up to the code of its first transport unit.
 #[derive(Clone, Copy)]
-pub(crate) struct Opening {
+pub struct Opening {
     /// How many octets of the side passed.
     passed: usize,
     /// The code, once it has passed.
@@ -29,7 +29,7 @@ fn is_other_unit(code: u8) -> bool
 
 impl Opening {
     /// Nothing has passed.
-    pub(crate) fn new() -> Opening
+    pub fn new() -> Opening
         ensures { Opens result [] }
     {
         Opening {
@@ -39,7 +39,7 @@ impl Opening {
     }
 
     /// Octets of a side pass.
-    pub(crate) fn pass(&mut self, direction: Direction, octets: &[u8])
+    pub fn pass(&mut self, direction: Direction, octets: &[u8])
         ensures { (capture : Capture) → Opens self.old (stream Left capture)
             → Opens self.new (stream Left (capture ++ piece direction octets.now)) }
     {
@@ -67,6 +67,16 @@ impl Opening {
             return self.code;
         }
         octets.get(CODE - self.passed).copied()
+    }
+
+    /// Whether the first unit may be no CR: its code has not passed, or is of another unit.
+    pub(crate) fn is_undecided(&self) -> bool
+        ensures { result ≡ is_undecided self.now.code }
+    {
+        match self.code {
+            None => true,
+            Some(_) => self.is_another(),
+        }
     }
 
     /// Whether the first unit is no CR, if its code has passed.

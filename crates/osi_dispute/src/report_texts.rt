@@ -1,28 +1,26 @@
 //! Writes a report as text: the lines of each connection, those of transport, and the last line, which says who was first.
 
-ghost use Rattle.std.specs.Prelude.{◌≡◌, ◌++◌, ◌<◌, ◌&&◌, true, IfOk, OnOk};
-ghost use Rattle.osi_judge.specs.Captures.{Capture, stream};
-ghost use Rattle.osi_judge.specs.declared.directions.Direction.TheVariants.{Left};
+ghost use Rattle.std.specs.Prelude.{◌≡◌, ◌++◌, ◌<◌, ◌&&◌, ◌||◌, true, ℕ, List, IfOk, OnOk};
 ghost use Rattle.osi_tap.specs.Connections.{count, numbered};
 ghost use Rattle.osi_tap.specs.Standing.{HoldsState, IsSettled};
-ghost use Rattle.osi_tap.specs.Tapping.{State, comes_to};
+ghost use Rattle.osi_tap.specs.Tapping.{State};
 ghost use Rattle.osi_tpkt.specs.Stream.{offset_of};
 ghost use Rattle.osi_dispute.specs.Adding.{AddsJudgement, AddsPair, AddsPairs, AddsReport, AddsUnjudged};
-ghost use Rattle.osi_dispute.specs.Openings.{Opens, unjudged};
-ghost use Rattle.osi_dispute.specs.Reports.{HoldsCapture, carried};
+ghost use Rattle.osi_dispute.specs.Openings.{Opens, unjudged_in};
+ghost use Rattle.osi_dispute.specs.Reports.{HoldsReached, IsReached, carried};
 ghost use Rattle.osi_dispute.specs.ReportTexts.{mark_text, is_outside, mark_verb, mark_line, mark_lines, halt_line, halt_lines};
 ghost use Rattle.osi_dispute.specs.ReportTexts.{first_verb, mark_first, last_line, pair_lines, transport_lines, read_lines, last_status};
-ghost use Rattle.osi_dispute.specs.ReportTexts.{ends_itself, halt_told, is_at, is_of, is_side};
+ghost use Rattle.osi_dispute.specs.ReportTexts.{ends_itself, halt_told, is_at, is_of, is_side, limit_lines, over_lines};
 
 use crate::causes;
 use crate::openings::Opening;
-use crate::reports::{Last, Pair, Transport, last_of, pair_at, transport_of, unjudged};
+use crate::reports::{Last, Pair, Together, Transport, last_of, pair_at, transport_of, unjudged};
 use osi_judge::Direction;
 use osi_listing::{push_number_field, push_words};
 use osi_tap::{Cause, Mark, Tap};
 use osi_verdict::{
-    Unjudged, push_broke_first, push_connection, push_first, push_left_first, push_reading,
-    push_side, push_unjudged,
+    Connection, Told, Unjudged, push_broke_first, push_connection, push_first, push_left_first,
+    push_reading, push_side, push_unjudged, push_without,
 };
 use std::alloc::AllocError;
 
@@ -159,12 +157,40 @@ fn halt_told(direction: Direction, own: &Transport, other: &Transport) -> Option
     own.halted
 }
 
+/// Adds the line of a side of a connection that is judged no further, if it kept the protocol as long as it was.
+fn push_limit(
+    text: &mut Vec<u8>,
+    direction: Direction,
+    connection: &Connection,
+) -> Result<(), AllocError>
+    ensures { OnOk result (text.new.items ≡ text.old.items ++ limit_lines direction connection.now) }
+{
+    match *connection {
+        Connection::Session(reference, Told::Kept(..)) => {
+            push_without(text, direction, reference, " not judged Limit")
+        }
+        _ => Ok(()),
+    }
+}
+
+/// Adds the lines of both sides of a connection, if it is judged no further.
+fn push_over(text: &mut Vec<u8>, pair: &Pair) -> Result<(), AllocError>
+    ensures { OnOk result (text.new.items ≡ text.old.items ++ over_lines pair.now.over pair.now.left pair.now.right) }
+{
+    if !pair.over {
+        return Ok(());
+    }
+    push_limit(text, Direction::Left, &pair.left)?;
+    push_limit(text, Direction::Right, &pair.right)
+}
+
 /// Adds the lines of both sides of a connection.
 fn push_pair(text: &mut Vec<u8>, pair: &Pair) -> Result<(), AllocError>
     ensures { OnOk result (text.new.items ≡ text.old.items ++ pair_lines pair.now) }
 {
     push_connection(text, Direction::Left, &pair.left)?;
-    push_connection(text, Direction::Right, &pair.right)
+    push_connection(text, Direction::Right, &pair.right)?;
+    push_over(text, pair)
 }
 
 fn both(one: bool, other: bool) -> bool
@@ -173,32 +199,46 @@ fn both(one: bool, other: bool) -> bool
     one && other
 }
 
-/// Adds the lines of the connection with this number. Returns whether the sessions of both sides kept the protocol.
-fn push_pair_at(text: &mut Vec<u8>, tap: &Tap, number: usize) -> Result<bool, AllocError>
-    ensures { IfOk result (λ keeps. (s : State) → HoldsState tap.now s → IsSettled tap.now
-        → AddsPair (numbered number s.course.sessions) text.old.items text.new.items keeps) }
+fn either(one: bool, other: bool) -> bool
+    ensures { result ≡ (one || other) }
+{
+    one || other
+}
+
+/// Adds the lines of the connection with this number. Returns what is reported of it.
+fn push_pair_at(text: &mut Vec<u8>, tap: &Tap, number: usize) -> Result<Pair, AllocError>
+    ensures { IfOk result (λ pair. (s : State) → HoldsState tap.now s → IsSettled tap.now
+        → AddsPair (numbered number s.course.sessions) text.old.items text.new.items pair) }
 {
     let Ok(pair) = pair_at(tap, number) else {
         return Err(AllocError);
     };
     push_pair(text, &pair)?;
-    Ok(pair.keeps)
+    Ok(pair)
 }
 
-/// Adds the lines of all connections. Returns whether the sessions of all kept the protocol.
-fn push_pairs(text: &mut Vec<u8>, tap: &Tap) -> Result<bool, AllocError>
-    ensures { IfOk result (λ keeps. (s : State) → HoldsState tap.now s → IsSettled tap.now
-        → AddsPairs s.course.sessions (offset_of (count s.course.sessions)) text.old.items text.new.items keeps) }
+/// Adds the lines of all connections. Returns what is reported of them together.
+fn push_pairs(text: &mut Vec<u8>, tap: &Tap) -> Result<Together, AllocError>
+    ensures { IfOk result (λ all. (s : State) → HoldsState tap.now s → IsSettled tap.now
+        → AddsPairs s.course.sessions (offset_of (count s.course.sessions)) text.old.items text.new.items all) }
 {
     let count = tap.count();
-    let mut keeps = true;
+    let mut all = Together {
+        keeps: true,
+        over: false,
+    };
     let mut number = 0;
     'connections: while number < count {
-        let one_keeps = push_pair_at(text, tap, number)?;
-        keeps = both(keeps, one_keeps);
+        let Ok(pair) = push_pair_at(text, tap, number) else {
+            return Err(AllocError);
+        };
+        all = Together {
+            keeps: both(all.keeps, pair.keeps),
+            over: either(all.over, pair.over),
+        };
         number += 1;
     }
-    Ok(keeps)
+    Ok(all)
 }
 
 /// Adds the lines of the transport of both sides.
@@ -250,6 +290,10 @@ fn push_last(text: &mut Vec<u8>, last: &Last) -> Result<(), AllocError>
         Last::Left(direction, offset, by) => push_left_first(text, direction, offset, &by),
         Last::Transport(direction, mark) => push_mark_first(text, direction, &mark),
         Last::TooManySessions => push_unjudged(text, Unjudged::TooMany),
+        Last::Limit => push_words(
+            text,
+            "not judged: more passed on a connection than is kept\n",
+        ),
         Last::TooManyConnections => push_words(
             text,
             "not judged: there are more than 128 connections at once\n",
@@ -273,8 +317,7 @@ fn push_read(text: &mut Vec<u8>, left: &Transport, right: &Transport) -> Result<
 
 /// Whether there are so few connections that each has a number of its own: fewer than 2^64 - 1. Memory never holds more.
 fn is_numbered(tap: &Tap) -> bool
-    ensures { (capture : Capture) → HoldsState tap.now (comes_to capture) → IsSettled tap.now → result ≡ true
-        → HoldsCapture tap.now capture }
+    ensures { (s : State) → IsReached s → HoldsState tap.now s → IsSettled tap.now → result ≡ true → HoldsReached tap.now s }
 {
     tap.count() < usize::MAX
 }
@@ -283,8 +326,8 @@ fn is_numbered(tap: &Tap) -> bool
 /// reported of each connection, what was broken below the sessions, and who was first. Returns 0 if both sides kept the
 /// protocol on all connections, and 1 in any other case. `Err` means that memory ran out.
 pub fn push_report(text: &mut Vec<u8>, tap: &Tap) -> Result<u8, AllocError>
-    ensures told { IfOk result (λ status. (capture : Capture) → HoldsState tap.now (comes_to capture) → IsSettled tap.now
-        → AddsReport (comes_to capture) text.old.items text.new.items status) }
+    ensures told { IfOk result (λ status. (s : State) → IsReached s → HoldsState tap.now s → IsSettled tap.now
+        → AddsReport s text.old.items text.new.items status) }
     ensures small { IfOk result (λ status. status < 2) }
 {
     if !is_numbered(tap) {
@@ -293,9 +336,9 @@ pub fn push_report(text: &mut Vec<u8>, tap: &Tap) -> Result<u8, AllocError>
     let left = transport_of(tap, Direction::Left);
     let right = transport_of(tap, Direction::Right);
     push_read(text, &left, &right)?;
-    let keeps = push_pairs(text, tap)?;
+    let all = push_pairs(text, tap)?;
     push_transport(text, &left, &right)?;
-    let last = last_of(tap, &left, &right, keeps);
+    let last = last_of(tap, &left, &right, all);
     push_last(text, &last)?;
     Ok(last_status(&last))
 }
@@ -317,15 +360,11 @@ fn push_why(
 }
 
 /// Adds the text of a judgement of everything that a tap was fed, once it is settled: a report, or why nothing is judged. `opening`
-/// knows how the octets of left begin. Returns 0 if both sides kept the protocol on all connections, and 1 in any other case.
-pub(crate) fn push_judgement(
-    text: &mut Vec<u8>,
-    tap: &Tap,
-    opening: &Opening,
-) -> Result<u8, AllocError>
-    ensures told { IfOk result (λ status. (capture : Capture) → HoldsState tap.now (comes_to capture) → IsSettled tap.now
-        → Opens opening.now (stream Left capture)
-        → AddsJudgement (unjudged capture) (comes_to capture) text.old.items text.new.items status) }
+/// knows how the octets of left begin. Returns 0 if both sides kept the protocol on all connections, and 1 in any other case. `Err`
+/// means that memory ran out.
+pub fn push_judgement(text: &mut Vec<u8>, tap: &Tap, opening: &Opening) -> Result<u8, AllocError>
+    ensures told { IfOk result (λ status. (s : State) (left : List ℕ) → IsReached s → HoldsState tap.now s → IsSettled tap.now
+        → Opens opening.now left → AddsJudgement (unjudged_in s left) s text.old.items text.new.items status) }
     ensures small { IfOk result (λ status. status < 2) }
 {
     let left = transport_of(tap, Direction::Left);

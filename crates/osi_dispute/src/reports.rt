@@ -1,22 +1,22 @@
 //! Asks a tap what it found of all connections on a byte connection, and puts it together as a report.
 
 ghost use Rattle.std.specs.Prelude.{◌≡◌, ◌&&◌, ℕ, List, None, Some, IfOk, IfSome};
-ghost use Rattle.osi_judge.specs.Captures.{Capture, other, stream};
-ghost use Rattle.osi_judge.specs.declared.directions.Direction.TheVariants.{Left};
+ghost use Rattle.osi_judge.specs.Captures.{other};
 ghost use Rattle.osi_judge.specs.Stops.{broke_session};
 ghost use Rattle.osi_tap.specs.Connections.{Joined, numbered};
 ghost use Rattle.osi_tap.specs.Blaming.{IsFirstOf, IsMarkOf, IsToBlame, NobodyIs, SomeoneIs};
 ghost use Rattle.osi_tap.specs.Holding.{line_in, HoldsJoined, IsHeard};
 ghost use Rattle.osi_tap.specs.Standing.{HoldsState, IsSettled, first_in};
-ghost use Rattle.osi_tap.specs.Tapping.{State, comes_to};
+ghost use Rattle.osi_tap.specs.Rooms.{is_over};
+ghost use Rattle.osi_tap.specs.Tapping.{State};
 ghost use Rattle.osi_tap.specs.declared.marks.First.{First as Breach};
 ghost use Rattle.osi_dispute.specs.declared.reports.Pair.{Pair as Couple};
 ghost use Rattle.osi_verdict.specs.Facts.{is_kept, is_left, connection_with};
 ghost use Rattle.osi_verdict.specs.Leaving.{is_dropped};
 ghost use Rattle.osi_dispute.specs.Reports.{SaysSo, is_opened, is_refused_in, Tells, IsPair, IsPairOf};
-ghost use Rattle.osi_dispute.specs.Reports.{all_keep as all_keep_of, carried, is_clear, kept_last, HoldsCapture, IsFirstLast};
+ghost use Rattle.osi_dispute.specs.Reports.{all_keep, some_over, carried, is_clear, kept_last, HoldsReached, IsFirstLast};
 ghost use Rattle.osi_dispute.specs.Reports.{IsLast, IsMarkLast, IsStrayLast};
-ghost use Rattle.osi_dispute.specs.Openings.{Opens, begins_late, called_back, has_no_octets, is_request, unjudged};
+ghost use Rattle.osi_dispute.specs.Openings.{Opens, begins_late, called_back, has_no_octets, is_request, may_be_late, unjudged_in};
 
 use crate::openings::Opening;
 use osi_judge::{Break, Direction, Finding, Reading};
@@ -33,6 +33,17 @@ pub struct Pair {
     pub right: Connection,
     /// The sessions of both sides kept the protocol.
     pub keeps: bool,
+    /// More passed on it than is judged of a connection.
+    pub over: bool,
+}
+
+/// What is reported of all connections together.
+#[derive(Clone, Copy)]
+pub struct Together {
+    /// The sessions of both sides of each kept the protocol.
+    pub keeps: bool,
+    /// On one of them more passed than is judged of a connection.
+    pub over: bool,
 }
 
 /// What is reported of the transport of a side.
@@ -59,6 +70,8 @@ pub enum Last {
     Transport(Direction, Mark),
     /// It is not known: too many sessions explain a side.
     TooManySessions,
+    /// It is not known: more passed on a connection than is judged of one.
+    Limit,
     /// It is not known: there are more connections than are looked at together.
     TooManyConnections,
     /// There are no octets.
@@ -188,6 +201,7 @@ fn pair_of(joint: &Joint) -> Result<Pair, AllocError>
         left,
         right,
         keeps: both_keep(joint),
+        over: joint.is_over(),
     })
 }
 
@@ -202,6 +216,7 @@ pub(crate) fn pair_at(tap: &Tap, number: usize) -> Result<Pair, AllocError>
             left: Connection::Silent,
             right: Connection::Silent,
             keeps: true,
+            over: false,
         }),
     }
 }
@@ -257,11 +272,42 @@ fn begins_late(left: &Transport, right: &Transport, opening: &Opening) -> bool
     !called_back(left, right)
 }
 
+fn may_be_late(left: &Transport, opening: &Opening) -> bool
+    ensures { (s : State) (octets : List ℕ) → left.now ≡ carried Direction.Left s → Opens opening.now octets
+        → result ≡ may_be_late s octets }
+{
+    if left.reading.packets != 0 {
+        return false;
+    }
+    if !opening.is_undecided() {
+        return false;
+    }
+    left.broke.is_none()
+}
+
+/// Whether a capture that a tap was fed begins in the middle of a connection, once the tap is settled. Then nothing of it is judged.
+pub fn is_late(tap: &Tap, opening: &Opening) -> bool
+    ensures { (s : State) (octets : List ℕ) → HoldsState tap.now s → IsSettled tap.now → Opens opening.now octets
+        → result ≡ begins_late s octets }
+{
+    let left = transport_of(tap, Direction::Left);
+    let right = transport_of(tap, Direction::Right);
+    begins_late(&left, &right, opening)
+}
+
+/// Whether what passes next may show that it does: no packet of the side that called is whole so far.
+pub fn is_undecided(tap: &Tap, opening: &Opening) -> bool
+    ensures { (s : State) (octets : List ℕ) → HoldsState tap.now s → IsSettled tap.now → Opens opening.now octets
+        → result ≡ may_be_late s octets }
+{
+    let left = transport_of(tap, Direction::Left);
+    may_be_late(&left, opening)
+}
+
 /// Why nothing of a capture is judged, if that is so.
 pub(crate) fn unjudged(left: &Transport, right: &Transport, opening: &Opening) -> Option<Last>
-    ensures { (capture : Capture) → left.now ≡ carried Direction.Left (comes_to capture)
-        → right.now ≡ carried Direction.Right (comes_to capture) → Opens opening.now (stream Left capture)
-        → result ≡ unjudged capture }
+    ensures { (s : State) (octets : List ℕ) → left.now ≡ carried Direction.Left s → right.now ≡ carried Direction.Right s
+        → Opens opening.now octets → result ≡ unjudged_in s octets }
 {
     if has_no_octets(left, right) {
         return Some(Last::NoOctets);
@@ -280,11 +326,14 @@ fn is_clear(transport: &Transport) -> bool
 }
 
 /// The outcome if nobody broke the protocol, by what was not judged.
-fn kept_last(left: &Transport, right: &Transport, all_keep: bool) -> Last
-    ensures { result ≡ kept_last (is_clear left.now && is_clear right.now) all_keep }
+fn kept_last(left: &Transport, right: &Transport, all: Together) -> Last
+    ensures { result ≡ kept_last (is_clear left.now && is_clear right.now) all.keeps all.over }
 {
-    if !all_keep {
+    if !all.keeps {
         return Last::TooManySessions;
+    }
+    if all.over {
+        return Last::Limit;
     }
     if is_clear(left) && is_clear(right) {
         return Last::BothKept;
@@ -309,10 +358,9 @@ fn stray_of(joint: &Joint, direction: Direction) -> Option<Last>
 
 /// The break of the session of a side on the connection with this number.
 fn session_last(tap: &Tap, direction: Direction, number: usize) -> Option<Last>
-    ensures some { IfSome result (λ last. (capture : Capture) (f : Breach) → HoldsCapture tap.now capture → f.direction ≡ direction
-        → f.connection ≡ Some number → IsStrayLast (comes_to capture) f last) }
-    ensures none { (capture : Capture) → HoldsCapture tap.now capture
-        → SomeoneIs direction (Some number) (comes_to capture).course.sessions → result ≡ None → ⊥ }
+    ensures some { IfSome result (λ last. (s : State) (f : Breach) → HoldsReached tap.now s → f.direction ≡ direction
+        → f.connection ≡ Some number → IsStrayLast s f last) }
+    ensures none { (s : State) → HoldsReached tap.now s → SomeoneIs direction (Some number) s.course.sessions → result ≡ None → ⊥ }
 {
     match tap.connection(number) {
         None => None,
@@ -322,10 +370,9 @@ fn session_last(tap: &Tap, direction: Direction, number: usize) -> Option<Last>
 
 /// The same, if it is known which connection that is.
 fn session_first(tap: &Tap, direction: Direction, connection: Option<usize>) -> Option<Last>
-    ensures some { IfSome result (λ last. (capture : Capture) (f : Breach) → HoldsCapture tap.now capture → f.direction ≡ direction
-        → f.connection ≡ connection → IsStrayLast (comes_to capture) f last) }
-    ensures none { (capture : Capture) → HoldsCapture tap.now capture
-        → SomeoneIs direction connection (comes_to capture).course.sessions → result ≡ None → ⊥ }
+    ensures some { IfSome result (λ last. (s : State) (f : Breach) → HoldsReached tap.now s → f.direction ≡ direction
+        → f.connection ≡ connection → IsStrayLast s f last) }
+    ensures none { (s : State) → HoldsReached tap.now s → SomeoneIs direction connection s.course.sessions → result ≡ None → ⊥ }
 {
     match connection {
         None => None,
@@ -335,10 +382,9 @@ fn session_first(tap: &Tap, direction: Direction, connection: Option<usize>) -> 
 
 /// The first break of the transport of a side.
 fn transport_last(tap: &Tap, direction: Direction) -> Option<Last>
-    ensures some { IfSome result (λ last. (capture : Capture) (f : Breach) → HoldsCapture tap.now capture → f.direction ≡ direction
-        → IsMarkOf direction f (comes_to capture).course → IsMarkLast (comes_to capture) f last) }
-    ensures none { (capture : Capture) (f : Breach) → HoldsCapture tap.now capture → IsMarkOf direction f (comes_to capture).course
-        → result ≡ None → ⊥ }
+    ensures some { IfSome result (λ last. (s : State) (f : Breach) → HoldsReached tap.now s → f.direction ≡ direction
+        → IsMarkOf direction f s.course → IsMarkLast s f last) }
+    ensures none { (s : State) (f : Breach) → HoldsReached tap.now s → IsMarkOf direction f s.course → result ≡ None → ⊥ }
 {
     match tap.broke(direction) {
         None => None,
@@ -348,9 +394,9 @@ fn transport_last(tap: &Tap, direction: Direction) -> Option<Last>
 
 /// The break that passed first.
 fn first_last(tap: &Tap, first: First) -> Option<Last>
-    ensures some { IfSome result (λ last. (capture : Capture) → HoldsCapture tap.now capture → first_in tap.now ≡ Some first
-        → IsFirstLast first.layer (comes_to capture) first last) }
-    ensures none { (capture : Capture) → HoldsCapture tap.now capture → first_in tap.now ≡ Some first → result ≡ None → ⊥ }
+    ensures some { IfSome result (λ last. (s : State) → HoldsReached tap.now s → first_in tap.now ≡ Some first
+        → IsFirstLast first.layer s first last) }
+    ensures none { (s : State) → HoldsReached tap.now s → first_in tap.now ≡ Some first → result ≡ None → ⊥ }
 {
     match first.layer {
         Layer::Session => session_first(tap, first.direction, first.connection),
@@ -360,10 +406,9 @@ fn first_last(tap: &Tap, first: First) -> Option<Last>
 
 /// The break that passed first, if there is one.
 fn told_first(tap: &Tap) -> Option<Last>
-    ensures some { IfSome result (λ last. (capture : Capture) (ps : List Couple) → HoldsCapture tap.now capture
-        → IsLast (comes_to capture) ps last) }
-    ensures none { (capture : Capture) → HoldsCapture tap.now capture → result ≡ None
-        → IsFirstOf None (comes_to capture).course.past × NobodyIs (comes_to capture).course.sessions }
+    ensures some { IfSome result (λ last. (s : State) (ps : List Couple) → HoldsReached tap.now s → IsLast s ps last) }
+    ensures none { (s : State) → HoldsReached tap.now s → result ≡ None
+        → IsFirstOf None s.course.past × NobodyIs s.course.sessions }
 {
     match tap.first() {
         None => None,
@@ -372,13 +417,12 @@ fn told_first(tap: &Tap) -> Option<Last>
 }
 
 /// Who broke the protocol first.
-pub(crate) fn last_of(tap: &Tap, left: &Transport, right: &Transport, all_keep: bool) -> Last
-    ensures { (capture : Capture) (ps : List Couple) → HoldsCapture tap.now capture
-        → left.now ≡ carried Direction.Left (comes_to capture) → right.now ≡ carried Direction.Right (comes_to capture)
-        → all_keep ≡ all_keep_of ps → IsLast (comes_to capture) ps result }
+pub(crate) fn last_of(tap: &Tap, left: &Transport, right: &Transport, all: Together) -> Last
+    ensures { (s : State) (ps : List Couple) → HoldsReached tap.now s → left.now ≡ carried Direction.Left s
+        → right.now ≡ carried Direction.Right s → all.keeps ≡ all_keep ps → all.over ≡ some_over ps → IsLast s ps result }
 {
     match told_first(tap) {
-        None => kept_last(left, right, all_keep),
+        None => kept_last(left, right, all),
         Some(last) => last,
     }
 }

@@ -6,6 +6,7 @@ use Rattle.osi_tap.proofs.Vocabulary.{Tap, Watch, IsMarkOf, Course, way_of, mark
 use Rattle.osi_tap.proofs.Vocabulary.{earlier, first_of, first_by, noted_by, unit_passes, units_pass, unread, unread_mark, unread_moment}
 use Rattle.osi_tap.proofs.Vocabulary.{packet_by, IsFirst, HoldsBy, HoldsState, IsJudged, first_in, Streamed, counted, gathered, State}
 use Rattle.osi_tap.proofs.Vocabulary.{stream_of, with_stream, begun, octet_passes, begin, after, comes_to}
+use Rattle.osi_tap.proofs.Vocabulary.{begin_within, Room}
 use Rattle.osi_rules.specs.Traffic as traffic
 use Rattle.osi_rules.specs.declared.findings.Reach.TheVariants as reach
 use Rattle.osi_tap.proofs.a_piece_comes_to_what_its_octets_do.{looks}
@@ -102,3 +103,9 @@ held_by due w l r s e h = grind arith
 pub first_mark : (capture : Capture) (t : Tap) (f : First) → HoldsState t (comes_to capture) → IsJudged t → first_in t ≡ Some f
     → f.layer ≡ Transport → IsMarkOf f.direction f (comes_to capture).course
 first_mark capture t f h judged e layer = grind (arith, first_by_side, held_by, after_is capture begin (refl, refl))
+
+-- the same, if of each connection so much is judged
+pub first_mark_within : (room : Room) (capture : Capture) (t : Tap) (f : First) → HoldsState t (after capture (begin_within room))
+    → IsJudged t → first_in t ≡ Some f → f.layer ≡ Transport → IsMarkOf f.direction f (after capture (begin_within room)).course
+first_mark_within room capture t f h judged e layer =
+    grind (arith, first_by_side, held_by, after_is capture (begin_within room) (refl, refl))

@@ -27,7 +27,7 @@ mod names;
 mod texts;
 mod verdicts;
 
-pub use lines::{push_reading, push_side};
+pub use lines::{push_reading, push_side, push_without};
 pub use names::{packet_fault as packet_fault_name, unit_fault as unit_fault_name};
 pub use texts::{
     Judgement, push_broke_first, push_connection, push_first, push_left_first, push_unjudged,

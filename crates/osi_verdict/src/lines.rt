@@ -252,9 +252,9 @@ pub(crate) fn push_stopped(
     push_words(text, "\n")
 }
 
-/// Adds the line of a connection on which no session is reported.
+/// Adds a line of a side of a connection with these words and no numbers. `Err` means that memory ran out.
 #[tactic(auto, unfolding(crate::specs::Lines::without_line))]
-pub(crate) fn push_without(
+pub fn push_without(
     text: &mut Vec<u8>,
     direction: Direction,
     reference: u16,

@@ -13,7 +13,7 @@ use std::alloc::{AllocError, Global};
 use std::convert::AsStr;
 
 /// The number of this version, which is that of the file VERSION at the top.
-const VERSION: &str = "0.1.1-dev";
+const VERSION: &str = "0.2.0-dev";
 
 /// What a script is made of.
 const SCRIPTS: &str = "\

@@ -10,8 +10,8 @@ Send the octets of ``end.outgoing()`` to the peer, and pass the number that you 
 Pass the octets that you received to ``end.feed_all(piece)``, which yields the indications.
 ``osi_session.aio`` does both over asyncio.
 
-``Judge`` watches a connection between two other programs, and says which side broke the protocol first. ``Watch``
-does the same for a byte connection with any number of connections, of either class.
+``Judge`` judges a byte connection between two other programs, of either class and with any number of connections, and
+says which side broke the protocol first.
 
 The package calls the shared library libosi-session.so of the same project over ctypes. It takes the library
 from the folder that OSI_SESSION_DIR names (or the file OSI_SESSION_LIBRARY), else the one in this package, if
@@ -73,7 +73,6 @@ from ._values import (
     Tally,
     Terms,
 )
-from ._watch import Watch, WatchVerdict
 
 __all__ = [
     "Aborted",
@@ -129,7 +128,5 @@ __all__ = [
     "Units",
     "Verdict",
     "VerdictKind",
-    "Watch",
-    "WatchVerdict",
     "library_version",
 ]

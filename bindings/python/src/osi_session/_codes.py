@@ -19,7 +19,7 @@ class Code(IntEnum):
     NOTHING = 5
     """No indication is pending. No call of this package answers it."""
     NO_SUCH_CONNECTION = 10
-    """This end never gave the reference."""
+    """This end never gave the reference; a judge knows no such number."""
     ENDED = 11
     """The connection, or the end, is over."""
     BAD_STATE = 12
@@ -56,7 +56,7 @@ _TEXTS = {
     Code.NO_MEMORY: "there is no memory",
     Code.IN_USE: "the slot holds an end already",
     Code.NOTHING: "no indication waits",
-    Code.NO_SUCH_CONNECTION: "this end never gave the reference",
+    Code.NO_SUCH_CONNECTION: "no connection has this reference or number",
     Code.ENDED: "the connection is over",
     Code.BAD_STATE: "the call is not allowed in this phase",
     Code.NOT_SELECTED: "a functional unit or a token is not selected",
@@ -263,7 +263,7 @@ class Spelling(IntEnum):
 
 
 class TapSide(IntEnum):
-    """A side of a connection that a ``Judge`` watches."""
+    """A side of a byte connection that a ``Judge`` watches."""
 
     LEFT = 0
     """The side that opened the byte connection, and sent the CR."""
@@ -277,13 +277,13 @@ class TapSide(IntEnum):
 
 
 class VerdictKind(IntEnum):
-    """What a ``Verdict`` says of a side. KEPT may change while octets pass. The others may change only to NONE, if the other
+    """What a ``Verdict`` says. KEPT may change while octets pass. The others may change only to NONE, if the other
     side leaves the profile."""
 
     NONE = 0
-    """Nothing: the other side left the profile before."""
+    """Nothing: the other side of the connection left the profile."""
     KEPT = 1
-    """All that it sent so far is what a conforming end may send."""
+    """All that was judged of it is what a conforming end may send."""
     BROKE = 2
     """It broke the protocol."""
     LEAVES = 3
@@ -344,12 +344,6 @@ class Rule(IntEnum):
     """Octets are left after the last session unit."""
     NO_OPENING = 50
     """No break: the capture begins in the middle of a connection. Its first packet has no CR."""
-    OTHER_CLASS = 51
-    """No break: the connection is not of class 0."""
-    MORE_CONNECTIONS = 52
-    """No break: a second CR."""
-    REFUSED = 53
-    """No break: the connection is refused. It is in no verdict."""
     BAD_VERSION = 54
     """No packet begins there: its version is not 3 (RFC 1006 section 6)."""
     BAD_LENGTH = 55
@@ -371,7 +365,7 @@ class Rule(IntEnum):
     TSDU_TOO_LONG = 63
     """A TSDU of more than 1,048,576 octets."""
     LIMIT = 70
-    """No break: more passed than a judge keeps."""
+    """No break: more was to be kept of a connection than a judge keeps."""
     TOO_MANY_CONNECTIONS = 71
     """No break: there are more than 128 connections at once. Or nobody can tell whether the unit is right,
     since a connection is not judged any more."""

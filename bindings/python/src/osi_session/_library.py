@@ -9,7 +9,7 @@ import subprocess
 from ctypes import POINTER, c_bool, c_char_p, c_size_t, c_uint8, c_uint16, c_uint32, c_uint64, c_void_p
 from typing import Any, Dict, Iterator, List, Optional, Tuple
 
-VERSION = "0.1.1.dev0"
+VERSION = "0.2.0.dev0"
 # The file name of the shared library for programs of this version: its soname.
 NAME = "libosi-session.so." + ".".join(VERSION.split(".")[: 2 if VERSION.startswith("0.") else 1])
 
@@ -25,13 +25,7 @@ class Slot(ctypes.Structure):
 
 
 class JudgeSlot(ctypes.Structure):
-    """osi_judge: a slot that holds the judge of a connection, or none. It begins as zeros, which is OSI_JUDGE."""
-
-    _fields_ = [("full", c_bool), ("inner", Inner)]
-
-
-class WatchSlot(ctypes.Structure):
-    """osi_watch: a slot that holds the watch of a byte connection, or none. It begins as zeros, which is OSI_WATCH."""
+    """osi_judge: a slot that holds the judge of a byte connection, or none. It begins as zeros, which is OSI_JUDGE."""
 
     _fields_ = [("full", c_bool), ("inner", Inner)]
 
@@ -130,17 +124,6 @@ class CountersOfC(ctypes.Structure):
 class VerdictOfC(ctypes.Structure):
     _fields_ = [
         ("offset", c_uint64),
-        ("kind", c_uint32),
-        ("side", c_uint32),
-        ("rule", c_uint32),
-        ("said", c_uint32),
-        ("reference", c_uint16),
-    ]
-
-
-class WatchVerdictOfC(ctypes.Structure):
-    _fields_ = [
-        ("offset", c_uint64),
         ("connection", c_uint64),
         ("kind", c_uint32),
         ("side", c_uint32),
@@ -154,7 +137,7 @@ class WatchVerdictOfC(ctypes.Structure):
 
 # OSI_NO_CONNECTION
 NO_CONNECTION = 2**64 - 1
-# OSI_WATCH_VERDICT_TEXT
+# OSI_VERDICT_TEXT
 VERDICT_TEXT = 96
 
 STRUCTS = {
@@ -173,8 +156,6 @@ STRUCTS = {
     "osi_counters": CountersOfC,
     "osi_judge": JudgeSlot,
     "osi_verdict": VerdictOfC,
-    "osi_watch": WatchSlot,
-    "osi_watch_verdict": WatchVerdictOfC,
 }
 
 _DATA = [c_void_p, c_size_t]
@@ -234,21 +215,15 @@ JUDGES: Dict[str, Tuple[List[Any], Any]] = {
     "osi_judge_new": ([], c_uint32),
     "osi_judge_free": ([], None),
     "osi_judge_feed": ([c_uint32, *_DATA, POINTER(c_size_t)], c_uint32),
-    "osi_judge_next": ([POINTER(VerdictOfC)], c_bool),
-    "osi_judge_verdict": ([c_uint32, POINTER(VerdictOfC)], c_uint32),
+    "osi_judge_next": ([POINTER(VerdictOfC)], c_uint32),
+    "osi_judge_verdict": ([c_uint64, c_uint32, POINTER(VerdictOfC)], c_uint32),
+    "osi_judge_connections": ([POINTER(c_uint64)], c_uint32),
     "osi_judge_write": ([], c_uint32),
     "osi_judge_text": ([POINTER(Octets)], None),
 }
-# The same for the functions that take the slot of a watch.
-WATCHES: Dict[str, Tuple[List[Any], Any]] = {
-    "osi_watch_new": ([], c_uint32),
-    "osi_watch_free": ([], None),
-    "osi_watch_feed": ([c_uint32, *_DATA, POINTER(c_size_t)], c_uint32),
-    "osi_watch_next": ([POINTER(WatchVerdictOfC)], c_uint32),
-}
-# The same for the function that takes a verdict of a watch in place of a slot.
+# The same for the function that takes a verdict in place of a slot.
 LINES: Dict[str, Tuple[List[Any], Any]] = {
-    "osi_watch_verdict_text": ([c_char_p, c_size_t], c_size_t),
+    "osi_verdict_text": ([c_char_p, c_size_t], c_size_t),
 }
 # The argument of each function that needs no slot and returns a text.
 TEXTS: Dict[str, List[Any]] = {
@@ -319,7 +294,7 @@ def load() -> ctypes.CDLL:
         except OSError as error:
             tried.append(str(error))
             continue
-        for slot, functions in ((Slot, FUNCTIONS), (JudgeSlot, JUDGES), (WatchSlot, WATCHES), (WatchVerdictOfC, LINES)):
+        for slot, functions in ((Slot, FUNCTIONS), (JudgeSlot, JUDGES), (VerdictOfC, LINES)):
             for name, (takes, answers) in functions.items():
                 function = getattr(library, name)
                 function.argtypes = [POINTER(slot), *takes]

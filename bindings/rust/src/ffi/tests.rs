@@ -83,9 +83,7 @@ fn structs_are_laid_out_as_in_c() {
         osi_tally: octets packets units tsdus session_units refused;
         osi_counters: received sent;
         osi_judge: full inner;
-        osi_verdict: offset kind side rule said reference;
-        osi_watch: full inner;
-        osi_watch_verdict: offset connection kind side by rule said left right;
+        osi_verdict: offset connection kind side by rule said left right;
     };
     assert_eq!(here, of_c);
 }

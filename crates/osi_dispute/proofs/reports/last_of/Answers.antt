@@ -6,4 +6,4 @@ pub returns-in-None : goal.returns-in-None
 returns-in-None c = grind (arith, kept_is)
 
 pub returns-in-Some : goal.returns-in-Some
-returns-in-Some c = λ capture ps k l r a. c.in-Some.ensures.some capture ps k
+returns-in-Some c = λ s ps k l r a o. c.in-Some.ensures.some s ps k

@@ -1,25 +1,23 @@
 use Rattle.std.proofs.Common.{arith}
-use Rattle.osi_dispute.proofs.Vocabulary.{numbered, comes_to}
+use Rattle.osi_dispute.proofs.Vocabulary.{numbered}
 use Rattle.osi_dispute.proofs.a_report_says_what_a_tap_holds.{if_some, joined_at, blamed_at, blamed_nowhere}
 use Rattle.osi_dispute.proofs.each_connection_has_a_number_of_its_own.{found_blamed}
 use Rattle.osi_dispute.proofs.reports.session_last.Goals as goal
 
 pub returns-in-Some-clause-some : goal.returns-in-Some-clause-some
 returns-in-Some-clause-some c =
-    if_some c.stray_of.result c.stray_of.ensures.some (λ x g capture f k d e.
-    (let s = comes_to capture in
-    let j = joined_at (numbered c.args.number s.course.sessions) c.in-Some.joint.now
+    if_some c.stray_of.result c.stray_of.ensures.some (λ x g s f k d e.
+    (let j = joined_at (numbered c.args.number s.course.sessions) c.in-Some.joint.now
     (c.in-Some.ensures.held s k.holds k.settled.judged) in
     g s f c.args.number j.0 j.1 d e j.2 (c.in-Some.ensures.heard k.settled)))
 
 pub returns-in-Some-clause-none : goal.returns-in-Some-clause-none
-returns-in-Some-clause-none c = λ capture k b n.
-    let s = comes_to capture in
+returns-in-Some-clause-none c = λ s k b n.
     let o = numbered c.args.number s.course.sessions in
     let j = joined_at o c.in-Some.joint.now (c.in-Some.ensures.held s k.holds k.settled.judged) in
     c.stray_of.ensures.none j.0 j.2
-    (blamed_at c.args.direction o j.0 j.1 (found_blamed capture c.args.direction c.args.number k.few b)) n
+    (blamed_at c.args.direction o j.0 j.1 (found_blamed s c.args.direction c.args.number k.reached k.few b)) n
 
 pub returns-in-None-clause-none : goal.returns-in-None-clause-none
-returns-in-None-clause-none c = λ capture k b n.
-    grind (arith, blamed_nowhere, found_blamed capture c.args.direction c.args.number k.few b)
+returns-in-None-clause-none c = λ s k b n.
+    grind (arith, blamed_nowhere, found_blamed s c.args.direction c.args.number k.reached k.few b)

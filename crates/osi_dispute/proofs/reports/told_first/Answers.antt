@@ -7,7 +7,7 @@ pub returns-in-Some-clause-some : goal.returns-in-Some-clause-some
 returns-in-Some-clause-some c = grind (arith, if_some)
 
 pub returns-in-Some-clause-none : goal.returns-in-Some-clause-none
-returns-in-Some-clause-none c = λ capture k n. absurd (c.first_last.ensures.none capture k (sym c.in-Some.ensures.value) n)
+returns-in-Some-clause-none c = λ s k n. absurd (c.first_last.ensures.none s k (sym c.in-Some.ensures.value) n)
 
 pub returns-in-None-clause-none : goal.returns-in-None-clause-none
-returns-in-None-clause-none c = λ capture k n. grind arith
+returns-in-None-clause-none c = λ s k n. grind arith

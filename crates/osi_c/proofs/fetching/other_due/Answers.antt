@@ -1,0 +1,5 @@
+use Rattle.osi_c.proofs.what_is_fetched_of_a_judge.{none_of_both}
+use Rattle.osi_c.proofs.fetching.other_due.Goals as goal
+
+pub returns-in-None-clause-none : goal.returns-in-None-clause-none
+returns-in-None-clause-none c = none_of_both c.sessions_due.result _ _ c.in-None.ensures.none c.sessions_due.ensures.none

@@ -1,0 +1,15 @@
+use Rattle.std.proofs.Common.{refl, take}
+use Rattle.osi_c.proofs.a_piece_passes_to_a_judge.{none_passes, octets_known, on_err, still_known}
+use Rattle.osi_c.proofs.judges.pass.Goals as goal
+
+pub returns-clause-passes : goal.returns-clause-passes
+returns-clause-passes c = record {
+  knows = octets_known c.args.side (take c.in_ok-used.used c.args.octets.now) c.args.judge.now _ c.in_ok-used.ensures.ok c.pass.ensures;
+  told = refl;
+  text = refl;
+}
+
+pub returns-in_err-used-clause-err : goal.returns-in_err-used-clause-err
+returns-in_err-used-clause-err c =
+    on_err c.from_residual.result _
+    (none_passes c.args.side c.args.judge.now _ (still_known c.args.judge.now _ c.in_err-used.ensures.err refl) refl refl)

@@ -1,5 +1,0 @@
-use Rattle.std.proofs.Common.{arith}
-use Rattle.osi_c.proofs.note_codes.references_for.Goals as goal
-
-pub returns : goal.returns
-returns c = grind arith

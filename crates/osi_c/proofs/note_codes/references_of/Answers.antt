@@ -1,9 +1,0 @@
-use Rattle.std.proofs.Common.{arith, refl, sym, subst, ℕ, Option}
-use Rattle.osi_c.specs.NoteCodes.{IsNamed}
-use Rattle.osi_c.proofs.note_codes.references_of.Goals as goal
-
-pub returns-in-None : goal.returns-in-None
-returns-in-None c = subst (λ (n : Option ℕ). IsNamed c.args.tap.now n 0 0) (sym c.in-None.is) (refl, refl)
-
-pub returns-in-Some : goal.returns-in-Some
-returns-in-Some c = grind arith

@@ -1,9 +1,0 @@
-use Rattle.std.proofs.Common.{arith}
-use Rattle.osi_c.proofs.what_is_fetched_of_a_tap.{none_of}
-use Rattle.osi_c.proofs.tap_watching.due_of.Goals as goal
-
-pub returns-then-not-is_certain-clause-none : goal.returns-then-not-is_certain-clause-none
-returns-then-not-is_certain-clause-none c = grind (arith, none_of)
-
-pub returns-clause-some : goal.returns-clause-some
-returns-clause-some c = grind arith

@@ -1,9 +1,0 @@
-use Rattle.std.proofs.Common.{length}
-use Rattle.osi_c.proofs.a_piece_passes_turn_by_turn.{IsPassing}
-use Rattle.osi_c.proofs.watches.take_piece.Given as goal
-
-abbrev pub invariant-rest : goal.invariant-rest
-invariant-rest l = IsPassing l.fn.side l.fn.piece l.rest l.fn.watch l.watch
-
-abbrev pub decreases-rest : goal.decreases-rest
-decreases-rest l = length l.rest

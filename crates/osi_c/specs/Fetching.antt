@@ -1,0 +1,129 @@
+-- Verdicts that C fetches.
+use Rattle.std.specs.Prelude.{◌≡◌, ◌⊎◌, ◌<◌, ℕ, Bool, true, false, List, [], ◌∷◌, ◌++◌, Option, Some, None, slice_get}
+use Rattle.std.specs.List.{list_any}
+use Rattle.osi_tpkt.specs.Stream.{offset_of}
+use Rattle.osi_judge.specs.Captures.{Capture, stream}
+use Rattle.osi_judge.specs.declared.directions.Direction.TheVariants.{Left, Right}
+use Rattle.osi_tap.specs.declared.connections.Connection.{Connection}
+use Rattle.osi_tap.specs.Connections.{Joined, count}
+use Rattle.osi_tap.specs.Holding.{HoldsJoined}
+use Rattle.osi_tap.specs.Standing.{IsSettled, first_in}
+use Rattle.osi_dispute.specs.Openings.{may_be_late}
+use Rattle.osi_c.specs.Codes.{coded}
+use Rattle.osi_c.specs.Judges.{fed, Knows, Keeps, Settles}
+use Rattle.osi_c.specs.Notes.{IsStill, Tells, TellsNothing, is_certain}
+use Rattle.osi_c.specs.Subjects.{same, leading}
+use Rattle.osi_c.specs.Verdicts.{Shows, nothing}
+use Rattle.osi_c.specs.declared.fetching.Fetched.{Fetched}
+use Rattle.osi_c.specs.declared.fetching.Fetched.TheVariants as fetched
+use Rattle.osi_c.specs.declared.judges.Judge.{Judge}
+use Rattle.osi_c.specs.declared.notes.Note.{Note}
+use Rattle.osi_c.specs.declared.subjects.Subject.{Subject}
+use Rattle.osi_c.specs.declared.subjects.Subject.TheVariants.{Session, Transport, Rest}
+use Rattle.osi_c.specs.declared.verdicts.OsiVerdict.{OsiVerdict}
+
+-- ---- what is to be told, by what a judge knows and of what C was told
+
+abbrev pub is_among : List Subject → Subject → Bool
+is_among told k = list_any (λ x. same x k) told
+
+-- it is certain, and C was not told of it
+pub record IsDue (w : Judge) (told : List Subject) (k : Subject) (n : Note) : Type 0 where
+  pub fresh : is_among told k ≡ false
+  pub tells : Tells w k n
+  pub certain : is_certain n ≡ true
+
+-- C was told of it, or nothing is certain of it
+abbrev pub HasNone : Judge → List Subject → Subject → Type 0
+HasNone w told k = (is_among told k ≡ true) ⊎ TellsNothing w k
+
+-- of both sides of a connection
+abbrev pub HasNoneOf : Judge → List Subject → ℕ → Type 0
+HasNoneOf w told number = HasNone w told (Session number Left) × HasNone w told (Session number Right)
+
+-- of all connections
+abbrev pub HasNoneOfSessions : Judge → List Subject → Type 0
+HasNoneOfSessions w told =
+    (capture : Capture) → Knows w capture → IsSettled w.tap
+    → (number : ℕ) → number < offset_of (count (fed capture).course.sessions) → HasNoneOf w told number
+
+-- of both sides of a connection that the tap holds
+abbrev pub HasNoneBy : Judge → List Subject → Connection → Type 0
+HasNoneBy w told c = IsStill c ⊎ ((j : Joined) → HoldsJoined c j → HasNoneOf w told j.number)
+
+-- of each of these
+abbrev pub HasNoneByEach : Judge → List Subject → List Connection → Type 0
+HasNoneByEach w told cs = (i : ℕ) (c : Connection) → slice_get cs i ≡ Some c → HasNoneBy w told c
+
+pub record HasNoneOfTransport (w : Judge) (told : List Subject) : Type 0 where
+  pub left : HasNone w told (Transport Left)
+  pub right : HasNone w told (Transport Right)
+  pub left_rest : HasNone w told (Rest Left)
+  pub right_rest : HasNone w told (Rest Right)
+
+-- of the break that passed first
+abbrev pub HasNoneIf : Judge → List Subject → Option Subject → Type 0
+HasNoneIf w told None = Unit {0}
+HasNoneIf w told (Some k) = HasNone w told k
+
+abbrev pub HasNoLeading : Judge → List Subject → Type 0
+HasNoLeading w told = HasNoneIf w told (leading (first_in w.tap))
+
+-- of nothing
+pub record HasNothing (w : Judge) (told : List Subject) : Type 0 where
+  pub leading : HasNoLeading w told
+  pub transport : HasNoneOfTransport w told
+  pub sessions : HasNoneOfSessions w told
+
+-- the break that passed first is told first
+abbrev pub InTurn : Judge → List Subject → Subject → Type 0
+InTurn w told k = (leading (first_in w.tap) ≡ Some k) ⊎ HasNoLeading w told
+
+-- ---- whether the capture begins in the middle of a connection
+
+-- whatever the judge was fed, this says whether what passes next may show that it does; then nothing is certain
+abbrev pub MayBeLate : Bool → Judge → Type 0
+MayBeLate b w = (capture : Capture) → Knows w capture → IsSettled w.tap → b ≡ may_be_late (fed capture) (stream Left capture)
+
+-- ---- a verdict is fetched
+
+-- all that passed is judged, and a verdict is given of which C was not told before
+pub record Gives (old : Judge) (v : OsiVerdict) (new : Judge) : Type 0 where
+  pub knows : (capture : Capture) → Knows old capture → Knows new capture
+  pub settled : IsSettled new.tap
+  pub decided : MayBeLate false new
+  pub subject : Subject
+  pub tells : Note
+  pub turn : InTurn new old.told.items subject
+  pub due : IsDue new old.told.items subject tells
+  pub shows : Shows new.tap subject tells v
+  pub told : new.told.items ≡ old.told.items ++ subject ∷ []
+  pub text : new.text ≡ old.text
+
+-- all that passed is judged, and there is none
+pub record GivesNone (old new : Judge) : Type 0 where
+  pub settles : Settles old new
+  pub none : MayBeLate true new ⊎ HasNothing new new.told.items
+
+abbrev pub HasFetched : Fetched → Judge → Judge → Type 0
+HasFetched (fetched.Given v) old new = Gives old v new
+HasFetched fetched.Nothing old new = GivesNone old new
+HasFetched fetched.NoMemory old new = Keeps old new
+
+-- The answer to fetching.
+pub data Fetching : Type 0 where
+  Given : Fetching
+  NoJudge : Fetching
+  NoMemory : Fetching
+  NoneDue : Fetching
+
+abbrev pub fetching_of : ℕ → Option Fetching
+fetching_of = coded ((0, Given) ∷ (1, NoJudge) ∷ (3, NoMemory) ∷ (5, NoneDue) ∷ [])
+
+-- for a slot
+abbrev pub Fetches : Option Fetching → OsiVerdict → Option Judge → Option Judge → Type 0
+Fetches (Some Given) v (Some old) (Some new) = Gives old v new
+Fetches (Some NoneDue) v (Some old) (Some new) = GivesNone old new × (v ≡ nothing)
+Fetches (Some NoMemory) v (Some old) (Some new) = Keeps old new × (v ≡ nothing)
+Fetches (Some NoJudge) v None new = (v ≡ nothing) × (new ≡ None)
+Fetches answer v old new = ⊥

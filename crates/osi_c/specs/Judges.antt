@@ -1,0 +1,91 @@
+-- A judge of a byte connection that C feeds: what passes, and what the calls answer.
+use Rattle.std.specs.Prelude.{◌≡◌, ◌≤◌, ◌<◌, ◌∷◌, ℕ, List, [], ◌++◌, take, length, Option, Some, None}
+use Rattle.osi_judge.specs.Captures.{Capture, piece, stream}
+use Rattle.osi_judge.specs.declared.directions.Direction.{Direction}
+use Rattle.osi_judge.specs.declared.directions.Direction.TheVariants.{Left, Right}
+use Rattle.osi_tap.specs.declared.rooms.Room.TheVariants.{Octets}
+use Rattle.osi_tap.specs.Standing.{HoldsState, IsSettled}
+use Rattle.osi_tap.specs.Tapping.{State, begin_within, after}
+use Rattle.osi_dispute.specs.Openings.{Opens}
+use Rattle.osi_c.specs.Codes.{coded, Made, Begun, InUse}
+use Rattle.osi_c.specs.Codes as codes
+use Rattle.osi_c.specs.declared.judges.Judge.{Judge}
+
+-- ---- what a judge knows
+
+-- what a capture comes to, if of each connection 196,608 octets are judged
+abbrev pub fed : Capture → State
+fed capture = after capture (begin_within (Octets 196608))
+
+-- it was fed this capture
+pub record Knows (w : Judge) (capture : Capture) : Type 0 where
+  pub holds : HoldsState w.tap (fed capture)
+  pub opens : Opens w.opening (stream Left capture)
+
+-- it still knows what it was fed, C was told of nothing more, and the text is as it was
+pub record Keeps (old new : Judge) : Type 0 where
+  pub knows : (capture : Capture) → Knows old capture → Knows new capture
+  pub told : new.told.items ≡ old.told.items
+  pub text : new.text ≡ old.text
+
+-- and all that passed is judged
+pub record Settles (old new : Judge) : Type 0 where
+  pub keeps : Keeps old new
+  pub settled : IsSettled new.tap
+
+-- ---- making a judge
+
+-- nothing has passed, C was told of nothing, and there is no text
+pub record IsNew (w : Judge) : Type 0 where
+  pub knows : Knows w []
+  pub told : w.told.items ≡ []
+  pub text : w.text.items ≡ []
+
+abbrev pub begins_of : ℕ → Option Made
+begins_of = coded ((0, Begun) ∷ (3, codes.NoMemory) ∷ (4, InUse) ∷ [])
+
+abbrev pub Begins : Option Made → Option Judge → Option Judge → Type 0
+Begins (Some Begun) None (Some new) = IsNew new
+Begins (Some codes.NoMemory) None new = new ≡ None
+Begins (Some InUse) (Some old) new = new ≡ Some old
+Begins answer old new = ⊥
+
+-- ---- feeding
+
+-- these octets of a side passed
+pub record Passes (d : Direction) (octets : List ℕ) (old new : Judge) : Type 0 where
+  pub knows : (capture : Capture) → Knows old capture → Knows new (capture ++ piece d octets)
+  pub told : new.told ≡ old.told
+  pub text : new.text ≡ old.text
+
+-- so many of a piece
+pub record TakesPiece (d : Direction) (octets : List ℕ) (used : ℕ) (old new : Judge) : Type 0 where
+  pub passes : Passes d (take used octets) old new
+  pub within : used ≤ length octets
+
+-- The answer to feeding.
+pub data Feeding : Type 0 where
+  Fed : Feeding
+  NoJudge : Feeding
+  NoSide : Feeding
+  NoMemory : Feeding
+
+abbrev pub feeding_of : ℕ → Option Feeding
+feeding_of = coded ((0, Fed) ∷ (1, NoJudge) ∷ (2, NoSide) ∷ (3, NoMemory) ∷ [])
+
+abbrev pub side_of : ℕ → Option Direction
+side_of = coded ((0, Left) ∷ (1, Right) ∷ [])
+
+-- if memory ran out, the octets before passed, and the next did not
+abbrev pub FedTo : Direction → List ℕ → ℕ → Feeding → Judge → Judge → Type 0
+FedTo d octets used Fed old new = TakesPiece d octets used old new × (used ≡ length octets)
+FedTo d octets used NoMemory old new = TakesPiece d octets used old new × (used < length octets)
+FedTo d octets used answer old new = ⊥
+
+-- for a slot
+abbrev pub Feeds : ℕ → List ℕ → ℕ → Option Feeding → Option Judge → Option Judge → Type 0
+Feeds side octets used (Some NoSide) old new = (side_of side ≡ None) × (used ≡ 0) × (new ≡ old)
+Feeds side octets used (Some NoJudge) None new = (side_of side ≡ None → ⊥) × (used ≡ 0) × (new ≡ None)
+Feeds side octets used (Some answer) (Some old) (Some new) =
+    (d : Direction) × (side_of side ≡ Some d) × FedTo d octets used answer old new
+Feeds side octets used answer old new = ⊥
