@@ -12,3 +12,4 @@ pub mod a_note_is_of_what_passed
 pub mod what_is_fetched_of_a_tap
 pub mod each_connection_is_looked_at
 pub mod what_is_told_is_by_facts
+pub mod a_trace_counts_the_first_octets
