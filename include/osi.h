@@ -519,8 +519,9 @@ uint32_t osi_trace(osi_end *end, uint32_t what) OSI_LOOK;
 
 /* Fetches the lines of a direction that you have not fetched: what `osi show` prints for the packets that
  * were whole since then. OSI_OK, or the first that applies of OSI_BAD_ARGUMENT (no direction),
- * OSI_SLOT_EMPTY, OSI_NO_MEMORY (this trace has stopped; you are told once, after its last lines) and
- * OSI_NOTHING (no lines). After any of these but the first two, osi_trace_lines lends what was fetched. */
+ * OSI_SLOT_EMPTY, OSI_NO_MEMORY (this trace has stopped; you are told once, after its last lines, and then
+ * the direction has no trace) and OSI_NOTHING (no lines). After any of these but the first two,
+ * osi_trace_lines lends what was fetched. */
 uint32_t osi_trace_fetch(osi_end *end, uint32_t direction) OSI_LOOK;
 
 /* Lends the lines that were fetched last, each with its line feed. They are valid until the next call with
@@ -554,8 +555,9 @@ static inline void osi_trace_each(osi_end *end, osi_on_line *on_line, void *cont
     }
 }
 
-/* What the trace of one direction has counted; once it has stopped, up to then. Of the piece in which it stopped
- * everything is counted, or nothing if an allocation failed. */
+/* What the trace of one direction has counted. A trace that has stopped counts no more: of the piece in which
+ * it stopped, it has counted everything or nothing. Once osi_trace_fetch has told you that it has stopped, the
+ * direction has no trace, and all is 0. */
 typedef struct osi_tally {
     uint64_t octets;        /* octets */
     uint64_t packets;       /* packets (RFC 1006 section 6) */

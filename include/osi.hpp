@@ -748,7 +748,8 @@ enum class direction : std::uint32_t {
     sent = OSI_SENT,
 };
 
-/* What the trace of one direction has counted; once it has stopped, up to then. */
+/* What the trace of one direction has counted; once it has stopped, up to then, and all 0 once you were told of
+ * it. */
 struct tally {
     std::uint64_t octets = 0;
     std::uint64_t packets = 0;       /* RFC 1006 section 6 */

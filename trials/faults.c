@@ -25,7 +25,7 @@ struct told {
 enum said { NOTHING_SAID, NOT_JUDGED, BLAMED, SAYINGS };
 
 static osi_end one = OSI_END, peer = OSI_END;
-static osi_watch judge = OSI_WATCH;
+static osi_judge judge = OSI_JUDGE;
 static struct text history;
 /* All octets that the end used. */
 static struct text used;
@@ -47,17 +47,17 @@ static void note(const char *what, const uint8_t *octets, size_t length)
 static void judge_feeds(uint32_t side, const uint8_t *octets, size_t length)
 {
     size_t used;
-    if (osi_watch_feed(&judge, side, octets, length, &used) != OSI_OK)
+    if (osi_judge_feed(&judge, side, octets, length, &used) != OSI_OK)
         abort();
 }
 
 /* What is certain of the peer, and that nobody says anything of this end. */
 static void judge_says(void)
 {
-    osi_watch_verdict v;
-    char line[OSI_WATCH_VERDICT_TEXT];
-    while (osi_watch_next(&judge, &v) == OSI_OK) {
-        osi_watch_verdict_text(&v, line, sizeof line);
+    osi_verdict v;
+    char line[OSI_VERDICT_TEXT];
+    while (osi_judge_next(&judge, &v) == OSI_OK) {
+        osi_verdict_text(&v, line, sizeof line);
         text_put(&history, "judge: %s\n", line);
         bool blames = v.kind == OSI_VERDICT_BROKE || v.kind == OSI_VERDICT_LEAVES;
         holds(v.side != side_of_one || !blames, "an end is blamed: %s", line);
@@ -197,7 +197,7 @@ static void live_once(uint32_t class)
     said = NOTHING_SAID;
     begins_in_the_middle = false;
     side_of_one = is_caller ? OSI_LEFT : OSI_RIGHT;
-    if ((is_caller ? osi_caller : osi_called)(&one, &terms) || (is_caller ? osi_called : osi_caller)(&peer, &terms) || osi_watch_new(&judge))
+    if ((is_caller ? osi_caller : osi_called)(&one, &terms) || (is_caller ? osi_called : osi_caller)(&peer, &terms) || osi_judge_new(&judge))
         abort();
     connects(is_caller ? &one : &peer);
     for (int i = 0; i < STEPS && !has_told(); i++)
@@ -210,7 +210,7 @@ static void live_once(uint32_t class)
     }
     osi_free(&one);
     osi_free(&peer);
-    osi_watch_free(&judge);
+    osi_judge_free(&judge);
     runs += 1;
 }
 

@@ -20,7 +20,7 @@ struct way {
 
 static osi_end ends[2] = {OSI_END, OSI_END};
 static struct way ways[2];
-static osi_watch judges[TAPS] = {OSI_WATCH, OSI_WATCH, OSI_WATCH};
+static osi_judge judges[TAPS] = {OSI_JUDGE, OSI_JUDGE, OSI_JUDGE};
 static const char *const tap_names[TAPS] = {"at left", "in the middle", "at right"};
 static struct text history;
 static uint64_t octets_seen, connections_asked, further[TAPS];
@@ -29,7 +29,7 @@ static uint64_t octets_seen, connections_asked, further[TAPS];
 static void sees(int tap, int side, const char *octets, size_t length)
 {
     size_t used;
-    if (osi_watch_feed(&judges[tap], side == LEFT ? OSI_LEFT : OSI_RIGHT, (const uint8_t *)octets, length, &used) != OSI_OK)
+    if (osi_judge_feed(&judges[tap], side == LEFT ? OSI_LEFT : OSI_RIGHT, (const uint8_t *)octets, length, &used) != OSI_OK)
         abort();
 }
 
@@ -144,10 +144,10 @@ static void step(void)
 
 static void judge_says(int tap)
 {
-    osi_watch_verdict v;
-    char line[OSI_WATCH_VERDICT_TEXT];
-    while (osi_watch_next(&judges[tap], &v) == OSI_OK) {
-        osi_watch_verdict_text(&v, line, sizeof line);
+    osi_verdict v;
+    char line[OSI_VERDICT_TEXT];
+    while (osi_judge_next(&judges[tap], &v) == OSI_OK) {
+        osi_verdict_text(&v, line, sizeof line);
         bool blames = v.kind == OSI_VERDICT_BROKE || v.kind == OSI_VERDICT_LEAVES;
         holds(!blames, "a tap %s blames an end: %s\n%s", tap_names[tap], line, history.at);
         further[tap] += !blames;
@@ -167,14 +167,14 @@ static void live_once(uint32_t class)
     if (osi_caller(&ends[LEFT], &terms[LEFT]) || osi_called(&ends[RIGHT], &terms[RIGHT]))
         abort();
     for (int tap = 0; tap < TAPS; tap++)
-        if (osi_watch_new(&judges[tap]))
+        if (osi_judge_new(&judges[tap]))
             abort();
     connects();
     for (int i = 0; i < STEPS; i++)
         step();
     for (int tap = 0; tap < TAPS; tap++) {
         judge_says(tap);
-        osi_watch_free(&judges[tap]);
+        osi_judge_free(&judges[tap]);
     }
     osi_free(&ends[LEFT]);
     osi_free(&ends[RIGHT]);

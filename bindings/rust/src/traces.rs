@@ -24,7 +24,7 @@ pub enum Direction {
     Sent = 1,
 }
 
-/// What the trace of one direction has counted; once it has stopped, up to then.
+/// What the trace of one direction has counted; once it has stopped, up to then, and all 0 once you were told of it.
 #[derive(Clone, Copy, Debug, Default, PartialEq, Eq, Hash)]
 pub struct Tally {
     /// Octets.

@@ -10,3 +10,4 @@ pub mod a_note_is_of_what_passed
 pub mod what_is_fetched_of_a_judge
 pub mod what_is_asked_of_a_judge
 pub mod each_connection_is_looked_at
+pub mod a_trace_counts_the_first_octets

@@ -1,10 +1,10 @@
 -- The traces of the two directions of an end.
-use Rattle.std.specs.Prelude.{◌≡◌, ℕ, true, false, List, [], ◌∷◌, ◌++◌, length, Option, Some, None, ⊤}
+use Rattle.std.specs.Prelude.{◌≡◌, ℕ, ◌≤◌, true, false, List, [], ◌∷◌, ◌++◌, length, take, Option, Some, None, ⊤}
 use Rattle.osi_listing.specs.declared.traces.Trace.{Trace}
 use Rattle.osi_listing.specs.declared.traces.Keeping.{Keeping}
 use Rattle.osi_listing.specs.declared.traces.Keeping.TheVariants as keeping
 use Rattle.osi_listing.specs.declared.counting.Counts.{Counts}
-use Rattle.osi_listing.specs.Traced.{IsTraced, AreCounted, unfetched, is_stopped, counted, octets_taken}
+use Rattle.osi_listing.specs.Traced.{IsTraced, AreCounted, HasToStop, unfetched, is_stopped, counted, octets_taken}
 use Rattle.osi_c.specs.Codes.{coded}
 use Rattle.osi_c.specs.declared.traces.Kind.{Kind}
 use Rattle.osi_c.specs.declared.traces.Kind.TheVariants.{Off, Counters, Lines}
@@ -31,10 +31,13 @@ IsUntraced t = (t.received ≡ None) × (t.sent ≡ None) × (t.lines.items ≡ 
 
 -- ---- octets pass
 
--- whatever passed before and was fetched, the trace continues with these octets; it keeps what it kept, or has stopped
+-- Whatever passed before and was fetched, the trace continues with these octets. It keeps what it kept, or it stops because it
+-- has to: it has then counted all of these octets, or none of them. One that has stopped stays as it is.
 pub record GoesOn (octets : List ℕ) (old new : Trace) : Type 0 where
   pub traced : (passed fetched : List ℕ) → IsTraced old passed fetched → IsTraced new (passed ++ octets) fetched
   pub keeping : is_stopped new ≡ false → new.keeping ≡ old.keeping
+  pub stops : is_stopped old ≡ false → is_stopped new ≡ true → HasToStop old octets new
+  pub over : is_stopped old ≡ true → new ≡ old
 
 abbrev pub Takes : List ℕ → Option Trace → Option Trace → Type 0
 Takes octets None new = new ≡ None
@@ -85,11 +88,16 @@ tally (Some t) = record {
 abbrev pub counts_in : OsiTally → Counts
 counts_in t = record { packets = t.packets; units = t.units; tsdus = t.tsdus; session_units = t.session_units; refused = t.refused }
 
--- a trace that has not stopped counts the octets that passed, and what the listing of them has
+-- the first octets that passed are counted, as many as the tally says, and what the listing of these has
+pub record CountsFirst (passed : List ℕ) (shown : OsiTally) : Type 0 where
+  pub octets : shown.octets ≤ length passed
+  pub listed : AreCounted (take shown.octets passed) (counts_in shown)
+
+-- whatever passed; all of it, unless the trace has stopped
 pub record CountsWhatPassed (t : Trace) (shown : OsiTally) : Type 0 where
-  pub octets : (passed fetched : List ℕ) → IsTraced t passed fetched → shown.octets ≡ length passed
-  pub listed : (passed fetched : List ℕ) → IsTraced t passed fetched → AreCounted passed (counts_in shown)
+  pub first : (passed fetched : List ℕ) → IsTraced t passed fetched → CountsFirst passed shown
+  pub all : is_stopped t ≡ false → (passed fetched : List ℕ) → IsTraced t passed fetched → shown.octets ≡ length passed
 
 abbrev pub Means : Option Trace → OsiTally → Type 0
 Means None shown = ⊤
-Means (Some t) shown = is_stopped t ≡ false → CountsWhatPassed t shown
+Means (Some t) shown = CountsWhatPassed t shown

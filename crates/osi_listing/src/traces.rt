@@ -66,8 +66,8 @@ impl Trace {
         }
     }
 
-    /// Takes the next octets that passed. It stops only if it has to. If an allocation fails, it has counted what came
-    /// before this piece, otherwise also the piece. Once it has stopped, nothing changes.
+    /// Takes the next octets that passed. It stops only if it has to. It has then counted this piece too, or nothing of
+    /// it if memory ran out before the piece was listed. Once it has stopped, nothing changes.
     pub fn feed(&mut self, alloc: Global, piece: &[u8])
         ensures traced { (octets fetched : List ℕ) → IsTraced self.old octets fetched → IsTraced self.new (octets ++ piece.now) fetched }
         ensures bounded { IsBounded self.old → IsBounded self.new }

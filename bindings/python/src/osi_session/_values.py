@@ -84,7 +84,7 @@ class Fed:
 
 @dataclass(frozen=True)
 class Tally:
-    """What the trace of one direction has counted; once it has stopped, up to then."""
+    """What the trace of one direction has counted; once it has stopped, up to then, and all 0 once you were told of it."""
 
     octets: int = 0
     """Octets."""
