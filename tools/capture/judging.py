@@ -13,8 +13,8 @@ from .tshark import BadInput
 
 TEXT = """\
 The status is 0 if every stream was judged to its end and both sides of each kept the protocol, 1 if a side of any broke it, 3 if nobody
-did but not everything could be judged, and 2 if nothing was. FILE is a pcap or pcapng, which tshark
-reads; or a text of hexadecimal digits with both sides, as `osi judge` reads it and `osi-capture split` writes it; or - for one of these
+did but not everything could be judged, and 2 if nothing was. FILE is a pcap or pcapng;
+or a text of hexadecimal digits with both sides, as `osi judge` reads it and `osi-capture split` writes it; or - for one of these
 on standard input.
 """
 KEPT, BROKE, NOTHING, PARTLY = 0, 1, 2, 3

@@ -212,7 +212,7 @@ class Months(unittest.TestCase):
         self.addCleanup(patched.stop)
         self.watching = watch.Watching(102, forget=self.reader.forget)
         list(self.reader.feed(pcap_of([])))
-        self.now = 1_000_000_000_000_000
+        self.now, self.place = 1_000_000_000_000_000, 0
 
     def fed(self, made, pause=0):
         """What is printed while frames pass, a millisecond apart."""
@@ -292,9 +292,11 @@ class Months(unittest.TestCase):
 
     def memory(self, count, steady):
         """How much memory the program has after so many streams in turn, and ten TSDUs for each in one stream."""
-        for place in range(count):
+        for _ in range(count):
             steady.frames.clear()
-            self.fed(Frames(ports={"left": 20_000 + place % 40_000, "right": 102}).open().talk().close().frames)
+            self.place += 1
+            ports = {"left": 20_000 + self.place % 40_000, "right": 102}
+            self.fed(Frames(ports=ports, first={"left": self.place, "right": self.place}).open().talk().close().frames)
             self.fed(steady.talk(5).frames)
         with open("/proc/self/statm", encoding="ascii") as file:
             return int(file.read().split()[1]) * os.sysconf("SC_PAGE_SIZE")
