@@ -148,8 +148,7 @@ class Judged:
 
     def status(self):
         """The status that the stream alone would give."""
-        breaks = [found["rule"] for found in map(self.verdict.break_of, SIDES) if found]
-        if any(rule != "Outside" for rule in breaks):
+        if any(map(verdicts.is_broken, filter(None, map(self.verdict.break_of, SIDES)))):
             return BROKE
         return PARTLY if self.limit or not self.is_kept() else KEPT
 

@@ -206,7 +206,8 @@ class Fed(Watched):
             self.limit = self.limit or "not judged further: more passed than a judge of the library keeps"
         elif kind in ("BROKE", "LEAVES"):
             self.lines.append(f"frame {piece.frame}, {piece.time - self.begin:.6f} seconds: {self.line_of(told)}")
-        self.statuses.append((judging.BROKE if kind == "BROKE" else judging.PARTLY, piece.frame))
+        is_break = kind == "BROKE" and rule != "TSDU_TOO_LONG"
+        self.statuses.append((judging.BROKE if is_break else judging.PARTLY, piece.frame))
 
     def line_of(self, told):
         """What is said of a verdict: of the first one a sentence, of others the words of `osi judge`."""
