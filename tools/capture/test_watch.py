@@ -243,6 +243,17 @@ class Months(unittest.TestCase):
                 self.fed(Frames(ports={"left": 20_000 + place, "right": 102}).open().talk().close().frames)
         self.assertEqual(self.held(), (0, 0, 10, 20))
 
+    def test_octets_that_are_captured_after_the_end_of_tcp_are_waited_for(self):
+        for place in (0, 1):
+            made = Frames(ports={"left": 41_000 + place, "right": 102}).open().talk().close().frames
+            late = made.pop(-4)
+            self.assertEqual(self.fed(made), "")
+            if place:
+                out = self.fed(Frames(ports={"left": 50_000, "right": 102}).open().frames, watch.PATIENCE + 1)
+                self.assertIn("both kept the protocol, judged up to frame", out)
+            else:
+                self.assertRegex(self.fed([late]), r"both kept the protocol\n.*released")
+
     def test_streams_that_were_refused_or_never_answered_are_forgotten(self):
         refused = Frames().put("left", flags=SYN).put("right", flags=RESET | ACK).frames
         self.fed(refused)

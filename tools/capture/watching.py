@@ -107,8 +107,11 @@ class Watched:
 
     def is_over(self):
         """Whether nothing more will pass."""
-        directions = self.stream.directions.values()
-        return any(each.reset for each in directions) or all(each.ended for each in directions)
+        return any(each.reset for each in self.stream.directions.values()) or self.is_closed() and not self.lost()
+
+    def is_closed(self):
+        """Whether both directions were ended, though octets of them may still be missing."""
+        return all(each.ended for each in self.stream.directions.values())
 
     def verdict(self, judge, is_end):
         """A line on the stream, and its status; None if nothing is certain yet."""
@@ -268,6 +271,8 @@ class Watching:
         self.port, self.judge, self.hosts, self.numbers, self.is_json, self.idle = port, judge, hosts, numbers, is_json, idle
         # Those that are watched, and those whose verdict is printed while TCP is open: by the time of their last segment.
         self.watched, self.ending = OrderedDict(), OrderedDict()
+        # Those of which TCP is closed while octets are missing, with the time since then.
+        self.closing = OrderedDict()
         self.over, self.statuses, self.forget = OrderedDict(), set(), forget
         self.kind = Watched if judge else Fed
 
@@ -299,7 +304,12 @@ class Watching:
             self.tell_end(self.ending.pop(segment.stream))
 
     def drop_idle(self, now):
-        """Forgets the streams that are idle, or the one that was idle longest if there are too many."""
+        """Forgets the streams that are idle, or the one that was idle longest if there are too many; and ends those that are closed, and
+        of which octets are missing for long."""
+        while self.closing and now - next(iter(self.closing.values())) > PATIENCE:
+            number, _ = self.closing.popitem(last=False)
+            if number in self.watched:
+                self.look_at(number, self.watched[number], True)
         for found in (self.watched, self.ending):
             while found and (len(found) > MOST_STREAMS or now - next(iter(found.values())).stream.last[1] > self.idle):
                 self.drop(next(iter(found)), now)
@@ -331,11 +341,14 @@ class Watching:
         for line in watched.news():
             self.say(watched, line)
         if not found:
+            if watched.is_closed():
+                self.closing.setdefault(number, watched.stream.last[1])
             return
         if found[0]:
             self.say(watched, found[0])
         self.statuses.add(found[1])
         del self.watched[number]
+        self.closing.pop(number, None)
         self.over[number] = watched.key
         if len(self.over) > REMEMBERED:
             oldest, key = self.over.popitem(last=False)
