@@ -6,7 +6,7 @@ _osi_capture() {
         show) options='--stream --port --json --columns --width --data --upper --osi --help' ;;
         judge) options='--stream --host --port --show --upper --json --pictures --osi --help' ;;
         annotate) options='--stream --host --port --output --osi --help' ;;
-        watch) options='--interface --file --stream --host --port --json --by --every --osi --help' ;;
+        watch) options='--interface --file --stream --host --port --json --by --every --idle --osi --help' ;;
         split) options='--stream --port --output --help' ;;
         join) options='--output --help' ;;
     esac

@@ -20,5 +20,6 @@ complete -c osi-capture -n '__fish_seen_subcommand_from watch' -s i -l interface
 complete -c osi-capture -n '__fish_seen_subcommand_from watch' -s r -l file -r -d 'the capture to read'
 complete -c osi-capture -n '__fish_seen_subcommand_from watch' -l by -x -a 'library program' -d 'who judges'
 complete -c osi-capture -n '__fish_seen_subcommand_from watch' -l every -x -d 'seconds between two judgements'
+complete -c osi-capture -n '__fish_seen_subcommand_from watch' -l idle -x -d 'seconds after which a stream is forgotten'
 complete -c osi-capture -l osi -r -d 'the program osi'
 complete -c osi-capture -s o -l output -r -d 'what is written'

@@ -1,12 +1,11 @@
 """One direction of a TCP connection: its octets in the order of their sequence numbers, and what of them is missing."""
 import heapq
-from collections import deque
 
 SPACE = 2 ** 32
 # How many octets wait for one that is missing, before it counts as lost.
 MOST_WAITING = 16_777_216
-# How many of the octets that passed last are compared with what is sent again.
-RECENT = 65_536
+# How many of the octets that passed last are compared with what is sent again, and of how many segments.
+RECENT, MARKS = 65_536, 512
 
 
 def distance(first, second):
@@ -43,7 +42,7 @@ class Direction:
         self.last, self.sent, self.beyond = None, 0, None
         # The octets that passed last, the places and frames at which they begin, and the first place at which some were sent again as
         # others, with both frames.
-        self.recent, self.marks, self.doubt = bytearray(), deque(), None
+        self.recent, self.marks, self.doubt = bytearray(), [], None
         # The frames and times at which it was ended or reset, and how many octets of a frame were captured, if not all.
         self.ended = self.reset = self.cut = None
 
@@ -105,7 +104,7 @@ class Direction:
         if before != again:
             first += next(at for at, (one, other) in enumerate(zip(before, again)) if one != other)
             if self.doubt is None or first < self.doubt[0]:
-                self.doubt = first, max(mark for mark in self.marks if mark[0] <= first)[1], frame
+                self.doubt = first, max((mark for mark in self.marks if mark[0] <= first), default=self.marks[0])[1], frame
 
     def head(self):
         """The octets that wait and are the next ones, or None."""
@@ -136,10 +135,9 @@ class Direction:
         self.next = (self.next + len(octets)) % SPACE
         if self.beyond is not None and self.count >= self.sent:
             self.beyond = None
-        if len(self.recent) > 2 * RECENT:
-            del self.recent[:-RECENT]
-            while len(self.marks) > 1 and self.marks[1][0] <= self.count - RECENT:
-                self.marks.popleft()
+        if len(self.recent) > 2 * RECENT or len(self.marks) > 2 * MARKS:
+            del self.marks[:-MARKS]
+            del self.recent[:len(self.recent) - min(RECENT, self.count - self.marks[0][0])]
 
     def needed(self, number):
         """How many octets have to pass before what acknowledges this sequence number. (The end of a direction has a number, too.)"""

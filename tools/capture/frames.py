@@ -223,24 +223,23 @@ def beside(frame, protocol, at, protocol_at):
     raise Odd(f"of the protocol {protocol} over IP")
 
 
-def opened(path):
-    """A file that is read, also if it was packed by gzip."""
-    file = open(path, "rb")
-    if file.peek(2)[:2] == b"\x1f\x8b":
-        return gzip.open(file)
-    return file
+def chunks(path):
+    """The octets of a file in pieces, also if it was packed by gzip."""
+    with open(path, "rb") as file:
+        with gzip.open(file) if file.peek(2)[:2] == b"\x1f\x8b" else file as octets:
+            while True:
+                piece = octets.read(CHUNK)
+                if not piece:
+                    return
+                yield piece
 
 
 def segments(path, cut):
     """The segments of a file, one by one; `Odd` if tshark has to read it. If it ends within a packet, `cut` is called."""
     reader = Reader()
     try:
-        with opened(path) as file:
-            while True:
-                octets = file.read(CHUNK)
-                if not octets:
-                    break
-                yield from reader.feed(octets)
+        for octets in chunks(path):
+            yield from reader.feed(octets)
     except (OSError, EOFError, zlib.error):
         raise Odd("a file that can't be read") from None
     if not reader.records.is_known():

@@ -13,8 +13,8 @@ from .tshark import BadInput
 
 TEXT = """\
 The status is 0 if every stream was judged to its end and both sides of each kept the protocol, 1 if a side of any broke it, 3 if nobody
-did but not everything could be judged, and 2 if nothing was. FILE is a pcap or pcapng, which tshark
-reads; or a text of hexadecimal digits with both sides, as `osi judge` reads it and `osi-capture split` writes it; or - for one of these
+did but not everything could be judged, and 2 if nothing was. FILE is a pcap or pcapng;
+or a text of hexadecimal digits with both sides, as `osi judge` reads it and `osi-capture split` writes it; or - for one of these
 on standard input.
 """
 KEPT, BROKE, NOTHING, PARTLY = 0, 1, 2, 3
@@ -148,8 +148,7 @@ class Judged:
 
     def status(self):
         """The status that the stream alone would give."""
-        breaks = [found["rule"] for found in map(self.verdict.break_of, SIDES) if found]
-        if any(rule != "Outside" for rule in breaks):
+        if any(map(verdicts.is_broken, filter(None, map(self.verdict.break_of, SIDES)))):
             return BROKE
         return PARTLY if self.limit or not self.is_kept() else KEPT
 

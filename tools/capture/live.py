@@ -39,10 +39,10 @@ class Source:
         """The segments at the port of a capture that comes through a pipe."""
         self.reader = frames.Reader(True, self.asked.port)
         for octets in self.chunks(pipe):
-            if octets is None:
-                yield None
-            else:
-                yield from self.reader.feed(octets)
+            try:
+                yield from self.reader.feed(octets) if octets else [None]
+            except frames.Odd as odd:
+                raise BadInput(f"this isn't read from a pipe: {odd}") from None
         if self.program is None and not self.reader.records.is_known():
             raise BadInput("standard input has no pcap and no pcapng")
 

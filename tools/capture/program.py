@@ -19,8 +19,8 @@ TEXT = """\
   osi-capture split FILE -o NAME        NAME.left and NAME.right, what each side sent, and NAME.follow, both in their order
   osi-capture join NAME -o FILE         the way back: a pcap with a TCP segment for each TPKT packet
 
-FILE may be - for standard input. show lists at most 8,388,608 octets of a side, as `osi show` does, and judge about as many of
-both sides together. Options of a job: osi-capture show --help.
+FILE may be - for standard input. show lists at most 8,388,608 octets of a side, as `osi show` does. tshark reads what is unusual in a
+capture (tunnels, IP fragments), and names the layers above (--upper). Options of a job: osi-capture show --help.
 """
 
 

@@ -1,5 +1,5 @@
 """What `osi-capture judge --json` says of a stream, as an object of docs/judge.schema.json."""
-from ladders import rules
+from ladders import rules, verdicts
 
 from . import listing, texts
 from .asking import named, shown
@@ -24,7 +24,7 @@ def verdict_of(judged):
     if judged is None:
         return "none"
     if judged.verdict.first:
-        return "broke" if judged.verdict.last["did"].startswith("broke") else "left"
+        return "broke" if verdicts.is_broken(judged.verdict.last) else "left"
     return "kept" if judged.is_kept() else "none"
 
 

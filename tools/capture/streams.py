@@ -76,12 +76,11 @@ class Stream:
             self.go_on(segment, own, far)
             return
         self.early.append(segment)
-        if segment.is_reset and self.opener is not None and segment.source != self.opener:
-            self.settle()
-        elif segment.is_first:
+        if segment.is_first:
             self.opener = segment.target if segment.is_answer else segment.source
             own.begin(segment)
-        if len(self.early) >= EARLY or (own.has_first and far.has_first):
+        is_refused = segment.is_reset and self.opener not in (None, segment.source)
+        if is_refused or len(self.early) >= EARLY or (own.has_first and far.has_first):
             self.settle()
 
     def settle(self):

@@ -99,6 +99,8 @@ class Captures(Room):
         os.chmod(self.path("osi-capture"), 0o755)
         ran = subprocess.run(["tshark", "-X", f"lua_script:{self.path('run.lua')}", "-r", self.pcap(), "-c", "1"], text=True, check=True,
                              stdout=subprocess.PIPE, env={**os.environ, "PATH": f"{self.room.name}:{os.environ['PATH']}"}).stdout
+        if os.getuid() == 0 and "menu" not in ran:
+            self.skipTest("this tshark runs no script for root")
         for said in ("menu OSI session/Judge a capture", "title OSI session: a file.pcap", "text A side broke the protocol.",
                      "judge a file.pcap", "button Show the frames", 'frame.comment contains "osi:"'):
             self.assertIn(said, ran)

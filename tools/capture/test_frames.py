@@ -1,14 +1,13 @@
 """Captures that tests write: frames of a TCP connection, in files of several forms. Tests that tshark and the tools read each form."""
 import gzip
 import os
-import shutil
 import struct
 import tempfile
 import unittest
 
-from . import pcap, streams, tshark
+from . import asking, frames, pcap, streams, tshark
 
-ETHERNET, RAW_IP, SLL = 1, 101, 113
+ETHERNET, RAW_IP, SLL, SLL_2 = 1, 101, 113, 276
 FIN, SYN, RESET, PUSH, ACK = 0x01, 0x02, 0x04, 0x08, 0x10
 PORTS = {"left": 40_000, "right": 102}
 FIRST = {"left": 1_000, "right": 5_000}
@@ -144,6 +143,12 @@ def block(kind, body):
     return struct.pack("<II", kind, 12 + len(body)) + body + struct.pack("<I", 12 + len(body))
 
 
+def told(segment):
+    """What a segment says."""
+    return [getattr(segment, name) for name in ("frame", "time", "stream", "source", "target", "sequence", "octets", "acknowledged", "missing",
+                                                "captured", "is_first", "is_last", "is_reset", "is_answer")]
+
+
 class Room(unittest.TestCase):
     """A folder for what tests write."""
 
@@ -161,8 +166,12 @@ class Room(unittest.TestCase):
         return self.path(name)
 
     def streams(self, content, port=102):
-        """The streams of a capture."""
-        return streams.joined(tshark.segments(self.write(content)), port)
+        """The streams of a capture, which is read here and by tshark, if it is there, and both find the same segments."""
+        path = self.write(content)
+        found = list(frames.segments(path, lambda: None))
+        if tshark.is_there():
+            self.assertEqual([told(each) for each in found], [told(each) for each in tshark.segments(path)])
+        return streams.joined(found, port)
 
     def passed(self, content, number=0):
         """What passed in a stream: the side and the octets of each piece."""
@@ -175,7 +184,6 @@ def whole():
     return frames, [("left", CR), ("right", CC), ("left", CN), ("right", AC), ("left", DT), ("right", DT), ("left", FN), ("right", DN)]
 
 
-@unittest.skipUnless(shutil.which("tshark"), "tshark is not installed")
 class Forms(Room):
     """Each form in which captures come."""
 
@@ -188,6 +196,40 @@ class Forms(Room):
 
     def test_frames_of_linux_cooked_capture(self):
         self.same(pcap_of([linked(frame, SLL) for frame in whole()[0]], SLL))
+        self.same(pcap_of([struct.pack(">HHIHBB8s", 0x0800, 0, 1, 1, 0, 6, bytes(8)) + frame for frame in whole()[0]], SLL_2))
+
+    def test_frames_of_a_loopback(self):
+        self.same(pcap_of([struct.pack("<I", 2) + frame for frame in whole()[0]], 0, "<"))
+
+    def test_frames_of_a_ring_with_hsr(self):
+        tag = struct.pack(">HHH", 0x892F, 0x1000, 7)
+        self.same(pcap_of([bytes(12) + tag + b"\x08\0" + frame for frame in whole()[0]], ETHERNET))
+
+    def test_frames_with_octets_after_their_datagram(self):
+        self.same(pcap_of([linked(frame) + bytes(20) for frame in whole()[0]], ETHERNET))
+
+    def test_datagrams_whose_length_the_card_had_still_to_write(self):
+        frames = [frame[:2] + b"\0\0" + frame[4:] for frame in whole()[0]]
+        self.same(pcap_of([linked(frame) for frame in frames], ETHERNET))
+
+    def test_frames_that_were_cut(self):
+        for cut in (60, 70, 90):
+            self.streams(pcap_of([linked(frame) for frame in whole()[0]], ETHERNET, cut=cut))
+
+    def test_what_else_passes(self):
+        """Address resolution, GOOSE, spanning trees, names, echoes, and an error about something else."""
+        others = [bytes(12) + struct.pack(">H", kind) + bytes(46) for kind in (0x0806, 0x88B8, 0x88BA, 38)]
+        for protocol, octets in ((17, struct.pack(">HHHH", 40_000, 53, 8, 0)), (1, b"\x08" + bytes(7)),
+                                 (1, b"\3\3" + bytes(6) + b"\x45" + bytes(8) + b"\x11" + bytes(18))):
+            head = struct.pack(">BBHHHBBH4s4s", 0x45, 0, 20 + len(octets), 0, 0, 64, protocol, 0, *IPV4.values())
+            others.append(linked(head + octets))
+        self.same(pcap_of([each for frame in whole()[0] for each in (linked(frame), *others)], ETHERNET))
+
+    def test_headers_between_ipv6_and_tcp(self):
+        frames = Frames(addresses=IPV6).open().talk().close().frames
+        more = [frame[:4] + struct.pack(">HB", len(frame) - 32, 0) + frame[7:40] + bytes([6, 0, 1, 4, 0, 0, 0, 0]) + frame[40:]
+                for frame in frames]
+        self.same(pcap_of(more))
 
     def test_datagrams_without_a_link(self):
         self.same(pcap_of(whole()[0]))
@@ -216,10 +258,45 @@ class Forms(Room):
         found = self.streams(pcap_of([frame for pair in zip(one, other) for frame in pair]))
         self.assertEqual([[(side, piece.octets) for side, piece in found[number].by_side()] for number in (0, 1)], [whole()[1]] * 2)
 
+    def test_what_only_tshark_reads(self):
+        """Fragments, tunnels, labels, and ports that are used again without a beginning."""
+        if not tshark.is_there():
+            self.skipTest("tshark is not installed")
+        gre = [struct.pack(">BBHHHBBH4s4s", 0x45, 0, 24 + len(frame), 0, 0, 64, 47, 0, *IPV4.values()) + b"\0\0\x08\0" + frame
+               for frame in whole()[0]]
+        label = [bytes(12) + b"\x88\x47" + bytes.fromhex("00010140") + frame for frame in whole()[0]]
+        split = [part for frame in whole()[0] for part in fragments(frame)]
+        late = [*whole()[0][3:], *Frames(first={"left": 900_000, "right": 700_000}).open().close().frames]
+        for content, wanted in ((pcap_of(gre), whole()[1]), (pcap_of(label, ETHERNET), whole()[1]), (pcap_of(split), whole()[1]),
+                                (pcap_of(late), None)):
+            path = self.write(content)
+            with self.assertRaises(frames.Odd):
+                list(frames.segments(path, lambda: None))
+            found = asking.joined(path, path, 102)
+            self.assertEqual([(side, piece.octets) for side, piece in found[0].by_side()][:8], (wanted or whole()[1])[:8])
+
+    def test_octets_come_in_any_pieces(self):
+        content = pcapng_of(*[whole()[0]] * 2)
+        for size in (1, 7, 100):
+            reader = frames.Reader(True)
+            found = [segment for at in range(0, len(content), size) for segment in reader.feed(content[at:at + size])]
+            self.assertEqual([told(each) for each in found], [told(each) for each in frames.Reader(True).feed(content)])
+
     def test_ports_that_are_used_again(self):
         again = Frames(first={"left": 900_000, "right": 700_000}).open().close().frames
         found = self.streams(pcap_of(whole()[0] + again))
         self.assertEqual([len(stream.pieces) for stream in found.values()], [8, 6])
+
+
+def fragments(datagram):
+    """A datagram of IPv4 in two fragments, if it is long enough."""
+    if len(datagram) < 50:
+        yield datagram
+        return
+    head, rest = datagram[:20], datagram[20:]
+    for at, part, more in ((0, rest[:24], 0x2000), (24, rest[24:], 0)):
+        made = head[:2] + struct.pack(">HHH", 20 + len(part), 7, more | at // 8) + head[8:10] + b"\0\0" + head[12:]
+        yield made[:10] + struct.pack(">H", pcap.checksum(made)) + made[12:] + part
 
 
 class Segments(unittest.TestCase):

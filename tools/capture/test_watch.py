@@ -4,12 +4,14 @@ import io
 import os
 import shutil
 import tempfile
+import types
 import unittest
 from unittest import mock
 
 from ladders import script, tapped, test_judged, transcript
 
-from . import program, streams, tshark, watching as watch
+from . import frames, program, streams, tshark, watching as watch
+from .test_frames import ACK, DT, PUSH, RESET, SYN, Frames, data, pcap_of
 from .test_judging import CURED, DISPUTES, ENDED, LAST
 
 # The package for Python over the library that `make lib` built, if it did.
@@ -160,6 +162,155 @@ class Watching(unittest.TestCase):
             for stream in range(5):
                 self.printed(*Rows(stream).of("restart"), Rows(stream).row("right", flags=tshark.RESET))
         self.assertEqual((list(self.watching.over), self.watching.watched, self.watching.ending), ([3, 4], {}, {}))
+
+
+class Told:
+    """A verdict of a judge that tests make up."""
+
+    def __init__(self, kind, rule, text):
+        self.kind, self.rule, self.text = mock.Mock(), mock.Mock(), text
+        self.kind.name, self.rule.name = kind, rule
+
+    def __str__(self):
+        return self.text
+
+
+class Judge:
+    """A judge that keeps nothing: it finds a break in octets that have the word `wrong`, and no more is judged after `LIMIT`."""
+
+    def __init__(self):
+        self.is_open, self.said = True, "both kept the protocol"
+
+    def feed(self, side, octets):
+        """The verdicts that are certain."""
+        if b"wrong" in octets:
+            self.said = f"{SIDES[side]} broke the protocol first, packet 70: Data TokenNotHeld"
+            yield Told("BROKE", "TOKEN_NOT_HELD", f"{SIDES[side]} 1 broke packet 70 Data TokenNotHeld")
+        if b"LIMIT" in octets:
+            yield Told("NOT_JUDGED", "LIMIT", "left 1 not judged")
+
+    def text(self):
+        """What `osi judge` would print."""
+        return self.said + "\n"
+
+    def close(self):
+        """Frees it."""
+        self.is_open = False
+
+
+SIDES = ("left", "right")
+MADE_UP = types.SimpleNamespace(Judge=Judge, TapSide=int)
+
+
+class Months(unittest.TestCase):
+    """A watch that goes on and on, as a judge that is made up judges."""
+
+    def setUp(self):
+        self.reader = frames.Reader(True, 102)
+        patched = mock.patch.object(watch, "osi_session", MADE_UP)
+        patched.start()
+        self.addCleanup(patched.stop)
+        self.watching = watch.Watching(102, forget=self.reader.forget)
+        list(self.reader.feed(pcap_of([])))
+        self.now, self.place = 1_000_000_000_000_000, 0
+
+    def fed(self, made, pause=0):
+        """What is printed while frames pass, a millisecond apart."""
+        self.now += pause * 1_000_000
+        content = pcap_of(made, times=[self.now + 1_000 * place for place in range(len(made))])[24:]
+        self.now += 1_000 * len(made)
+        with contextlib.redirect_stdout(io.StringIO()) as out:
+            watch.follow(self.watching, self.reader.feed(content), 1)
+        return out.getvalue()
+
+    def held(self):
+        """How many streams are held in one way or another."""
+        return len(self.watching.watched), len(self.watching.ending), len(self.watching.over), len(self.reader.ways)
+
+    def test_what_is_printed(self):
+        out = self.fed(Frames().open().talk().close().frames)
+        self.assertRegex(out, r"^stream 0 \S+ \S+: both kept the protocol\nstream 0 .*: ended: released")
+        wrong = Frames(ports={"left": 41_000, "right": 102}).open().send("left", data(b"\1\0\1\0wrong"))
+        out = self.fed(wrong.frames)
+        self.assertRegex(out, r"^stream 1 .*: frame \d+, 0.00\d+ seconds: left broke the protocol first, in its packet at octet 70\.")
+        with contextlib.redirect_stdout(io.StringIO()):
+            self.watching.look(is_end=True)
+        self.assertEqual(self.watching.status(), 1)
+
+    def test_streams_that_are_over_are_forgotten(self):
+        with mock.patch.object(watch, "REMEMBERED", 10):
+            for place in range(60):
+                self.fed(Frames(ports={"left": 20_000 + place, "right": 102}).open().talk().close().frames)
+        self.assertEqual(self.held(), (0, 0, 10, 20))
+
+    def test_octets_that_are_captured_after_the_end_of_tcp_are_waited_for(self):
+        for place in (0, 1):
+            made = Frames(ports={"left": 41_000 + place, "right": 102}).open().talk().close().frames
+            late = made.pop(-4)
+            self.assertEqual(self.fed(made), "")
+            if place:
+                out = self.fed(Frames(ports={"left": 50_000, "right": 102}).open().frames, watch.PATIENCE + 1)
+                self.assertIn("both kept the protocol, judged up to frame", out)
+            else:
+                self.assertRegex(self.fed([late]), r"both kept the protocol\n.*released")
+
+    def test_streams_that_were_refused_or_never_answered_are_forgotten(self):
+        refused = Frames().put("left", flags=SYN).put("right", flags=RESET | ACK).frames
+        self.fed(refused)
+        self.assertEqual(self.held()[:2], (0, 0))
+        with mock.patch.object(watch, "MOST_STREAMS", 10):
+            for place in range(30):
+                self.fed(Frames(ports={"left": 20_000 + place, "right": 102}).put("left", flags=SYN).frames)
+        self.assertEqual(self.held()[:2], (10, 0))
+
+    def test_streams_that_are_idle_are_forgotten_and_begin_in_the_middle_if_they_go_on(self):
+        made, other = Frames().open(), Frames(ports={"left": 41_000, "right": 102})
+        self.fed(made.frames)
+        out = self.fed(other.open().frames, watch.IDLE + 1)
+        self.assertRegex(out, r"both kept the protocol\n.*nothing passed for its last 86401")
+        made.frames.clear()
+        self.assertRegex(self.fed(made.talk(40).frames), r"stream 2 .*begins in the middle")
+
+    def test_a_stream_after_whose_break_nothing_passes_is_forgotten(self):
+        self.fed(Frames().open().send("left", data(b"\1\0\1\0LIMIT")).frames)
+        self.assertEqual(self.held()[:2], (0, 1))
+        self.fed(Frames(ports={"left": 41_000, "right": 102}).open().frames, watch.IDLE + 1)
+        self.assertEqual(self.held()[:2], (1, 0))
+
+    def test_octets_that_differ_when_they_are_sent_again_end_what_is_judged(self):
+        made = Frames().open()
+        start = made.next["left"]
+        made.put("left", bytes(len(DT)), PUSH | ACK).put("left", DT, PUSH | ACK, sequence=start)
+        self.assertIn("judged up to frame 8, whose octets left sent again as others in frame 9", self.fed(made.frames))
+        made = Frames(ports={"left": 41_000, "right": 102}).open()
+        start = made.next["left"]
+        made.put("left", data(b"\1\0\1\0wrong"), PUSH | ACK).put("left", data(b"\1\0\1\0right"), PUSH | ACK, sequence=start)
+        self.assertRegex(self.fed(made.frames), "left broke .*\n.* sent again as others in frame 18, so what was said of later frames is not")
+        self.assertEqual(self.watching.status(), 3)
+
+    def test_memory_stays_flat(self):
+        """bench/watch.py does the same with 100,000 streams and 1,000,000 TSDUs."""
+        steady = self.steady()
+        with mock.patch.object(watch, "REMEMBERED", 100):
+            first, last = self.memory(300, steady), self.memory(1_200, steady)
+        self.assertLess(last - first, 2 << 20)
+
+    def steady(self):
+        """A stream that goes on for long."""
+        made = Frames(ports={"left": 1_024, "right": 102})
+        self.fed(made.open().frames)
+        return made
+
+    def memory(self, count, steady):
+        """How much memory the program has after so many streams in turn, and ten TSDUs for each in one stream."""
+        for _ in range(count):
+            steady.frames.clear()
+            self.place += 1
+            ports = {"left": 20_000 + self.place % 40_000, "right": 102}
+            self.fed(Frames(ports=ports, first={"left": self.place, "right": self.place}).open().talk().close().frames)
+            self.fed(steady.talk(5).frames)
+        with open("/proc/self/statm", encoding="ascii") as file:
+            return int(file.read().split()[1]) * os.sysconf("SC_PAGE_SIZE")
 
 
 @unittest.skipUnless(watch.library(), "the package osi_session or its library is not there")

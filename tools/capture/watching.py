@@ -52,7 +52,7 @@ IDLE = 86_400
 
 
 def one_judge():
-    """A judge of the library for every connection of a stream. (In a library before 0.2 it is called Watch, and has no text.)"""
+    """The class of the library that judges every connection of a stream. (Before 0.2 it is called Watch, and has no text.)"""
     return getattr(osi_session, "Watch", None) or osi_session.Judge
 
 
@@ -70,7 +70,7 @@ class Watched:
         self.key = segment.key
         self.octets += len(segment.octets)
         self.is_fresh = True
-        if self.is_late(segment.time):
+        if self.is_late(segment.time) or any(direction.doubt for direction in self.stream.directions.values()):
             self.stream.finish()
         self.look_for_limit()
         self.follow()
@@ -107,8 +107,11 @@ class Watched:
 
     def is_over(self):
         """Whether nothing more will pass."""
-        directions = self.stream.directions.values()
-        return any(each.reset for each in directions) or all(each.ended for each in directions)
+        return any(each.reset for each in self.stream.directions.values()) or self.is_closed() and not self.lost()
+
+    def is_closed(self):
+        """Whether both directions were ended, though octets of them may still be missing."""
+        return all(each.ended for each in self.stream.directions.values())
 
     def verdict(self, judge, is_end):
         """A line on the stream, and its status; None if nothing is certain yet."""
@@ -181,7 +184,7 @@ class Fed(Watched):
         if source not in self.heard:
             self.heard.add(source)
             direction = self.stream.directions[source]
-            if not (direction.has_first or streams.is_packet(piece.octets)):
+            if not (direction.has_first or self.may_begin(source, piece.octets)):
                 self.found = "not judged: begins in the middle", None
                 return
         for told in self.judge.feed(osi_session.TapSide(source != self.left), piece.octets):
@@ -190,6 +193,12 @@ class Fed(Watched):
                 self.found = f"not judged: {kind}, not a session", None
                 return
             self.certain(told, piece)
+
+    def may_begin(self, source, octets):
+        """Whether the first octets of a side without its first segment may be those of a connection."""
+        if self.stream.opener is not None or len(octets) < 11:
+            return streams.is_packet(octets)
+        return streams.is_connect_request(octets) if source == self.left else streams.is_packet(octets) and streams.is_answer(octets)
 
     def certain(self, told, piece):
         """Notes a verdict that became certain with these octets."""
@@ -200,7 +209,8 @@ class Fed(Watched):
             self.limit = self.limit or "not judged further: more passed than a judge of the library keeps"
         elif kind in ("BROKE", "LEAVES"):
             self.lines.append(f"frame {piece.frame}, {piece.time - self.begin:.6f} seconds: {self.line_of(told)}")
-        self.statuses.append(judging.BROKE if kind == "BROKE" else judging.PARTLY)
+        is_break = kind == "BROKE" and rule != "TSDU_TOO_LONG"
+        self.statuses.append((judging.BROKE if is_break else judging.PARTLY, piece.frame))
 
     def line_of(self, told):
         """What is said of a verdict: of the first one a sentence, of others the words of `osi judge`."""
@@ -223,13 +233,20 @@ class Fed(Watched):
         if self.stream.is_alone():
             return f"not judged: {asking.ALONE}", None
         if self.statuses:
-            status = judging.BROKE if judging.BROKE in self.statuses else judging.PARTLY
-            return self.limit and self.limit[0].upper() + self.limit[1:] or None, status
+            return self.after_verdicts()
         said = verdicts.printed(self.judge.text()) if hasattr(self.judge, "text") else None
         if said and said.last["why"]:
             return f"not judged: {said.last['why']}" + (f", {self.limit}" if self.limit else ""), None
         limit, status = (f", {self.limit}", judging.PARTLY) if self.limit else ("", judging.KEPT)
         return "both kept the protocol" + limit, status
+
+    def after_verdicts(self):
+        """What is said at last of a stream of which something was told; a break of octets that were sent again as others is none."""
+        doubt = self.stream.doubt()
+        broke = [frame for status, frame in self.statuses if status == judging.BROKE]
+        certain = [frame for frame in broke if doubt is None or frame < doubt.frame]
+        more = ", so what was said of later frames is not certain" if len(certain) < len(broke) else ""
+        return self.limit and f"{self.limit}{more}", judging.BROKE if certain else judging.PARTLY
 
     def verdict(self, judge, is_end):
         if is_end:
@@ -254,6 +271,8 @@ class Watching:
         self.port, self.judge, self.hosts, self.numbers, self.is_json, self.idle = port, judge, hosts, numbers, is_json, idle
         # Those that are watched, and those whose verdict is printed while TCP is open: by the time of their last segment.
         self.watched, self.ending = OrderedDict(), OrderedDict()
+        # Those of which TCP is closed while octets are missing, with the time since then.
+        self.closing = OrderedDict()
         self.over, self.statuses, self.forget = OrderedDict(), set(), forget
         self.kind = Watched if judge else Fed
 
@@ -285,7 +304,12 @@ class Watching:
             self.tell_end(self.ending.pop(segment.stream))
 
     def drop_idle(self, now):
-        """Forgets the streams that are idle, or the one that was idle longest if there are too many."""
+        """Forgets the streams that are idle, or the one that was idle longest if there are too many; and ends those that are closed, and
+        of which octets are missing for long."""
+        while self.closing and now - next(iter(self.closing.values())) > PATIENCE:
+            number, _ = self.closing.popitem(last=False)
+            if number in self.watched:
+                self.look_at(number, self.watched[number], True)
         for found in (self.watched, self.ending):
             while found and (len(found) > MOST_STREAMS or now - next(iter(found.values())).stream.last[1] > self.idle):
                 self.drop(next(iter(found)), now)
@@ -317,11 +341,14 @@ class Watching:
         for line in watched.news():
             self.say(watched, line)
         if not found:
+            if watched.is_closed():
+                self.closing.setdefault(number, watched.stream.last[1])
             return
         if found[0]:
             self.say(watched, found[0])
         self.statuses.add(found[1])
         del self.watched[number]
+        self.closing.pop(number, None)
         self.over[number] = watched.key
         if len(self.over) > REMEMBERED:
             oldest, key = self.over.popitem(last=False)

@@ -11,7 +11,7 @@ from .transcript import BadInput
 
 ABOUT = """Draws a ladder of a run of two ends, as SVG: of what `osi pair` printed, of a script, for which it runs `osi pair`, or of a
 capture of both directions, for which it runs `osi show`, with the times of the packets; with --judge also with the verdict of
-`osi judge`. A capture is a pcap or pcapng, which tshark reads, a text of hexadecimal digits, or the NAME of the files that
+`osi judge`. A capture is a pcap or pcapng, a text of hexadecimal digits, or the NAME of the files that
 `osi-capture split` wrote. --left and --right draw two captures of one direction each."""
 
 

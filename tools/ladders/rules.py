@@ -60,7 +60,7 @@ OF_TRANSPORT = {
     "NoCredit": ("the other side had given no credit for it", "6.16"),
     "CreditReduced": ("it takes credit back", "6.16"),
     "SizeExceeded": ("it has {octets} octets, and the agreed TPDU size is {agreed}", "13.3.4"),
-    "TsduTooLong": ("it makes a TSDU longer than 1,048,576 octets, the limit of this product", "6.3"),
+    "TsduTooLong": ("it makes a TSDU longer than 1,048,576 octets, the limit of this product; X.224 has none", ""),
     "TooMany": ("that is more connections than are judged at once, or it can't be told whether it is right", "6.5")}
 # Of a packet (RFC 1006 section 6).
 OF_PACKETS = {"BadVersion": "no packet begins there: its first octet{first} is not 3",
@@ -68,6 +68,8 @@ OF_PACKETS = {"BadVersion": "no packet begins there: its first octet{first} is n
 # Of several of these.
 ANSWERS = {"AbortAccept": ("there was no abort to answer", "X.225, 7.10"),
            "DC": ("there was no disconnect request with its references that is not answered yet", "X.224, 6.7")}
+# What the standards allow and this product doesn't: nobody broke the protocol by it.
+OF_PRODUCT = {"Outside", "TsduTooLong"}
 OUTSIDE = "the standard allows that, and this product leaves it out"
 
 
@@ -97,6 +99,8 @@ def clause_of(what, rule):
         return f"X.225, {UNITS[what][1]}" + (f" and {more}" if more else "")
     if what == "TSDU":
         return f"X.225, {OF_TSDUS[rule][1]}" if rule in OF_TSDUS else "X.225, 8" if rule == "Outside" else None
+    if rule == "TsduTooLong":
+        return None
     if rule in OF_TRANSPORT:
         return f"X.224, {'6.16' if (what, rule) == ('AK', 'OutOfSequence') else OF_TRANSPORT[rule][1]}"
     return "X.224, 6.5" if rule == "Outside" else None

@@ -110,8 +110,13 @@ def sentence(verdict):
     """The last line as a sentence."""
     if verdict.first is None:
         return "Both sides kept the protocol." if verdict.last["why"] is None else f"Not judged: {verdict.last['why']}."
-    did = "broke the protocol first" if verdict.last["did"].startswith("broke") else "was the first to leave the profile"
+    did = "broke the protocol first" if is_broken(verdict.last) else "was the first to leave the profile"
     return f"{verdict.first} {did}, {place_of(verdict.last)}."
+
+
+def is_broken(found):
+    """Whether a break is one of the standards, and not of what this product leaves out."""
+    return found["rule"] not in rules.OF_PRODUCT
 
 
 def place_of(found):
