@@ -40,7 +40,7 @@ module _ (room : Room) (n : ℕ) (below : n < 2 ^ 64 - 1) where
   none_yet : (k : ℕ) (j : Joined) → connection_in room n (take k []) ≡ Some j → BeginWith [] j
   none_yet k j e =
       let is : connection_in room n [] ≡ Some j =
-          subst (λ (x : Capture). connection_in room n x ≡ Some j) (take_all k [] (omega arith)) e in
+      subst (λ (x : Capture). connection_in room n x ≡ Some j) (take_all k [] (omega arith)) e in
       absurd (cc)
 
   nothing_passed : HasPassed [] []

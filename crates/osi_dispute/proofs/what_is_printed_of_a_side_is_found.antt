@@ -146,7 +146,7 @@ halts_clear d e capture (Some m) clean h =
     by : (is_side d m.direction ≡ true) × (is_break m.cause ≡ true) → ⊥
     by (same, breaks) =
         let broke = subst (λ (x : Direction). is_some (marks_of x (comes_to capture).course).broke ≡ true) (same_side d m.direction same)
-            (halts_told e m capture h breaks) in
+        (halts_told e m capture h breaks) in
         let never : false ≡ true = subst (λ (o : Option Mark). is_some o ≡ true) clean.transport broke in
         cc
 
