@@ -168,17 +168,25 @@ pub(crate) enum Fetched {
     NoMemory,
 }
 
-/// Fetches a verdict that is due, once all that passed is judged.
-fn fetch_due(judge: &mut Judge) -> Fetched
-    ensures { IsSettled judge.old.tap → MayBeLate false judge.old → HasFetched result judge.old judge.new }
+/// Gives what is to be told.
+fn give(judge: &mut Judge, due: Due) -> Fetched
+    ensures { IsSettled judge.old.tap → MayBeLate false judge.old → InTurn judge.old judge.old.told.items due.subject
+        → IsDue judge.old judge.old.told.items due.subject due.note → HasFetched result judge.old judge.new }
 {
-    let Some(due) = next_due(judge) else {
-        return Fetched::Nothing;
-    };
     let verdict = shown(&judge.tap, due.subject, &due.note);
     match judge.told.push(due.subject) {
         Ok(()) => Fetched::Given(verdict),
         Err(_) => Fetched::NoMemory,
+    }
+}
+
+/// Fetches a verdict that is due, once all that passed is judged.
+fn fetch_due(judge: &mut Judge) -> Fetched
+    ensures { IsSettled judge.old.tap → MayBeLate false judge.old → HasFetched result judge.old judge.new }
+{
+    match next_due(judge) {
+        None => Fetched::Nothing,
+        Some(due) => give(judge, due),
     }
 }
 
