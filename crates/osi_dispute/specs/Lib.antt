@@ -5,4 +5,6 @@ pub mod Reports
 pub mod ReportTexts
 pub mod Openings
 pub mod Adding
+pub mod Passing
+pub mod Hearing
 pub mod Disputes
