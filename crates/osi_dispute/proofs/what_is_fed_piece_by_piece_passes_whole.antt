@@ -1,10 +1,8 @@
--- What is fed the octets of a piece one part after the other, and the rows of a text one row after the other, knows the capture of
--- all of them: for `feed_all` and `feed_pieces`.
+-- What is fed the octets of a piece one part after the other knows the capture of
+-- all of them: for `feed_all`.
 use Rattle.osi_dispute.proofs.Vocabulary.{◌≡◌, ◌∙◌, refl, sym, ap, ℕ, ◌==◌, Bool, true, false, not, arith, length, List, [], ◌∷◌, ◌++◌}
-use Rattle.osi_dispute.proofs.Vocabulary.{take, drop, append-nil, append_assoc, map-append, take-append-drop, flat_map-append, Direction}
-use Rattle.osi_dispute.proofs.Vocabulary.{Capture, piece, of, stream, Tap, HoldsState, State, after, comes_to, after_more, Row, side_of}
-use Rattle.osi_dispute.proofs.Vocabulary.{capture_of, Opening, Opens}
-use Rattle.osi_judge.specs.declared.directions.Direction.TheVariants as side
+use Rattle.osi_dispute.proofs.Vocabulary.{take, drop, append-nil, append_assoc, map-append, take-append-drop, Direction}
+use Rattle.osi_dispute.proofs.Vocabulary.{Capture, piece, of, Tap, HoldsState, State, after, comes_to, after_more}
 
 -- whatever had passed, this passed after it, by what is known
 abbrev pub Passes : {T : Type 0} → (T → Capture → Type 0) → T → T → Capture → Type 0
@@ -21,10 +19,6 @@ Comes t capture = HoldsState t (comes_to capture)
 pub comes_as : (old new : Tap) (more : Capture) → ((s : State) → HoldsState old s → HoldsState new (after more s))
     → Passes Comes old new more
 comes_as old new more t = grind (arith, after_more)
-
--- and of how the octets of left begin
-abbrev pub Begins : Opening → Capture → Type 0
-Begins o capture = Opens o (stream side.Left capture)
 
 -- ---- octets of a piece
 
@@ -54,25 +48,3 @@ empty_yes (x ∷ xs) b e t = absurd (grind (arith, e, t))
 
 pub empty_not : (xs : List ℕ) (b : Bool) → b ≡ (length xs == 0) → not b ≡ false → xs ≡ []
 empty_not xs b e t = grind (arith, empty_yes)
-
--- ---- rows
-
-abbrev pub AreFed : {T : Type 0} → (T → Capture → Type 0) → T → T → List Row → List Row → Type 0
-AreFed k old now rows rest = (fed : List Row) × (rows ≡ fed ++ rest) × Passes k old now (capture_of fed)
-
-pub none_fed : {T : Type 0} (k : T → Capture → Type 0) (j : T) (rows : List Row) → AreFed k j j rows rows
-none_fed k j rows = ([], refl, grind (arith, append-nil))
-
-pub more_fed : {T : Type 0} (k : T → Capture → Type 0) (old now new : T) (rows rest later : List Row) (r : Row)
-    → rest ≡ r ∷ later → AreFed k old now rows rest
-    → Passes k now new (piece (side_of r.is_tabbed) r.octets) → AreFed k old new rows later
-more_fed k old now new rows rest later r g (fed, e, p) q = (
-  fed ++ r ∷ [],
-  e ∙ ap (λ (z : List Row). fed ++ z) g ∙ sym (append_assoc fed (r ∷ []) later),
-  search (arith, passes_more, flat_map-append, append-nil),
-)
-
-pub all_fed : {T : Type 0} (k : T → Capture → Type 0) (old now : T) (rows rest : List Row) → rest ≡ []
-    → AreFed k old now rows rest
-    → Passes k old now (capture_of rows)
-all_fed k old now rows rest n (fed, e, p) = grind (arith, append-nil)

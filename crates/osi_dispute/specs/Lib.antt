@@ -5,5 +5,7 @@ pub mod Reports
 pub mod ReportTexts
 pub mod Openings
 pub mod Adding
+pub mod Passing
+pub mod Hearing
 pub mod Disputes
 pub mod Blaming

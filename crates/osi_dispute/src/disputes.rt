@@ -1,6 +1,6 @@
-//! Reads the text of a capture of both sides, feeds it to a tap, and gives the judgement.
+//! Feeds octets to a tap, gives the judgement of what it was fed, and that of a text.
 
-ghost use Rattle.std.specs.Prelude.{◌≡◌, ◌++◌, ◌⊎◌, ◌<◌, Err, IfOk, OnOk};
+ghost use Rattle.std.specs.Prelude.{◌≡◌, ◌++◌, ◌⊎◌, ◌<◌, Err, IfErr, IfOk, OnOk};
 ghost use Rattle.osi_judge.specs.Captures.{Capture, piece, stream};
 ghost use Rattle.osi_judge.specs.declared.directions.Direction.TheVariants.{Left};
 ghost use Rattle.osi_listing.specs.Capture.{IsNoCapture};
@@ -8,31 +8,20 @@ ghost use Rattle.osi_tap.specs.Standing.{HoldsState};
 ghost use Rattle.osi_tap.specs.Tapping.{comes_to};
 ghost use Rattle.osi_dispute.specs.Disputes.{IsJudgement, Judges};
 ghost use Rattle.osi_dispute.specs.Openings.{Opens, unjudged};
-ghost use Rattle.osi_dispute.specs.Rows.{capture_of, rows_of, side_of};
-ghost use Rattle.osi_dispute.specs.Reading.{rows_left};
+ghost use Rattle.osi_dispute.specs.Passing.{passed_by};
 
+use crate::hearing::Hearing;
 use crate::openings::Opening;
-use crate::pieces::Pieces;
+use crate::places::Passing;
 use crate::report_texts::push_judgement;
 use osi_judge::Direction;
-use osi_listing::{CaptureFault, octets_of};
+use osi_listing::CaptureFault;
 use osi_tap::Tap;
 use osi_verdict::Judgement;
 use std::alloc::{AllocError, Global};
 
-/// The side of a piece: a line that begins with a tab is of the called side.
-fn direction_of(is_tabbed: bool) -> Direction
-    ensures { result ≡ side_of is_tabbed }
-{
-    if is_tabbed {
-        Direction::Right
-    } else {
-        Direction::Left
-    }
-}
-
 /// Feeds all of a piece.
-fn feed_all(tap: &mut Tap, direction: Direction, octets: &[u8]) -> Result<(), AllocError>
+pub(crate) fn feed_all(tap: &mut Tap, direction: Direction, octets: &[u8]) -> Result<(), AllocError>
     ensures { OnOk result ((capture : Capture) → HoldsState tap.old (comes_to capture)
         → HoldsState tap.new (comes_to (capture ++ piece direction octets.now))) }
 {
@@ -45,24 +34,12 @@ fn feed_all(tap: &mut Tap, direction: Direction, octets: &[u8]) -> Result<(), Al
     Ok(())
 }
 
-/// Feeds pieces.
-fn feed_pieces(tap: &mut Tap, opening: &mut Opening, pieces: Pieces<'_>) -> Result<(), AllocError>
-    ensures tap { OnOk result ((capture : Capture) → HoldsState tap.old (comes_to capture)
-        → HoldsState tap.new (comes_to (capture ++ capture_of (rows_left pieces.entry)))) }
-    ensures opening { OnOk result ((capture : Capture) → Opens opening.old (stream Left capture)
-        → Opens opening.new (stream Left (capture ++ capture_of (rows_left pieces.entry)))) }
-{
-    let mut pieces = pieces;
-    'pieces: while let Some(piece) = pieces.next_piece() {
-        let direction = direction_of(piece.is_tabbed);
-        opening.pass(direction, piece.octets);
-        feed_all(tap, direction, piece.octets)?;
-    }
-    Ok(())
-}
-
 /// The judgement of everything that a tap was fed.
-fn judgement_by(alloc: Global, tap: &mut Tap, opening: &Opening) -> Result<Judgement, AllocError>
+pub(crate) fn judgement_by(
+    alloc: Global,
+    tap: &mut Tap,
+    opening: &Opening,
+) -> Result<Judgement, AllocError>
     ensures judged { IfOk result (λ j. (capture : Capture) → HoldsState tap.old (comes_to capture) → Opens opening.now (stream Left capture)
         → Judges (unjudged capture) (comes_to capture) j.lines.items j.status) }
     ensures small { IfOk result (λ j. j.status < 2) }
@@ -73,16 +50,42 @@ fn judgement_by(alloc: Global, tap: &mut Tap, opening: &Opening) -> Result<Judge
     Ok(Judgement { lines, status })
 }
 
-/// The judgement of a text that captures these octets.
-fn judge_octets(alloc: Global, text: &[u8], octets: &[u8]) -> Result<Judgement, AllocError>
-    ensures judged { IfOk result (λ j. Judges (unjudged (capture_of (rows_of text.now octets.now)))
-        (comes_to (capture_of (rows_of text.now octets.now))) j.lines.items j.status) }
-    ensures small { IfOk result (λ j. j.status < 2) }
+/// Octets of a side pass.
+pub(crate) fn pass(
+    tap: &mut Tap,
+    opening: &mut Opening,
+    direction: Direction,
+    octets: &[u8],
+) -> Result<(), CaptureFault>
+    ensures tap { OnOk result ((capture : Capture) → HoldsState tap.old (comes_to capture)
+        → HoldsState tap.new (comes_to (capture ++ piece direction octets.now))) }
+    ensures opening { (capture : Capture) → Opens opening.old (stream Left capture)
+        → Opens opening.new (stream Left (capture ++ piece direction octets.now)) }
+    ensures memory { IfErr result (λ fault. fault ≡ CaptureFault.OutOfMemory) }
 {
-    let mut tap = Tap::new(alloc);
-    let mut opening = Opening::new();
-    feed_pieces(&mut tap, &mut opening, Pieces::of(text, octets))?;
-    judgement_by(alloc, &mut tap, &opening)
+    opening.pass(direction, octets);
+    match feed_all(tap, direction, octets) {
+        Ok(()) => Ok(()),
+        Err(_) => Err(CaptureFault::OutOfMemory),
+    }
+}
+
+/// The octet passes that a character completes, if it completes one.
+pub(crate) fn pass_if(
+    tap: &mut Tap,
+    opening: &mut Opening,
+    passing: Option<Passing>,
+) -> Result<(), CaptureFault>
+    ensures tap { OnOk result ((capture : Capture) → HoldsState tap.old (comes_to capture)
+        → HoldsState tap.new (comes_to (capture ++ passed_by passing))) }
+    ensures opening { (capture : Capture) → Opens opening.old (stream Left capture)
+        → Opens opening.new (stream Left (capture ++ passed_by passing)) }
+    ensures memory { IfErr result (λ fault. fault ≡ CaptureFault.OutOfMemory) }
+{
+    match passing {
+        None => Ok(()),
+        Some(passing) => pass(tap, opening, passing.direction, &[passing.octet]),
+    }
 }
 
 /// Judges the capture of both sides in a text. Returns [`CaptureFault::BadHex`] if the text has a character other than
@@ -93,9 +96,9 @@ pub fn judge_text(alloc: Global, text: &[u8]) -> Result<Judgement, CaptureFault>
     ensures bad_hex { result ≡ Err CaptureFault.BadHex → IsNoCapture text.now }
     ensures no_capture { IsNoCapture text.now → (result ≡ Err CaptureFault.BadHex) ⊎ (result ≡ Err CaptureFault.OutOfMemory) }
 {
-    let octets = octets_of(alloc, text)?;
-    match judge_octets(alloc, text, octets.as_slice()) {
-        Ok(judgement) => Ok(judgement),
-        Err(_) => Err(CaptureFault::OutOfMemory),
+    let mut hearing = Hearing::new(alloc);
+    if let Err(fault) = hearing.feed(text) {
+        return Err(fault);
     }
+    hearing.judgement()
 }

@@ -14,6 +14,15 @@
 //! let status = judgement.status;                       // 0: both kept the protocol
 //! ```
 //!
+//! A [`Hearing`] does the same with a text that comes in pieces, of any length, of which it keeps nothing:
+//!
+//! ```text
+//! let mut hearing = Hearing::new(alloc);
+//! hearing.feed(b"0300000e09e0000")?;
+//! hearing.feed(b"0000100c0010a\n")?;
+//! let judgement = hearing.judgement()?;                // the same one
+//! ```
+//!
 //! The octets are fed to a `Tap` of `osi_tap`, which judges both classes and any number of connections. [`push_report`] asks it
 //! what it found of each connection (a [`Pair`]) and of the [`Transport`] of each side, and who was first ([`Last`]), and writes
 //! all that:
@@ -42,13 +51,17 @@
 
 mod causes;
 mod disputes;
+mod hearing;
 pub mod laws;
 mod openings;
 mod pieces;
+mod places;
 mod report_texts;
 mod reports;
+mod steps;
 
 pub use disputes::judge_text;
+pub use hearing::Hearing;
 pub use openings::Opening;
 pub use pieces::{Piece, Pieces};
 pub use report_texts::{push_judgement, push_report};
