@@ -7,18 +7,21 @@ from gateways import peers
 
 PROGRAM = os.path.join(os.path.dirname(os.path.abspath(__file__)), "lines.py")
 LINES, ECHOES = 500, 20
-# How many times as long an echo over lines may take as one over plain byte connections, and how many nanoseconds a look of a watch
-# for verdicts takes for each connection: a hundred times as many as on an idle machine.
-MOST_RATIO, MOST_LOOK = 20, 13_000
+# How many times as much processor time an echo over lines may take as one over plain byte connections: with the module in C it takes
+# some 2 to 3 times as much. It is measured again, up to so many times, if other work of the machine was in the way.
+MOST_RATIO, TRIES = 5, 5
+# How many nanoseconds a look of a watch for verdicts takes for each connection: a hundred times as many as on an idle machine.
+MOST_LOOK = 13_000
 
 
 def echoes(python, kind, lines, count):
-    """The seconds of so many echoes on each of so many lines, and the median of one."""
+    """The seconds of so many echoes on each of so many lines, the median of one, and the processor time of all, on both sides."""
     server = subprocess.Popen([python, PROGRAM, kind, "serve"], stdout=subprocess.PIPE, text=True)
     try:
         port = server.stdout.readline().strip()
-        done = subprocess.run([python, PROGRAM, kind, port, str(lines), str(count)], capture_output=True, text=True, timeout=300)
-        return [float(word) for word in done.stdout.split()] or [float("inf")] * 2, done.stderr
+        done = subprocess.run([python, PROGRAM, kind, port, str(lines), str(count), str(server.pid)], capture_output=True, text=True,
+                              timeout=300)
+        return [float(word) for word in done.stdout.split()] or [float("inf")] * 3, done.stderr
     finally:
         server.kill()
         server.wait()
@@ -26,11 +29,18 @@ def echoes(python, kind, lines, count):
 
 
 def many_lines(python, version):
-    """500 lines over asyncio, 20 echoes on each: at most some times as long as over as many plain byte connections."""
-    (took, median), errors = echoes(python, "osi", LINES, ECHOES)
-    (plain, _), _ = echoes(python, "plain", LINES, ECHOES)
-    yield (f"{ECHOES} echoes on each of {LINES} lines take {took:.1f} s on Python {version}, {took / plain:.1f} times as long as without"
-           f" sessions; one takes {1000 * median:.0f} ms", took <= MOST_RATIO * plain, f"the bound is {MOST_RATIO} times; {errors}")
+    """500 lines over asyncio, 20 echoes on each: at most some times the processor time of as many plain byte connections."""
+    best = (float("inf"),)
+    for _ in range(TRIES):
+        (_, median, took), errors = echoes(python, "osi", LINES, ECHOES)
+        (_, _, plain), _ = echoes(python, "plain", LINES, ECHOES)
+        best = min(best, (took / plain, took / LINES / ECHOES, median, errors))
+        if best[0] <= MOST_RATIO:
+            break
+    ratio, each, median, errors = best
+    yield (f"on each of {LINES} lines, each of {ECHOES} echoes takes {1e6 * each:.0f} us of processor time on Python {version}, {ratio:.1f}"
+           f" times as much as without sessions; the median is {1000 * median:.0f} ms", ratio <= MOST_RATIO,
+           f"the bound is {MOST_RATIO} times; {errors}")
 
 
 def closed_connections(count):

@@ -23,6 +23,8 @@ CROWD, MOST_OPENING = 300, 5
 # The time limit that servers are given, how much later they may act, and how often a slow peer sends an octet, in seconds.
 WAIT, LATER, DRIP = 2, 20, 0.5
 LONGEST = 60
+# The time limit of the servers of examples/duplex, which is fixed.
+WAIT_OF_DUPLEX = 10
 
 
 class Server:
@@ -94,7 +96,7 @@ def drip(talkers, longest):
     with selectors.DefaultSelector() as left:
         for talker in talkers:
             left.register(talker.connection, selectors.EVENT_READ)
-        for octet in HALF_A_PACKET:
+        for octet in HALF_A_PACKET[1:]:
             for key in list(left.get_map().values()):
                 with contextlib.suppress(OSError):
                     key.fileobj.send(bytes([octet]))
@@ -128,9 +130,13 @@ def is_served(port, duplex):
 
 
 def dripping(language, program, duplex, wait, room):
-    """64 peers with a session that send half a packet, an octet at a time. They are given up; meanwhile another is served."""
+    """64 peers with a session that send half a packet, an octet at a time, the first once it is open. They are given up; meanwhile
+    another is served."""
     with Server(program, duplex, f"{room}/{language}", 65) as server:
-        talkers = [Talker(server.port, 0, duplex) for _ in range(64)]
+        talkers = []
+        for _ in range(64):
+            talkers.append(Talker(server.port, 0, duplex))
+            talkers[-1].connection.sendall(HALF_A_PACKET[:1])
         with ThreadPoolExecutor() as runs:
             other = runs.submit(is_served, server.port, duplex)
             closed = drip(talkers, wait + LATER)
@@ -145,11 +151,12 @@ def dripping(language, program, duplex, wait, room):
             f"the server in {language} serves another meanwhile, in {1000 * took:.0f} ms", took < MOST_OPENING, "")
 
 
-def crowded(language, program, duplex, room):
-    """More peers than the server has places, first without a session, and then with one: another is served at once."""
+def crowded(language, program, duplex, wait, room):
+    """More peers than the server has places, first without a session, and then with one: another is served at once. Some give way,
+    unless it took so long to open all that the first were given up."""
     for what in ("without a session", "that send half a packet in a session"):
         with Server(program, duplex, f"{room}/{language}.crowd", CROWD + 1) as server:
-            crowd = []
+            crowd, began = [], time.monotonic()
             for _ in range(CROWD):
                 if what.startswith("without"):
                     crowd.append(socket.create_connection((peers.LOOPBACK, server.port), LONGEST))
@@ -158,12 +165,13 @@ def crowded(language, program, duplex, room):
                 with contextlib.suppress(OSError):
                     talker.connection.send(HALF_A_PACKET)
                 crowd.append(talker)
+            opened = time.monotonic() - began
             took = is_served(server.port, duplex)
             for each in crowd:
                 each.close()
             said = sum("gives way" in line for line in server.lines())
         yield (f"the server in {language}: beside {CROWD} peers {what}, another is served in {1000 * took:.0f} ms",
-               took < MOST_OPENING and said > 0, f"{said} gave way")
+               took < MOST_OPENING and (said > 0 or opened > wait), f"{said} gave way; all were open after {opened:.1f} s")
 
 
 def slow(servers):
@@ -173,12 +181,13 @@ def slow(servers):
     with tempfile.TemporaryDirectory() as room, ThreadPoolExecutor(4) as runs:
         started = []
         for language, (program, duplex) in servers.items():
-            wait = 10 if duplex else WAIT
+            wait = WAIT_OF_DUPLEX if duplex else WAIT
             words = program if duplex else [*program, "--wait", str(WAIT)]
             started.append(runs.submit(lambda *all: list(dripping(*all)), language, words, duplex, wait, room))
         for language, (program, duplex) in servers.items():
+            wait = WAIT_OF_DUPLEX if duplex else LONGEST
             words = program if duplex else [*program, "--wait", str(LONGEST)]
-            started.append(runs.submit(lambda *all: list(crowded(*all)), language, words, duplex, room))
+            started.append(runs.submit(lambda *all: list(crowded(*all)), language, words, duplex, wait, room))
         for run in started:
             yield from run.result()
 
@@ -197,7 +206,8 @@ def interrupted(servers):
                     status = None
             with open(errors) as file:
                 said = file.read()
-            yield f"the server in {language} ends at SIGINT without a traceback", status == 130 and "Traceback" not in said, f"{status} {said}"
+            yield (f"the server in {language} ends at SIGINT without a traceback", status == 130 and "Traceback" not in said,
+                   f"{status} {said}")
 
 
 def ended(servers):

@@ -1,9 +1,10 @@
 #!/usr/bin/env python3
 """Echoes over many lines of asyncio at once, and over as many plain byte connections, to compare with.
 
-    lines.py osi|plain serve                 prints its port
-    lines.py osi|plain PORT LINES ECHOES     opens all lines, then asks on each so many times; prints the seconds of all echoes
-                                             together, and the median of one
+    lines.py osi|plain serve                      prints its port
+    lines.py osi|plain PORT LINES ECHOES [PID]    opens all lines, then asks on each so many times; prints the seconds of all
+                                                  echoes together, the median of one, and the seconds of processor time that they
+                                                  took here and in the process PID, the server
 """
 import asyncio
 import os
@@ -55,17 +56,27 @@ async def serve(kind):
     await listener.serve_forever()
 
 
+def processor_seconds(processes):
+    """The processor time that these processes have taken."""
+    ticks = 0
+    for process in processes:
+        with open(f"/proc/{process}/stat") as file:
+            fields = file.read().rpartition(")")[2].split()
+        ticks += int(fields[11]) + int(fields[12])
+    return ticks / os.sysconf("SC_CLK_TCK")
+
+
 class Run:
     """So many echoes on each of so many lines, which begin once all are open."""
 
-    def __init__(self, port, lines, echoes):
+    def __init__(self, port, lines, echoes, *others):
         self.port, self.lines, self.echoes, self.left = port, lines, echoes, lines
-        self.times, self.begins = [], asyncio.Event()
+        self.times, self.begins, self.processes = [], asyncio.Event(), (os.getpid(), *others)
 
     async def begin(self):
         self.left -= 1
         if self.left == 0:
-            self.began = time.perf_counter()
+            self.began, self.taken = time.perf_counter(), processor_seconds(self.processes)
             self.begins.set()
         await self.begins.wait()
 
@@ -75,7 +86,9 @@ class Run:
             began = time.perf_counter()
             await echo()
             self.times.append(time.perf_counter() - began)
-        self.ended = time.perf_counter()
+        self.left += 1
+        if self.left == self.lines:
+            self.ended, self.taken = time.perf_counter(), processor_seconds(self.processes) - self.taken
 
     async def osi(self):
         async with aio.dial(HOST, self.port) as line, line.session(Opening(Units.DUPLEX)) as session:
@@ -93,7 +106,7 @@ class Run:
 
     async def run(self, kind):
         await asyncio.gather(*(getattr(self, kind)() for _ in range(self.lines)))
-        print(f"{self.ended - self.began:.3f} {sorted(self.times)[len(self.times) // 2]:.6f}")
+        print(f"{self.ended - self.began:.3f} {sorted(self.times)[len(self.times) // 2]:.6f} {self.taken:.2f}")
 
 
 async def main(kind, *words):

@@ -472,6 +472,8 @@ class Bounds(Case):
 
         class Small(aio.EndProtocol):
             most_unpaid = 500_000
+            # What came before a connection owed credit counts among these alone.
+            most = 1_500_000
 
         lines, peer = await self.serving(answer, Small)
         peer.holds_back = is_ack

@@ -289,7 +289,8 @@ class EndProtocol(asyncio.Protocol):
     def data_received(self, data: bytes) -> None:
         if not self.end.closed:
             self._feed.add(data)
-            self._go_on()
+            self._proceed()
+            self._turns.tell_now()
 
     def eof_received(self) -> bool:
         self._came_to_end = True
@@ -402,7 +403,7 @@ class EndProtocol(asyncio.Protocol):
                     self._awaiting -= reads_on
             if self.may_fetch():
                 return
-            await self._turns.until(lambda: self._turns.fetches.is_left)
+            await self._turns.until(lambda: self._turns.is_left(self._turns.fetches))
 
     async def until(self, holds: Callable[[], bool]) -> None:
         """Waits until this condition holds. It is tested whenever something happens."""
@@ -435,13 +436,17 @@ class EndProtocol(asyncio.Protocol):
         self._turns.tell()
 
     def _go_on(self) -> None:
+        """Does everything that can be done now, and says that something has happened."""
+        self._proceed()
+        self._turns.tell()
+
+    def _proceed(self) -> None:
         """Does everything that can be done now: feeds, writes or closes, and pauses or resumes reading."""
         self._pump()
         if self._closed and not self._feeding:
             self._break()
         self._write()
         self._read_or_wait()
-        self._turns.tell()
 
     def _write(self) -> None:
         transport = self._transport

@@ -16,26 +16,23 @@ class Share:
     """How many steps of one kind a line may do in a turn of the event loop, and for how long. So a line whose peer sends without
     a pause leaves the others their turn."""
 
-    __slots__ = ("_steps", "_until")
+    __slots__ = ("_steps", "_turn", "_until")
 
     def __init__(self) -> None:
-        self._steps = 0
+        self._steps = self._turn = 0
         self._until = 0.0
 
-    def renew(self) -> None:
-        """The next turn of the event loop has begun."""
-        self._steps = 0
-
-    @property
-    def is_left(self) -> bool:
+    def is_left(self, turn: int) -> bool:
         """Whether the line may do another step in this turn. The first one it may always do."""
-        return self._steps == 0 or (self._steps < MOST_STEPS and monotonic() < self._until)
+        return self._turn != turn or (self._steps < MOST_STEPS and monotonic() < self._until)
 
-    def take(self) -> bool:
+    def take(self, turn: int) -> bool:
         """Does a step, if it may."""
-        if self._steps == 0:
+        if self._turn != turn:
+            self._turn, self._steps = turn, 1
             self._until = monotonic() + MOST_SECONDS
-        elif not self.is_left:
+            return True
+        if self._steps >= MOST_STEPS or monotonic() >= self._until:
             return False
         self._steps += 1
         return True
@@ -56,18 +53,31 @@ class _Waiter:
 
 
 class _Loop:
-    """The turns of an event loop, for all lines in it."""
+    """The turns of an event loop, for all lines in it. They are counted while some line does a step or plans something."""
+
+    __slots__ = ("turn", "is_counted", "_planned", "__weakref__")
 
     def __init__(self) -> None:
+        self.turn = 1
+        self.is_counted = False
         # The lines for which something is planned in the next turn.
         self._planned: List[Turns] = []
 
+    def count(self) -> None:
+        """The next turn will be counted."""
+        self.is_counted = True
+        asyncio.get_running_loop().call_soon(self._next)
+
     def plan(self, line: Turns) -> None:
-        if not self._planned:
-            asyncio.get_running_loop().call_soon(self._next)
+        if not self.is_counted:
+            self.count()
         self._planned.append(line)
 
     def _next(self) -> None:
+        self.turn += 1
+        self.is_counted = False
+        if not self._planned:
+            return
         planned, self._planned = self._planned, []
         for line in planned:
             try:
@@ -113,28 +123,47 @@ class Turns:
     def tell(self) -> None:
         """Something has happened. Waiting tasks are woken once for everything that happens in a turn of the event loop."""
         self.happened += 1
-        if self._waiters and not self._is_planned:
-            self._plan()
+        if self._waiters:
+            self._later()
+
+    def tell_now(self) -> None:
+        """Octets have come. Waiting tasks are woken at once."""
+        self.happened += 1
+        for waiter in self._waiters:
+            waiter.tell()
 
     def takes(self, share: Share) -> bool:
-        """Does another step of this kind in this turn of the event loop, if the line may."""
+        """Does another step of this kind in this turn of the event loop, if the line may. If it may not, something is planned in
+        the next turn."""
+        loop = self._loop or self._counted()
+        if not loop.is_counted:
+            loop.count()
+        return share.take(loop.turn) or self._later()
+
+    def is_left(self, share: Share) -> bool:
+        """Whether the line may do another step of this kind in this turn. If it may not, something is planned in the next turn: so
+        who waits until it may is told."""
+        return self._loop is None or share.is_left(self._loop.turn) or self._later()
+
+    def _later(self) -> bool:
+        """Plans something in the next turn. (False: not in this one.)"""
         if not self._is_planned:
             self._plan()
-        return share.take()
+        return False
+
+    def _counted(self) -> _Loop:
+        """The turns of the event loop that the line is in."""
+        self._loop = _loops.setdefault(asyncio.get_running_loop(), _Loop())
+        return self._loop
 
     def _plan(self) -> None:
         """Goes on in the next turn of the event loop."""
         self._is_planned = True
-        if self._loop is None:
-            loop = asyncio.get_running_loop()
-            self._loop = _loops.setdefault(loop, _Loop())
-        self._loop.plan(self)
+        (self._loop or self._counted()).plan(self)
 
     def next(self) -> None:
         """The next turn has begun."""
         self._is_planned = False
-        self.feeds.renew()
-        self.fetches.renew()
         try:
             self._begin()
         finally:
