@@ -9,9 +9,9 @@ use osi_judge::Direction;
 use osi_tap::Tap;
 use std::alloc::{AllocError, Global};
 
-/// How much of a connection is judged: DTs that count so much together, each its octets of user data and 48 more. So no more
-/// than 4,096 DTs are.
-const MOST_OF_A_CONNECTION: usize = 196_608;
+/// How much may be kept of a connection: the outlines of the TSDUs of both sides, each 48 octets more than its length and equal ones
+/// in a row once, and what has passed of unfinished TSDUs.
+const MOST_OF_A_CONNECTION: usize = 1_048_576;
 
 /// The contents of a C slot that judges a byte connection: the tap; how the octets of left begin; of what C was told; and the text
 /// that C asked for last. The text is lent until the next call.

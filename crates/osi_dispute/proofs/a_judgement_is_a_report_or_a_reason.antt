@@ -1,9 +1,7 @@
--- The text of a judgement is that of a report, or says why nothing is judged: for `judgement_by` and `judge_octets`.
+-- The text of a judgement is that of a report, or says why nothing is judged: for `judgement_by`.
 use Rattle.std.proofs.Common.{arith}
-use Rattle.osi_dispute.proofs.Vocabulary.{◌≡◌, subst, ℕ, List, [], ◌++◌, Option, Some, None, Result, Ok, Err, IfOk, Capture, stream, Tap}
-use Rattle.osi_dispute.proofs.Vocabulary.{HoldsState, State, comes_to, Judgement, Judges, Opening, Opens, unjudged, Row, capture_of, Last}
-use Rattle.osi_dispute.proofs.Vocabulary.{AddsJudgement, All, IsReached, refl}
-use Rattle.osi_judge.specs.declared.directions.Direction.TheVariants as side
+use Rattle.osi_dispute.proofs.Vocabulary.{◌≡◌, subst, refl, ℕ, List, [], Option, Some, None, Capture, State, comes_to}
+use Rattle.osi_dispute.proofs.Vocabulary.{AddsJudgement, All, IsReached, Judges, Last}
 
 -- what is added to no text
 added_first : (why : Option Last) (s : State) (lines : List ℕ) (status : ℕ) → AddsJudgement why s [] lines status
