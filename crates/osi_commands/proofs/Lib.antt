@@ -1,2 +1,3 @@
 pub mod reads_one_after_the_other_read_all
 pub mod writes_one_after_the_other_append
+pub mod what_is_read_is_heard

@@ -2,8 +2,7 @@
 use Rattle.std.proofs.Common.{ℕ, ◌≡◌, ◌<◌, ◌≤◌, Option, Some, None, List, ◌++◌, length, sym, ◌∙◌, ap, subst, inl, inr, arith}
 use Rattle.std.proofs.lemmas.List.{append_assoc, append-nil}
 use Rattle.std.specs.Option.{IfSome}
-use Rattle.std.specs.Io.KnownBytes.{Appends, Consumes}
-use Rattle.osi_commands.specs.Judging.{Judges, Finds}
+use Rattle.std.specs.Io.KnownBytes.{Consumes}
 use Rattle.osi_commands.specs.Show.{IsRead}
 
 pub consumes-append : (a b c : Option (List ℕ)) (xs ys : List ℕ) → Consumes a b xs → Consumes b c ys → Consumes a c (xs ++ ys)
@@ -21,17 +20,3 @@ all_read (Some x) (Some y) input h k l = elim k [
   | inl e ↦ sym (h ∙ ap (λ t. input ++ t) e ∙ append-nil input)
   | inr m ↦ absurd (omega (arith, l, m))
 ]
-
--- A text that is short enough is not too long.
-pub not_long : (P : Type 0) (old new : Option (List ℕ)) (input : List ℕ) → Consumes old new input → IsRead new input
-    → length input ≤ 16777216 → IfSome old (λ text. 16777216 < length text → P)
-not_long P None new input h k l = tt
-not_long P (Some x) new input h k l = λ m. let e = ap length (all_read (Some x) new input h k l) in absurd (omega (arith, l, m, e))
-
--- What is found of it is written: for `judge`.
-pub found_whole : (old new written now : Option (List ℕ)) (input lines : List ℕ) (status : ℕ) → Consumes old new input → IsRead new input
-    → Judges input lines status → Appends written now lines → IfSome old (λ text. Finds text written now status)
-found_whole None new written now input lines status h k j b = tt
-found_whole (Some x) new written now input lines status h k j b =
-    subst (λ (text : List ℕ). Finds text written now status) (all_read (Some x) new input h k j.short)
-    (record { lines = lines; judges = j; written = b })

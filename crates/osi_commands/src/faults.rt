@@ -5,7 +5,7 @@ use crate::watched::Watch;
 /// Why a job failed.
 #[derive(Clone, Copy)]
 pub enum ToolFault {
-    /// A read failed, or the input has more than 16,777,216 octets.
+    /// A read failed, or the input has more than 16,777,216 octets. A capture that is judged may have more.
     Input,
     /// The input is not a capture: it has a character other than digits, blanks and comments, or an odd number of
     /// digits.

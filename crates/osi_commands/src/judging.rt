@@ -1,42 +1,94 @@
 //! `osi judge`: reading, judging and writing.
 
-ghost use Rattle.std.specs.Prelude.{◌≡◌, ◌<◌, ◌≤◌, ◌⊎◌, ◌↔◌, true, length, Err, IfOk, IfErr, IfSome, IsErrAnd};
+ghost use Rattle.std.specs.Prelude.{◌≡◌, ◌<◌, ◌⊎◌, ◌++◌, true, ℕ, List, [], IfOk, IfErr, IfSome, OnOk};
+ghost use Rattle.std.specs.Io.KnownBytes.{IsAtEnd};
+ghost use Rattle.osi_dispute.specs.Disputes.{IsJudgement};
+ghost use Rattle.osi_dispute.specs.Hearing.{IsHeard};
 ghost use Rattle.osi_listing.specs.Capture.{IsNoCapture};
-ghost use Rattle.osi_commands.specs.Judging.{Judges, Finds, FindsPart};
-ghost use Rattle.osi_commands.specs.Show.{FailsToRead, TakesAtMost};
+ghost use Rattle.osi_commands.specs.Judging.{FailsToHear, Finds, FindsPart};
 
 use crate::faults::{Failure, ToolFault};
-use crate::showing::read_input;
-use crate::texts::LONGEST_INPUT;
 use crate::watched::Watch;
-use osi_dispute::judge_text;
+use osi_dispute::Hearing;
 use osi_listing::CaptureFault;
 use osi_verdict::Judgement;
 use std::alloc::Global;
 use std::io::{Read, Write};
 
-/// The judgement of a text. Nothing is read or written.
-///
-/// Returns [`ToolFault::Input`] exactly for a text of more than 16,777,216 octets, and [`ToolFault::BadHex`] for a
-/// shorter one that is not a capture, unless memory runs out first.
-fn judgement_of(alloc: Global, text: &[u8]) -> Result<Judgement, ToolFault>
-    ensures judged { IfOk result (λ j. Judges text.now j.lines.items j.status) }
-    ensures status { IfOk result (λ j. j.status < 2) }
-    ensures input { (result ≡ Err ToolFault.Input) ↔ (16777216 < length text.now) }
-    ensures bad_hex { result ≡ Err ToolFault.BadHex →
-        IsNoCapture text.now × (length text.now ≤ 16777216) }
-    ensures no_capture { IsNoCapture text.now → length text.now ≤ 16777216 →
-        (result ≡ Err ToolFault.BadHex) ⊎ (result ≡ Err ToolFault.OutOfMemory) }
-    ensures write { result ≡ Err ToolFault.Write → ⊥ }
+/// How many octets of the text are read at once.
+const PIECE: usize = 65_536;
+
+/// Hears a piece of a text.
+fn hear(hearing: &mut Hearing, piece: &[u8]) -> Result<(), ToolFault>
+    ensures ok { OnOk result ((whole more : List ℕ) → IsHeard hearing.old whole (piece.now ++ more) → IsHeard hearing.new whole more) }
+    ensures bad_hex { IfErr result (λ fault. fault ≡ ToolFault.BadHex → (whole more : List ℕ)
+        → IsHeard hearing.old whole (piece.now ++ more) → IsNoCapture whole) }
+    ensures others { IfErr result (λ fault. (fault ≡ ToolFault.BadHex) ⊎ (fault ≡ ToolFault.OutOfMemory)) }
 {
-    if text.len() > LONGEST_INPUT {
-        return Err(ToolFault::Input);
+    match hearing.feed(piece) {
+        Ok(()) => Ok(()),
+        Err(CaptureFault::BadHex) => Err(ToolFault::BadHex),
+        Err(CaptureFault::OutOfMemory) => Err(ToolFault::OutOfMemory),
     }
-    match judge_text(alloc, text) {
+}
+
+/// The judgement of a text that was heard.
+fn judgement_of(hearing: &mut Hearing) -> Result<Judgement, ToolFault>
+    ensures judged { IfOk result (λ j. (text : List ℕ) → IsHeard hearing.old text [] → IsJudgement text j.lines.items j.status) }
+    ensures status { IfOk result (λ j. j.status < 2) }
+    ensures bad_hex { IfErr result (λ fault. fault ≡ ToolFault.BadHex → (text : List ℕ) → IsHeard hearing.old text []
+        → IsNoCapture text) }
+    ensures others { IfErr result (λ fault. (fault ≡ ToolFault.BadHex) ⊎ (fault ≡ ToolFault.OutOfMemory)) }
+{
+    match hearing.judgement() {
         Ok(judgement) => Ok(judgement),
         Err(CaptureFault::BadHex) => Err(ToolFault::BadHex),
         Err(CaptureFault::OutOfMemory) => Err(ToolFault::OutOfMemory),
     }
+}
+
+/// Hears all that a reader gives, piece by piece.
+fn hear_all<R: Read>(
+    watch: &mut Watch,
+    reader: &mut R,
+    hearing: &mut Hearing,
+) -> Result<(), ToolFault>
+    ensures heard { OnOk result (IfSome (R.remaining reader.old) (λ text. IsHeard hearing.old text text → IsHeard hearing.new text [])) }
+    ensures end { OnOk result (IsAtEnd (R.remaining reader.new)) }
+    ensures input { IfErr result (λ fault. fault ≡ ToolFault.Input → FailsToHear watch.new.read_failed (R.remaining reader.old)) }
+    ensures bad_hex { IfErr result (λ fault. fault ≡ ToolFault.BadHex → IfSome (R.remaining reader.old) (λ text.
+        IsHeard hearing.old text text → IsNoCapture text)) }
+    ensures write { IfErr result (λ fault. fault ≡ ToolFault.Write → ⊥) }
+{
+    let mut piece = [0; PIECE];
+    let mut turns: u64 = 0;
+    'pieces: while turns < u64::MAX {
+        let count = watch.read(reader, &mut piece[..])?;
+        if count == 0 {
+            return Ok(());
+        }
+        hear(hearing, &piece[..count])?;
+        turns += 1;
+    }
+    Err(ToolFault::Input)
+}
+
+/// The judgement of all that a reader gives. Nothing of the text is kept.
+fn judgement_by<R: Read>(
+    alloc: Global,
+    watch: &mut Watch,
+    reader: &mut R,
+) -> Result<Judgement, ToolFault>
+    ensures judged { IfOk result (λ j. IfSome (R.remaining reader.old) (λ text. IsJudgement text j.lines.items j.status)) }
+    ensures status { IfOk result (λ j. j.status < 2) }
+    ensures end { OnOk result (IsAtEnd (R.remaining reader.new)) }
+    ensures input { IfErr result (λ fault. fault ≡ ToolFault.Input → FailsToHear watch.new.read_failed (R.remaining reader.old)) }
+    ensures bad_hex { IfErr result (λ fault. fault ≡ ToolFault.BadHex → IfSome (R.remaining reader.old) IsNoCapture) }
+    ensures write { IfErr result (λ fault. fault ≡ ToolFault.Write → ⊥) }
+{
+    let mut hearing = Hearing::new(alloc);
+    hear_all(watch, reader, &mut hearing)?;
+    judgement_of(&mut hearing)
 }
 
 /// Judges what a reader gives, and remembers which call failed.
@@ -49,28 +101,25 @@ fn judge_watched<R: Read, W: Write>(
     ensures judged { IfOk result (λ status. IfSome (R.remaining reader.old) (λ text.
         Finds text (W.contents writer.old) (W.contents writer.new) status)) }
     ensures status { IfOk result (λ status. status < 2) }
-    ensures most { TakesAtMost 16777217 (R.remaining reader.old) (R.remaining reader.new) }
-    ensures long { IfSome (R.remaining reader.old) (λ text. 16777216 < length text →
-        IsErrAnd result (λ fault. (fault ≡ ToolFault.Input) ⊎ (fault ≡ ToolFault.OutOfMemory))) }
+    ensures end { OnOk result (IsAtEnd (R.remaining reader.new)) }
     ensures input { IfErr result (λ fault. fault ≡ ToolFault.Input →
-        FailsToRead watch.new.read_failed (R.remaining reader.old) × (writer.new ≡ writer.old)) }
+        FailsToHear watch.new.read_failed (R.remaining reader.old) × (writer.new ≡ writer.old)) }
     ensures bad_hex { IfErr result (λ fault. fault ≡ ToolFault.BadHex →
         IfSome (R.remaining reader.old) IsNoCapture × (writer.new ≡ writer.old)) }
     ensures write { IfErr result (λ fault. fault ≡ ToolFault.Write → (watch.new.write_failed ≡ true)
         × IfSome (R.remaining reader.old) (λ text. FindsPart text (W.contents writer.old) (W.contents writer.new))) }
     ensures memory { IfErr result (λ fault. fault ≡ ToolFault.OutOfMemory → writer.new ≡ writer.old) }
 {
-    let input = read_input(alloc, watch, reader)?;
-    let judgement = judgement_of(alloc, input.as_slice())?;
+    let judgement = judgement_by(alloc, watch, reader)?;
     watch.write_text(writer, judgement.lines.as_slice())?;
     Ok(judgement.status)
 }
 
-/// Judges the capture of both sides that a reader gives, and writes what was found. The whole text is made before the
-/// first write.
+/// Judges the capture of both sides that a reader gives, of any length, and writes what was found. The capture is judged while
+/// it is read, and nothing of its text is kept; nothing is written before its end.
 ///
-/// [`ToolFault::Input`] means that a read failed or the input is too long, and [`ToolFault::Write`] that a write
-/// failed: what was written then is a prefix of the text. After another fault nothing was written.
+/// [`ToolFault::Input`] means that a read failed, and [`ToolFault::Write`] that a write failed: what was written then is a
+/// prefix of the text. After another fault nothing was written. [`ToolFault::BadHex`] may come before the end is read.
 pub fn judge<R: Read, W: Write>(
     alloc: Global,
     reader: &mut R,
@@ -79,11 +128,9 @@ pub fn judge<R: Read, W: Write>(
     ensures judged { IfOk result (λ status. IfSome (R.remaining reader.old) (λ text.
         Finds text (W.contents writer.old) (W.contents writer.new) status)) }
     ensures status { IfOk result (λ status. status < 2) }
-    ensures most { TakesAtMost 16777217 (R.remaining reader.old) (R.remaining reader.new) }
-    ensures long { IfSome (R.remaining reader.old) (λ text. 16777216 < length text →
-        IsErrAnd result (λ f. (f.fault ≡ ToolFault.Input) ⊎ (f.fault ≡ ToolFault.OutOfMemory))) }
+    ensures end { OnOk result (IsAtEnd (R.remaining reader.new)) }
     ensures input { IfErr result (λ f. f.fault ≡ ToolFault.Input →
-        FailsToRead f.watch.read_failed (R.remaining reader.old) × (writer.new ≡ writer.old)) }
+        FailsToHear f.watch.read_failed (R.remaining reader.old) × (writer.new ≡ writer.old)) }
     ensures bad_hex { IfErr result (λ f. f.fault ≡ ToolFault.BadHex →
         IfSome (R.remaining reader.old) IsNoCapture × (writer.new ≡ writer.old)) }
     ensures write { IfErr result (λ f. f.fault ≡ ToolFault.Write → (f.watch.write_failed ≡ true)

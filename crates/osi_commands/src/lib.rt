@@ -7,8 +7,9 @@
 //! `osi_listing` makes a listing, `osi_dispute` a judgement and `osi_transcript` a transcript. This crate joins them to a
 //! reader and a writer:
 //!
-//! - [`show`], [`judge`] and [`pair`] read all of the input, at most 16,777,216 octets, make the whole text, and then write
-//!   it. So nothing is written for an input that can't be read, and a write that fails leaves a prefix of the text.
+//! - [`show`] and [`pair`] read all of the input, at most 16,777,216 octets, make the whole text, and then write it.
+//!   [`judge`] hears an input of any length piece by piece, keeps nothing of it, and writes what was found at its end. So
+//!   nothing is written for an input that can't be read, and a write that fails leaves a prefix of the text.
 //! - [`ToolFault`] says why nothing, or not all, was done. It comes in a [`Failure`], with what the [`Watch`] remembers: whether a
 //!   read failed, and whether a write did. So the contracts can say when a fault is reported. An interrupted call is
 //!   repeated.

@@ -1,11 +1,11 @@
 -- What each job does with a text.
-use Rattle.std.specs.Prelude.{ℕ, List, Option}
+use Rattle.std.specs.Prelude.{ℕ, Bool, List, Option, Some, None}
 use Rattle.osi_listing.specs.Capture.{IsNoCapture}
 use Rattle.osi_words.specs.declared.jobs.Job.{Job}
 use Rattle.osi_words.specs.declared.jobs.Job.TheVariants.{Show, Pair, Judge, Witness}
-use Rattle.osi_commands.specs.Judging.{Finds, FindsPart}
+use Rattle.osi_commands.specs.Judging.{FailsToHear, Finds, FindsPart}
 use Rattle.osi_commands.specs.Pairing.{Pairs, PairsPart}
-use Rattle.osi_commands.specs.Show.{Shows, ShowsPart}
+use Rattle.osi_commands.specs.Show.{FailsToRead, Shows, ShowsPart}
 use Rattle.osi_tool.specs.Witnessing.{Tells, TellsPart}
 
 -- all that the job prints of a text is written, and nothing else
@@ -28,3 +28,13 @@ IsUnreadable Show text = IsNoCapture text
 IsUnreadable Pair text = ⊥
 IsUnreadable Judge text = IsNoCapture text
 IsUnreadable Witness text = IsNoCapture text
+
+-- the longest text of a job; a capture that is judged may have any length
+abbrev pub longest : Job → Option ℕ
+longest Judge = None
+longest job = Some 16777216
+
+-- a read failed, or the text is too long for the job
+abbrev pub FailsToTake : Job → (has_failed : Bool) → Option (List ℕ) → Type 0
+FailsToTake Judge has_failed known = FailsToHear has_failed known
+FailsToTake job has_failed known = FailsToRead has_failed known

@@ -1,8 +1,8 @@
 //! Which job runs what.
 
-ghost use Rattle.std.specs.Prelude.{◌≡◌, ◌<◌, ◌⊎◌, true, length, IfOk, IfErr, IfSome, IsErrAnd};
-ghost use Rattle.osi_tool.specs.Doing.{Does, BeginsToDo, IsUnreadable};
-ghost use Rattle.osi_commands.specs.Show.{FailsToRead, TakesAtMost};
+ghost use Rattle.std.specs.Prelude.{◌≡◌, ◌+◌, ◌<◌, ◌⊎◌, true, length, IfOk, IfErr, IfSome, IsErrAnd};
+ghost use Rattle.osi_tool.specs.Doing.{Does, BeginsToDo, FailsToTake, IsUnreadable, longest};
+ghost use Rattle.osi_commands.specs.Show.{TakesAtMost};
 
 use crate::witnessing::witness;
 use osi_commands::{Failure, ToolFault, judge, pair, show};
@@ -24,11 +24,11 @@ pub fn do_job<R: Read, W: Write>(
     ensures done { IfOk result (λ status. IfSome (R.remaining reader.old) (λ text.
         Does job text (W.contents writer.old) (W.contents writer.new) status)) }
     ensures status { IfOk result (λ status. status < 2) }
-    ensures most { TakesAtMost 16777217 (R.remaining reader.old) (R.remaining reader.new) }
-    ensures long { IfSome (R.remaining reader.old) (λ text. 16777216 < length text →
-        IsErrAnd result (λ f. (f.fault ≡ ToolFault.Input) ⊎ (f.fault ≡ ToolFault.OutOfMemory))) }
+    ensures most { IfSome (longest job) (λ most. TakesAtMost (most + 1) (R.remaining reader.old) (R.remaining reader.new)) }
+    ensures long { IfSome (longest job) (λ most. IfSome (R.remaining reader.old) (λ text. most < length text →
+        IsErrAnd result (λ f. (f.fault ≡ ToolFault.Input) ⊎ (f.fault ≡ ToolFault.OutOfMemory)))) }
     ensures input { IfErr result (λ f. f.fault ≡ ToolFault.Input →
-        FailsToRead f.watch.read_failed (R.remaining reader.old) × (writer.new ≡ writer.old)) }
+        FailsToTake job f.watch.read_failed (R.remaining reader.old) × (writer.new ≡ writer.old)) }
     ensures bad_hex { IfErr result (λ f. f.fault ≡ ToolFault.BadHex →
         IfSome (R.remaining reader.old) (IsUnreadable job) × (writer.new ≡ writer.old)) }
     ensures write { IfErr result (λ f. f.fault ≡ ToolFault.Write → (f.watch.write_failed ≡ true)

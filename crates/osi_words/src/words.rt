@@ -55,8 +55,8 @@ skipped, and # begins a comment. The text has at most 16,777,216 octets.";
 const CAPTURES: &str = "\
 Lines of hexadecimal digits, blanks and # comments. Each line is a piece of one side: of the called side,
 which is right, if it begins with a tab, else of the side that called, which is left. The pieces stand in
-the order in which they passed, all octets of both directions from the first on. The text has at most
-16,777,216 octets:
+the order in which they passed, all octets of both directions from the first on. The text may have any
+length, and with --script at most 16,777,216 octets:
 
   tshark -r run.pcap -q -z follow,tcp,raw,0 | sed -n '/^[0-9a-f\\t]*$/p' | osi judge
 
