@@ -2,7 +2,7 @@
 -- and it goes on as more passes. For the law that two kept sides are a pair.
 use Rattle.osi_accord.proofs.Vocabulary.{[], ap, append-nil, arith, Bool, false, length, length-append, length-map, List, map-append}
 use Rattle.osi_accord.proofs.Vocabulary.{true, ℕ, ◌++◌, ◌+◌, ◌∙◌, ◌∷◌, ◌≡◌, ◌≤◌, flat_map-append, Direction}
-use Rattle.osi_accord.proofs.Vocabulary.{Left, Right, Room, Value, adds_all, adds_if, before, begun_octets, Joined, meant}
+use Rattle.osi_accord.proofs.Vocabulary.{Left, Right, Value, adds_all, adds_if, before, begun_octets, Joined, meant}
 use Rattle.osi_accord.proofs.Vocabulary.{packet_begins, Spoken, told, told_of, Told, AreInOrder, AreTold, own, Turn, told_by, turn}
 use Rattle.osi_rules.specs.declared.findings.Meaning.{Meaning}
 
@@ -94,10 +94,10 @@ all_go_on d at false octets turns j h = grind (arith, stays)
 like_one : (turns : List Turn) (j k : Joined) → k.left ≡ j.left → k.right ≡ j.right → GoesOn turns j → GoesOn turns k
 like_one turns j k l r h = grind arith
 
-adds_on : (b : Bool) (room : Room) (d : Direction) (at : ℕ) (end : Bool) (octets : List ℕ) (turns : List Turn) (j : Joined) →
-    IsOrder turns j → GoesOn turns (adds_if b room d at end octets j)
-adds_on true room d at end octets turns j h = grind (arith, like_one, all_go_on d at end octets turns j h)
-adds_on false room d at end octets turns j h = grind (arith, like_one, stays)
+adds_on : (b : Bool) (d : Direction) (at : ℕ) (end : Bool) (octets : List ℕ) (turns : List Turn) (j : Joined) →
+    IsOrder turns j → GoesOn turns (adds_if b d at end octets j)
+adds_on true d at end octets turns j h = all_go_on d at end octets turns j h
+adds_on false d at end octets turns j h = grind (arith, like_one, stays)
 
 pub meant_on : (d : Direction) (at : ℕ) (v : Value) (m : Meaning) (turns : List Turn) (j : Joined) → IsOrder turns j →
     GoesOn turns (meant d at v m j)

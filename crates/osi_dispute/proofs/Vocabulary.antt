@@ -51,7 +51,7 @@ pub use Rattle.osi_tap.specs.KnownSessions.{IsSession}
 pub use Rattle.osi_tap.specs.Lines.{place_in}
 pub use Rattle.osi_tap.specs.Standing.{HoldsState, IsJudged, IsSettled, first_in}
 pub use Rattle.osi_tap.specs.Streams.{Front, Streamed, counted, faulty, gathered, partial, whole}
-pub use Rattle.osi_tap.specs.Tapping.{State, after, begin_within, begun, comes_to, looked_at, octet_passes, stream_of, with_stream}
+pub use Rattle.osi_tap.specs.Tapping.{State, after, begin, begin_within, begun, comes_to, looked_at, octet_passes, stream_of, with_stream}
 pub use Rattle.osi_tap.specs.declared.marks.Cause.{Cause}
 pub use Rattle.osi_tap.specs.declared.marks.Cause.TheVariants.{BadPacket, BadUnit}
 pub use Rattle.osi_tap.specs.declared.marks.First.{First}
