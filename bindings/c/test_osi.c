@@ -527,11 +527,11 @@ static void what_right_sends_first_is_told_late(const uint8_t *first, size_t len
     pass(&judge, OSI_RIGHT, cc, sizeof cc);
     CHECK(has_none(&judge));
     CHECK(osi_judge_verdict(&judge, OSI_NO_CONNECTION, OSI_RIGHT, &verdict) == OSI_OK);
-    CHECK(verdict.kind == OSI_VERDICT_BROKE && verdict.rule == OSI_RULE_UNEXPECTED_UNIT);
+    CHECK(verdict.kind == OSI_VERDICT_BROKE && verdict.rule == OSI_RULE_UNKNOWN_REFERENCE);
     pass(&judge, OSI_LEFT, first, length);
     CHECK(osi_judge_next(&judge, &verdict) == OSI_OK);
     CHECK(verdict.kind == (is_late ? OSI_VERDICT_NOT_JUDGED : OSI_VERDICT_BROKE) && verdict.by == OSI_RIGHT);
-    CHECK(verdict.rule == (is_late ? OSI_RULE_NO_OPENING : OSI_RULE_UNEXPECTED_UNIT));
+    CHECK(verdict.rule == (is_late ? OSI_RULE_NO_OPENING : OSI_RULE_UNKNOWN_REFERENCE));
     osi_judge_free(&judge);
 }
 

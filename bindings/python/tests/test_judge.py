@@ -146,10 +146,10 @@ class Judges(unittest.TestCase):
         self.assertEqual(judge.text().splitlines()[-1], "not judged: the capture begins in the middle of a connection")
 
     def test_what_right_sends_first_is_certain_once_left_has_sent_a_packet(self):
-        for first, rule in ((CR, Rule.UNEXPECTED_UNIT), (DT, Rule.NO_OPENING)):
+        for first, rule in ((CR, Rule.UNKNOWN_REFERENCE), (DT, Rule.NO_OPENING)):
             judge = Judge()
             self.assertEqual(list(judge.feed(TapSide.RIGHT, CC)), [])
-            self.assertEqual(judge.verdict(None, TapSide.RIGHT).rule, Rule.UNEXPECTED_UNIT)
+            self.assertEqual(judge.verdict(None, TapSide.RIGHT).rule, Rule.UNKNOWN_REFERENCE)
             self.assertEqual([one.rule for one in judge.feed(TapSide.LEFT, first)][0], rule)
 
     def test_a_judge_that_was_closed(self):

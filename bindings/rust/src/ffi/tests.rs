@@ -222,7 +222,8 @@ fn sets_are_the_bits_of_c() {
 
 #[test]
 fn verdicts_are_the_numbers_of_c() {
-    let Some(of_c) = layout("verdicts") else { return };
+    let Some(mut of_c) = layout("verdicts") else { return };
+    assert_eq!(of_c.remove("OSI_VERDICT_TEXT"), Some(vec![super::OSI_VERDICT_TEXT]));
     let kinds = KINDS.iter().map(|kind| (c_name("OSI_VERDICT_", &variant(kind)), *kind as u32));
     assert_eq!(kinds.collect::<BTreeMap<_, _>>(), values(&of_c, "OSI_VERDICT_"));
     let rules = RULES.iter().map(|rule| (c_name("OSI_RULE_", &variant(rule)), *rule as u32));
