@@ -16,7 +16,7 @@ sys.path[:0] = [os.path.dirname(os.path.abspath(__file__)), os.path.join(TOP, "t
 from gateways.costs import ECHOES, LINES, echoes  # noqa: E402
 from processor import processor  # noqa: E402
 
-RUNS, CALLS, MESSAGES = int(os.environ.get("X_RUNS", 7)), 20000, 5000
+RUNS, CALLS, MESSAGES = 7, 20000, 5000
 DATA = bytes(range(100))
 # What each process measures, by the unit of its figures.
 ROWS = ("a call for data of 100 octets", "an indication of them", "a message of 100 octets, asyncio, class 0", "the same, class 2",
