@@ -8,6 +8,7 @@
 //! - `checks`: what a test found;
 //! - `sessions`: plans, the greatest lengths of user data, a first part that is too long;
 //! - `sides`, `captures`: which side first broke the protocol; a long capture;
+//! - `taps`: what a bound counts; long TSDUs and pieces, many units in a packet, and many connections;
 //! - `stacks`: a selector that is too long, a called end that asks for a connection, two connections distinguished by
 //!   the address they ask for, one of which is given up.
 #![tactic(auto)]
@@ -22,3 +23,5 @@ mod sessions;
 mod sides;
 #[cfg(test)]
 mod stacks;
+#[cfg(test)]
+mod taps;
