@@ -10,13 +10,3 @@ consumes-append None b c xs ys h k = tt
 consumes-append (Some x) None c xs ys h k = absurd h
 consumes-append (Some x) (Some y) None xs ys h k = absurd k
 consumes-append (Some x) (Some y) (Some z) xs ys h k = h ∙ ap (λ t. xs ++ t) k ∙ sym (append_assoc xs ys z)
-
--- An input that is no longer than the longest allowed is all that there was to read.
-pub all_read : (old new : Option (List ℕ)) (input : List ℕ) → Consumes old new input → IsRead new input → length input ≤ 16777216
-    → IfSome old (λ text. input ≡ text)
-all_read None new input h k l = tt
-all_read (Some x) None input h k l = absurd h
-all_read (Some x) (Some y) input h k l = elim k [
-  | inl e ↦ sym (h ∙ ap (λ t. input ++ t) e ∙ append-nil input)
-  | inr m ↦ absurd (omega (arith, l, m))
-]
