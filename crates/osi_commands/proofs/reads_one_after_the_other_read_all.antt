@@ -1,9 +1,7 @@
--- Reads one after the other, and what is known of a text that was read as a whole.
-use Rattle.std.proofs.Common.{ℕ, ◌≡◌, ◌<◌, ◌≤◌, Option, Some, None, List, ◌++◌, length, sym, ◌∙◌, ap, subst, inl, inr, arith}
-use Rattle.std.proofs.lemmas.List.{append_assoc, append-nil}
-use Rattle.std.specs.Option.{IfSome}
+-- Reads one after the other take what is known of a text, one piece after the other.
+use Rattle.std.proofs.Common.{ℕ, ◌≡◌, Option, Some, None, List, ◌++◌, sym, ◌∙◌, ap}
+use Rattle.std.proofs.lemmas.List.{append_assoc}
 use Rattle.std.specs.Io.KnownBytes.{Consumes}
-use Rattle.osi_commands.specs.Show.{IsRead}
 
 pub consumes-append : (a b c : Option (List ℕ)) (xs ys : List ℕ) → Consumes a b xs → Consumes b c ys → Consumes a c (xs ++ ys)
 consumes-append None b c xs ys h k = tt
