@@ -1,5 +1,6 @@
 """Tests of `osi-capture watch`, over what `osi` printed of examples/disputes; with a capture if tshark is installed."""
 import contextlib
+import gc
 import io
 import os
 import shutil
@@ -290,10 +291,13 @@ class Months(unittest.TestCase):
 
     def test_memory_stays_flat(self):
         """bench/watch.py does the same with 100,000 streams and 1,000,000 TSDUs."""
-        steady = self.steady()
-        with mock.patch.object(watch, "REMEMBERED", 100):
-            first, last = self.memory(300, steady), self.memory(1_200, steady)
-        self.assertLess(last - first, 2 << 20)
+        steady, counts = self.steady(), []
+        with mock.patch.object(watch, "REMEMBERED", 50):
+            for _ in range(2):
+                self.memory(150, steady)
+                gc.collect()
+                counts.append(len(gc.get_objects()))
+        self.assertLess(counts[1] - counts[0], 50)
 
     def steady(self):
         """A stream that goes on for long."""
