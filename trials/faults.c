@@ -31,7 +31,7 @@ static struct text history;
 static struct text used;
 static struct told told;
 static enum said said;
-static bool begins_in_the_middle;
+static bool begins_in_the_middle, has_sent;
 static uint32_t side_of_one;
 static uint64_t counted[2][2][CODES][SAYINGS];
 
@@ -117,6 +117,7 @@ static void peer_is_fed(void)
     osi_octets there;
     osi_outgoing(&one, &there);
     note("sent", there.at, there.length);
+    has_sent = has_sent || there.length > 0;
     judge_feeds(side_of_one, there.at, there.length);
     for (size_t at = 0; at < there.length;) {
         osi_fed fed;
@@ -177,11 +178,12 @@ static uint8_t code_of_the_last(void)
     return code;
 }
 
-/* Where a judge may say less of the peer than the end does. What begins with another unit than a CR may have begun before. And a DC
- * with any references may answer a DR that refused a CR. */
+/* Where a judge may say less of the peer than the end does. What begins with another unit than a CR may have begun before, which is
+ * certain once a packet of the calling side has passed. And a DC with any references may answer a DR that refused a CR. */
 static bool is_liberty(void)
 {
-    return begins_in_the_middle || (said == NOTHING_SAID && code_of_the_last() == 0xc0);
+    bool is_undecided = side_of_one == OSI_LEFT && !has_sent;
+    return begins_in_the_middle || (said == NOTHING_SAID && (is_undecided || code_of_the_last() == 0xc0));
 }
 
 static void live_once(uint32_t class)
@@ -195,7 +197,7 @@ static void live_once(uint32_t class)
     text_clear(&used);
     told = (struct told){false, 0};
     said = NOTHING_SAID;
-    begins_in_the_middle = false;
+    begins_in_the_middle = has_sent = false;
     side_of_one = is_caller ? OSI_LEFT : OSI_RIGHT;
     if ((is_caller ? osi_caller : osi_called)(&one, &terms) || (is_caller ? osi_called : osi_caller)(&peer, &terms) || osi_judge_new(&judge))
         abort();

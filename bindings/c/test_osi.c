@@ -685,25 +685,35 @@ static void each_word_is_known(void)
     }
 }
 
-/* More passes on the first connection than is judged of one: that is said once of each of its sides, and the second is judged on. */
-static void more_than_is_judged_of_a_connection_passes(void)
+/* The most that a judge keeps of a connection, what each TSDU of it counts beside its octets, and how many these are of CN and AC. */
+#define MOST_KEPT 1048576u
+#define OF_EACH_TSDU 48u
+#define OPENING (2 * (20 + OF_EACH_TSDU))
+
+/* More than is kept of a connection passes on the first: a TSDU of each side that has no end. That is said once of each of its sides,
+ * and the second is judged on. */
+static void more_than_is_kept_of_a_connection_passes(void)
 {
+    enum { PART = 1000, HEADERS = 9 };
+    static uint8_t part[HEADERS + PART] = {3, 0, (HEADERS + PART) >> 8, (HEADERS + PART) & 255, 4, 0xF0, 0, 2, 0, 1, 0, 1, 0};
     osi_judge judge = OSI_JUDGE;
     osi_verdict verdict;
     CHECK(osi_judge_new(&judge) == OSI_OK);
     open_on(&judge, 1);
     open_on(&judge, 3);
     uint8_t ak[] = {3, 0, 0, 9, 4, 0x6F, 0, 1, 0};
-    dt2[7] = 2;
-    int sent = 0;
+    unsigned sent = 0;
     do {
-        dt2[8] = 0x80 | ((1 + sent++) & 127);
-        pass(&judge, OSI_LEFT, dt2, sizeof dt2);
-        ak[8] = (uint8_t)((1 + sent) & 127);
-        pass(&judge, OSI_RIGHT, ak, sizeof ak);
+        const uint32_t side = sent % 2;
+        part[7] = side == OSI_LEFT ? 2 : 1;
+        part[8] = (1 + sent++ / 2) & 127;
+        pass(&judge, side, part, sizeof part);
+        ak[7] = 3 - part[7];
+        ak[8] = (part[8] + 1) & 127;
+        pass(&judge, 1 - side, ak, sizeof ak);
     } while (osi_judge_next(&judge, &verdict) == OSI_NOTHING && sent < 5000);
-    /* CN, AC and DTs count 20 and 8 octets of user data, each with 48 more. */
-    CHECK(sent == (196608 - 2 * (20 + 48)) / (8 + 48) + 1);
+    /* The last DT is the first for which there is no room beside the others. */
+    CHECK(sent == (MOST_KEPT - OPENING - OF_EACH_TSDU - PART) / PART + 2);
     for (uint32_t side = OSI_LEFT; side <= OSI_RIGHT; side++) {
         CHECK(verdict.side == side && verdict.kind == OSI_VERDICT_NOT_JUDGED && verdict.rule == OSI_RULE_LIMIT);
         CHECK(verdict.connection == 0 && verdict.left == 1 && verdict.right == 2);
@@ -720,42 +730,51 @@ static void more_than_is_judged_of_a_connection_passes(void)
 }
 
 #ifdef KNOWS_WHAT_IS_ALLOCATED
-/* How much memory a connection takes if data passes on it until it is judged no more, in TSDUs of this length that differ. */
-static size_t taken_on_a_connection(size_t length)
+/* A connection of class 0 whose TPDUs have up to 8,192 octets. */
+static void open_large(osi_judge *judge)
 {
-    static uint8_t data[8196], large_cr[sizeof cr], large_cc[sizeof cc];
-    const size_t before = allocated();
-    osi_judge judge = OSI_JUDGE;
-    osi_verdict verdict;
+    uint8_t large_cr[sizeof cr], large_cc[sizeof cc];
     memcpy(large_cr, cr, sizeof cr);
     memcpy(large_cc, cc, sizeof cc);
-    large_cr[13] = large_cc[13] = 13; /* TPDUs of 8,192 octets */
+    large_cr[13] = large_cc[13] = 13;
+    CHECK(osi_judge_new(judge) == OSI_OK);
+    pass(judge, OSI_LEFT, large_cr, sizeof large_cr);
+    pass(judge, OSI_RIGHT, large_cc, sizeof large_cc);
+    cn[7] = 13;
+    pass(judge, OSI_LEFT, cn, sizeof cn);
+    cn[7] = 14;
+    pass(judge, OSI_RIGHT, cn, sizeof cn);
+}
+
+/* How much memory a connection takes on which so many packets of data of this length passed: TSDUs of left, or parts of a TSDU of each
+ * side. */
+static size_t taken_by_data(size_t length, size_t count, bool is_whole)
+{
+    static uint8_t data[8196];
+    const size_t before = allocated();
+    osi_judge judge = OSI_JUDGE;
     memcpy(data, dt, sizeof dt);
     data[2] = (uint8_t)(length >> 8);
     data[3] = (uint8_t)(length & 255);
-    CHECK(osi_judge_new(&judge) == OSI_OK);
-    pass(&judge, OSI_LEFT, large_cr, sizeof large_cr);
-    pass(&judge, OSI_RIGHT, large_cc, sizeof large_cc);
-    cn[7] = 13;
-    pass(&judge, OSI_LEFT, cn, sizeof cn);
-    cn[7] = 14;
-    pass(&judge, OSI_RIGHT, cn, sizeof cn);
-    do {
+    data[6] = is_whole ? 0x80 : 0;
+    open_large(&judge);
+    while (count-- > 0) {
         data[length - 1]++;
-        pass(&judge, OSI_LEFT, data, length);
-    } while (osi_judge_next(&judge, &verdict) == OSI_NOTHING);
-    CHECK(verdict.kind == OSI_VERDICT_NOT_JUDGED && verdict.rule == OSI_RULE_LIMIT);
+        pass(&judge, is_whole ? OSI_LEFT : count % 2, data, length);
+    }
+    CHECK(kind_so_far(&judge, 0, OSI_LEFT) == (is_whole ? OSI_VERDICT_KEPT : OSI_VERDICT_NOT_JUDGED));
     const size_t taken = allocated() - before;
     osi_judge_free(&judge);
     return taken;
 }
 
-/* Whatever the lengths of its TSDUs, a connection takes at most 1 MiB. */
+/* However much data passes on a connection, it takes next to nothing; and at most 6 MiB, if the TSDUs of both sides have no end. */
 static void a_connection_takes_little_memory(void)
 {
     static const size_t lengths[] = {12, 13, 19, 24, 40, 48, 100, 1000, 8196};
     for (size_t i = 0; i < sizeof lengths / sizeof *lengths; i++)
-        CHECK(taken_on_a_connection(lengths[i]) <= 1048576);
+        CHECK(taken_by_data(lengths[i], 3000, true) <= 65536);
+    CHECK(taken_by_data(8196, 200, false) <= 6u * 1048576u);
 }
 #else
 static void a_connection_takes_little_memory(void)
@@ -834,7 +853,7 @@ int main(void)
     what_right_sends_first_is_told_late(dt, sizeof dt, true);
     a_break_is_told_of_its_connection();
     a_break_of_transport_is_told();
-    more_than_is_judged_of_a_connection_passes();
+    more_than_is_kept_of_a_connection_passes();
     verdicts_are_written();
     each_word_is_known();
     a_connection_takes_little_memory();

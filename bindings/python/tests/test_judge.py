@@ -129,8 +129,9 @@ class Judges(unittest.TestCase):
 
     def test_a_judge_keeps_no_more_than_its_bound(self):
         judge, told = opened(), []
+        part = DT[:6] + b"\0" + DT[7:]  # a part of a TSDU that has no end
         while not told:
-            told = list(judge.feed(TapSide.LEFT, DT))
+            told = [one for side in TapSide for one in judge.feed(side, part * 1000)]
         self.assertEqual([(one.side, one.kind, one.rule) for one in told],
                          [(side, VerdictKind.NOT_JUDGED, Rule.LIMIT) for side in TapSide])
         self.assertEqual(list(judge.feed(TapSide.RIGHT, DT)), [])

@@ -376,9 +376,10 @@ impl fmt::Display for Verdict {
 /// connections: the transport of each side, and the session of each side of each connection. It needs no
 /// [`End`](crate::End), no key and no clock.
 ///
-/// Of each connection it keeps the TSDUs that passed, in at most 1 MiB. A DT counts the octets of its user data and 48
-/// more, and 196,608 are judged. What passes on the connection after that is not judged, and a side that was kept
-/// until then has [`VerdictKind::NotJudged`] with [`Rule::Limit`].
+/// Of each connection it keeps the TSDUs that passed, without their user data and equal ones in a row once, and what has
+/// passed of unfinished ones: at most 1,048,576 octets, of which each TSDU counts 48 more than it has. So data may pass
+/// for ever. If there is no room for a DT, the connection is judged no further, and a side that was kept until then has
+/// [`VerdictKind::NotJudged`] with [`Rule::Limit`].
 ///
 /// ```
 /// use osi_session::{Judge, Rule, TapSide, VerdictKind};

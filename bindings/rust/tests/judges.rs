@@ -55,15 +55,17 @@ fn a_break_is_told_once() {
 #[test]
 fn a_judge_keeps_no_more_than_its_bound() {
     let mut judge = opened();
+    // A part of a TSDU that has no end, of each side.
+    let part = [&DT[..6], &[0], &DT[7..]].concat();
     let mut sent = 0;
     let told = loop {
-        judge.feed(TapSide::Left, DT).unwrap();
+        judge.feed(if sent % 2 == 0 { TapSide::Left } else { TapSide::Right }, &part).unwrap();
         sent += 1;
         if let Some(told) = judge.next_verdict().unwrap() {
             break told;
         }
     };
-    assert!(sent > 3000);
+    assert!(sent * part.len() > 1_000_000);
     assert_eq!((told.side, told.kind, told.rule), (TapSide::Left, VerdictKind::NotJudged, Rule::Limit));
     let told = judge.next_verdict().unwrap().unwrap();
     assert_eq!((told.side, told.kind, told.rule), (TapSide::Right, VerdictKind::NotJudged, Rule::Limit));
