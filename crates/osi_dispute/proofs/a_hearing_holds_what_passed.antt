@@ -1,7 +1,8 @@
 -- A hearing that has heard more of a text holds what passed: for the methods of `Hearing`.
 use Rattle.std.proofs.Common.{is_some, OnOk, Result, Ok, Err}
-use Rattle.osi_dispute.proofs.Vocabulary.{◌≡◌, ◌∙◌, refl, sym, ap, subst, ℕ, true, false, List, [], ◌∷◌, ◌++◌, Option, Some, None, arith, append-nil, append_assoc}
-use Rattle.osi_dispute.proofs.Vocabulary.{Capture, Direction, of, piece, stream, Tap, HoldsState, comes_to, Opening, Opens, IsCaptureOf, Judges}
+use Rattle.osi_dispute.proofs.Vocabulary.{◌≡◌, ◌∙◌, refl, sym, ap, subst, ℕ, true, false, List, [], ◌∷◌, ◌++◌}
+use Rattle.osi_dispute.proofs.Vocabulary.{Option, Some, None, arith, append-nil}
+use Rattle.osi_dispute.proofs.Vocabulary.{Capture, stream, Tap, HoldsState, comes_to, Opening, Opens, IsCaptureOf, Judges}
 use Rattle.osi_dispute.proofs.Vocabulary.{IsJudgement, unjudged}
 use Rattle.osi_judge.specs.declared.directions.Direction.TheVariants as side
 use Rattle.osi_listing.specs.Capture.{IsNoCapture}
@@ -18,7 +19,8 @@ use Rattle.osi_dispute.proofs.what_passes_is_the_capture_of_the_text.{is_capture
 -- octets of a side pass, by what is known of a tap and of how left begins
 pub record Pass (old new : Hearing) (passed : Capture) : Type 0 where
   pub tap : (capture : Capture) → HoldsState old.tap (comes_to capture) → HoldsState new.tap (comes_to (capture ++ passed))
-  pub opening : (capture : Capture) → Opens old.opening (stream side.Left capture) → Opens new.opening (stream side.Left (capture ++ passed))
+  pub opening : (capture : Capture) → Opens old.opening (stream side.Left capture)
+      → Opens new.opening (stream side.Left (capture ++ passed))
 
 -- octets passed
 pub heard_more : (old new : Hearing) (passed : Capture) (whole rest more : List ℕ) → Pass old new passed → new.fault ≡ old.fault
@@ -77,7 +79,8 @@ none_held t o capture e h =
 pub none_opens : (b : Opening) (o : Option Passing) (capture : Capture) → o ≡ None → Opens b (stream side.Left capture)
     → Opens b (stream side.Left (capture ++ passed_by o))
 none_opens b o capture e h =
-    subst (λ (x : Capture). Opens b (stream side.Left x)) (sym (ap (λ (p : Option Passing). capture ++ passed_by p) e ∙ append-nil capture)) h
+    subst (λ (x : Capture). Opens b (stream side.Left x))
+    (sym (ap (λ (p : Option Passing). capture ++ passed_by p) e ∙ append-nil capture)) h
 
 -- a text that is fed at once
 pub heard_at_once : (h : Hearing) (text : List ℕ) → ((t : List ℕ) → IsHeard h t t) → IsHeard h text (text ++ [])

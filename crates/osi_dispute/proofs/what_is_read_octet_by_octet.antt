@@ -3,8 +3,10 @@ use Rattle.std.proofs.Common.{◌+◌, ◌*◌, ◌-◌, ◌≤◌, slice_index}
 use Rattle.std.proofs.lemmas.List.{take_all}
 use Rattle.hex.specs.Hex.{hex_digit_value}
 use Rattle.osi_listing.proofs.digits_give_octets.{digit_no_blank}
-use Rattle.osi_dispute.proofs.Vocabulary.{◌≡◌, ◌∙◌, refl, sym, ap, subst, ℕ, ◌==◌, Bool, true, false, List, [], ◌∷◌, ◌++◌, length, take, drop}
-use Rattle.osi_dispute.proofs.Vocabulary.{Option, Some, None, inl, inr, arith, eqb_tells, append_assoc, map-append, Direction, Capture, of, piece}
+use Rattle.osi_dispute.proofs.Vocabulary.{◌≡◌, ◌∙◌, refl, sym, ap, subst, ℕ, ◌==◌, Bool, true, false, List, [], ◌∷◌, ◌++◌}
+use Rattle.osi_dispute.proofs.Vocabulary.{length, take, drop}
+use Rattle.osi_dispute.proofs.Vocabulary.{Option, Some, None, inl, inr, arith, eqb_tells, append_assoc, map-append}
+use Rattle.osi_dispute.proofs.Vocabulary.{Direction, Capture, of, piece}
 use Rattle.osi_dispute.specs.declared.places.Place.{Place}
 use Rattle.osi_dispute.specs.declared.places.Step.{Step}
 use Rattle.osi_dispute.specs.Passing.{after_passed, digit_read, if_step, on_line, outside, passed_from, plain, side_at, step_of}

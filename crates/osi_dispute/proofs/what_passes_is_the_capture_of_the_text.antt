@@ -6,12 +6,15 @@ use Rattle.std.proofs.lemmas.List.{drop-drop}
 use Rattle.std.specs.Option.{option_map}
 use Rattle.std.specs.List.{slice_split}
 use Rattle.hex.specs.Hex.{decode_of, hex_digit_value}
-use Rattle.osi_listing.specs.Capture.{IsNoCapture, after_octets, digits_of, digits_of_lines, if_digit, is_line_feed, octets_from, with_digit}
+use Rattle.osi_listing.specs.Capture.{IsNoCapture, after_octets, digits_of, digits_of_lines, if_digit, is_line_feed}
+use Rattle.osi_listing.specs.Capture.{octets_from, with_digit}
 use Rattle.osi_listing.proofs.digits_give_octets.{all_are_digits, no_capture_here}
 use Rattle.osi_names.specs.Lines.{lines_of}
-use Rattle.osi_dispute.proofs.Vocabulary.{◌≡◌, ◌∙◌, refl, sym, ap, subst, ℕ, ◌==◌, Bool, true, false, not, List, [], ◌∷◌, ◌++◌, length, take}
-use Rattle.osi_dispute.proofs.Vocabulary.{drop, filter, Option, Some, None, inl, inr, arith, eqb_tells, append_assoc, append-nil, map-append}
-use Rattle.osi_dispute.proofs.Vocabulary.{flat_map, before_first, is_blank, is_comment_sign, Direction, Capture, of, piece, side_of, digits_on}
+use Rattle.osi_dispute.proofs.Vocabulary.{◌≡◌, ◌∙◌, refl, sym, ap, subst, ℕ, ◌==◌, Bool, true, false, not, List, [], ◌∷◌, ◌++◌}
+use Rattle.osi_dispute.proofs.Vocabulary.{length, take, drop, filter, Option, Some, None, inl, inr, arith, eqb_tells}
+use Rattle.osi_dispute.proofs.Vocabulary.{append_assoc, append-nil, map-append}
+use Rattle.osi_dispute.proofs.Vocabulary.{flat_map, before_first, is_blank, is_comment_sign, Direction, Capture, of, piece}
+use Rattle.osi_dispute.proofs.Vocabulary.{side_of, digits_on}
 use Rattle.osi_dispute.proofs.Vocabulary.{digits_left, capture_of, rows_of, IsCaptureOf}
 use Rattle.osi_dispute.specs.Rows.{is_tabbed, begun_on, ends_within, rows_from}
 use Rattle.osi_dispute.specs.declared.places.Half.{Half}
@@ -61,7 +64,8 @@ by_lines p (line ∷ lines) octets =
     ++ on_lines (side_on p.begins p.direction line) (is_begun p.half) (digits_left p.in_comment line) lines (behind p.half octets)
 
 abbrev all_by_lines : Place → List (List ℕ) → Option Capture
-all_by_lines p lines = option_map (λ (octets : List ℕ). by_lines p lines octets) (octets_from (digits_in p.in_comment lines) (high_of p.half))
+all_by_lines p lines =
+    option_map (λ (octets : List ℕ). by_lines p lines octets) (octets_from (digits_in p.in_comment lines) (high_of p.half))
 
 -- ---- small facts
 
@@ -101,7 +105,8 @@ at_line_feed side false false (Some h) line lines = refl
 -- ---- a character of a comment, the sign that begins one, and blanks
 
 in_a_comment : (side : Direction) (begins : Bool) (half : Option Half) (c : ℕ) (line : List ℕ) (lines : List (List ℕ))
-    → all_by_lines (record { direction = if begins then side_of (c == 9) else side; begins = false; in_comment = true; half = half }) (line ∷ lines)
+    → all_by_lines (record { direction = if begins then side_of (c == 9) else side; begins = false; in_comment = true; half = half })
+    (line ∷ lines)
     ≡ all_by_lines (record { direction = side; begins = begins; in_comment = true; half = half }) ((c ∷ line) ∷ lines)
 in_a_comment side true None c line lines = refl
 in_a_comment side false None c line lines = refl
@@ -109,7 +114,8 @@ in_a_comment side true (Some h) c line lines = refl
 in_a_comment side false (Some h) c line lines = refl
 
 at_a_sign : (side : Direction) (begins : Bool) (half : Option Half) (line : List ℕ) (lines : List (List ℕ))
-    → all_by_lines (record { direction = if begins then side_of (35 == 9) else side; begins = false; in_comment = true; half = half }) (line ∷ lines)
+    → all_by_lines (record { direction = if begins then side_of (35 == 9) else side; begins = false; in_comment = true; half = half })
+    (line ∷ lines)
     ≡ all_by_lines (record { direction = side; begins = begins; in_comment = false; half = half }) ((35 ∷ line) ∷ lines)
 at_a_sign side true None line lines = refl
 at_a_sign side false None line lines = refl
@@ -151,7 +157,8 @@ row_after half side lines n octets = completed half octets ++ on_lines side (is_
 
 at_a_blank : (side : Direction) (begins : Bool) (half : Option Half) (c : ℕ) (line : List ℕ) (lines : List (List ℕ))
     → is_comment_sign c ≡ false → is_blank c ≡ true
-    → all_by_lines (record { direction = if begins then side_of (c == 9) else side; begins = false; in_comment = false; half = half }) (line ∷ lines)
+    → all_by_lines (record { direction = if begins then side_of (c == 9) else side; begins = false; in_comment = false; half = half })
+    (line ∷ lines)
     ≡ all_by_lines (record { direction = side; begins = begins; in_comment = false; half = half }) ((c ∷ line) ∷ lines)
 at_a_blank side true half c line lines e b =
     same_lines (row_after half (side_of (c == 9)) lines) (digits_on line) (digits_on (c ∷ line)) (digits_of_lines (line ∷ lines))
@@ -199,7 +206,8 @@ second_on : (own side : Direction) (x d : ℕ) (lines : List (List ℕ)) (o : Op
 second_on own side x d lines None = refl
 second_on own side x d lines (Some m) = rw (even_again d) refl
 
-digit_first : (side : Direction) (c v d k : ℕ) (ds es : List ℕ) (lines : List (List ℕ)) → hex_digit_value c ≡ Some v → k ≡ d + 1 → es ≡ c ∷ ds
+digit_first : (side : Direction) (c v d k : ℕ) (ds es : List ℕ) (lines : List (List ℕ)) → hex_digit_value c ≡ Some v → k ≡ d + 1
+    → es ≡ c ∷ ds
     → after_passed [] (option_map (λ (octets : List ℕ). piece side (take 1 octets) ++ on_lines side true d lines (drop 1 octets))
     (octets_from ds (Some v)))
     ≡ option_map (λ (octets : List ℕ). [] ++ on_lines side false k lines octets) (octets_from es None)
@@ -275,7 +283,8 @@ by_value side begins half c line lines (Some v) h e b = at_a_digit side begins h
 
 by_blank : (side : Direction) (begins : Bool) (half : Option Half) (c : ℕ) (line : List ℕ) (lines : List (List ℕ)) (b : Bool)
     → is_blank c ≡ b → is_comment_sign c ≡ false
-    → if_step (if b then Some (quiet (line_place side begins false half c)) else if_value (hex_digit_value c) (line_place side begins false half c))
+    → if_step (if b then Some (quiet (line_place side begins false half c))
+    else if_value (hex_digit_value c) (line_place side begins false half c))
     (λ (q : Place). all_by_lines q (line ∷ lines))
     ≡ all_by_lines (record { direction = side; begins = begins; in_comment = false; half = half }) ((c ∷ line) ∷ lines)
 by_blank side begins half c line lines true b e =
@@ -344,12 +353,14 @@ on_a_line c text e h p =
     ap (λ (b : Bool). if_step (if b then Some (quiet (record p { begins = true; in_comment = false })) else on_line c q)
     (λ (r : Place). passed_from r text)) e
     ∙ same_after (on_line c q) (λ (r : Place). passed_from r text) (λ (r : Place). all_by_lines r (slice_split is_line_feed text)) h
-    ∙ subst (λ (ls : List (List ℕ)). if_step (on_line c q) (λ (r : Place). all_by_lines r ls) ≡ all_by_lines p (slice_split is_line_feed (c ∷ text)))
+    ∙ subst (λ (ls : List (List ℕ)). if_step (on_line c q) (λ (r : Place). all_by_lines r ls)
+    ≡ all_by_lines p (slice_split is_line_feed (c ∷ text)))
     (sym some.2)
     (by_comment p.direction p.begins p.in_comment p.half c some.0 some.1
     ∙ ap (all_by_lines p) (sym (line_splits c text some.0 some.1 e some.2)))
 
-one_more : (c : ℕ) (text : List ℕ) (p : Place) → Passes text → passed_from p (c ∷ text) ≡ all_by_lines p (slice_split is_line_feed (c ∷ text))
+one_more : (c : ℕ) (text : List ℕ) (p : Place) → Passes text
+    → passed_from p (c ∷ text) ≡ all_by_lines p (slice_split is_line_feed (c ∷ text))
 one_more c text p h = elim (eqb_tells c 10) [
   | inl e ↦ subst (λ (x : ℕ). passed_from p (x ∷ text) ≡ all_by_lines p (slice_split is_line_feed (x ∷ text))) (sym e.1) (at_feed text h p)
   | inr n ↦ on_a_line c text n.0 h p
@@ -383,7 +394,8 @@ captured_by text capture None e some h = absurd (grind (arith, e, h))
 captured_by text capture (Some octets) e some h = record {
   octets = octets;
   captured = all_are_digits (digits_of text) octets e;
-  passed = sym (by_rows text octets capture some (ap (λ (o : Option (List ℕ)). option_map (by_lines start (slice_split is_line_feed text)) o) (sym e) ∙ h));
+  passed = sym (by_rows text octets capture some
+      (ap (λ (o : Option (List ℕ)). option_map (by_lines start (slice_split is_line_feed text)) o) (sym e) ∙ h));
 }
 
 none_read : (text : List ℕ) (o : Option (List ℕ)) → octets_from (digits_of text) None ≡ o
@@ -394,7 +406,8 @@ none_read text (Some octets) e h = absurd (grind (arith, e, h))
 -- what passes is the capture of the text
 pub is_capture : (text : List ℕ) (capture : Capture) → passed_from start text ≡ Some capture → IsCaptureOf text capture
 unfolding lines_of
-is_capture text capture h = captured_by text capture (octets_from (digits_of text) None) refl (split_some text) (sym (passes text start) ∙ h)
+is_capture text capture h =
+    captured_by text capture (octets_from (digits_of text) None) refl (split_some text) (sym (passes text start) ∙ h)
 
 -- what can't be read is no capture
 pub is_none : (text : List ℕ) → passed_from start text ≡ None → IsNoCapture text

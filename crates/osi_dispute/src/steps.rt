@@ -5,7 +5,8 @@ ghost use Rattle.hex.specs.Hex.{hex_digit_value};
 ghost use Rattle.osi_judge.specs.Captures.{piece};
 ghost use Rattle.osi_judge.specs.declared.directions.Direction.{Direction};
 ghost use Rattle.osi_listing.specs.Capture.{is_blank};
-ghost use Rattle.osi_dispute.specs.Passing.{after_passed, digit_of, digit_read, on_line, passed_from, plain, quiet, side_at, start, step_of};
+ghost use Rattle.osi_dispute.specs.Passing.{after_passed, digit_of, digit_read, on_line, passed_from, plain};
+ghost use Rattle.osi_dispute.specs.Passing.{quiet, side_at, start, step_of};
 ghost use Rattle.osi_dispute.specs.Rows.{side_of};
 
 use crate::places::{Half, Passing, Place, Step};
