@@ -145,8 +145,8 @@ def block(kind, body):
 
 def told(segment):
     """What a segment says."""
-    return [getattr(segment, name) for name in ("frame", "time", "stream", "source", "target", "sequence", "octets", "acknowledged", "missing",
-                                                "captured", "is_first", "is_last", "is_reset", "is_answer")]
+    return [getattr(segment, name) for name in ("frame", "time", "stream", "source", "target", "sequence", "octets", "acknowledged",
+                                                "missing", "captured", "is_first", "is_last", "is_reset", "is_answer")]
 
 
 class Room(unittest.TestCase):

@@ -10,8 +10,8 @@ from ladders import script, tapped
 
 from . import asking, judging, kinds, middle, outcome, program, streams, tshark
 from .tshark import BadInput
-from .test_frames import (AA, AB, AC, ACK, CC, CN, CR, DT, FIN, FIRST, FN, MIP, PUSH, RESET, SYN, TOKENS, Frames, data, packet, segment_of, stream_of,
-                          whole)
+from .test_frames import (AA, AB, AC, ACK, CC, CN, CR, DT, FIN, FIRST, FN, MIP, PUSH, RESET, SYN, TOKENS, Frames, data, packet,
+                          segment_of, stream_of, whole)
 
 BUILT = (os.path.join(script.TOP, "crates", "osi_tool", "out", *place) for place in (("osi_tool",), ("unproved", "osi")))
 OSI = next((place for place in BUILT if os.path.exists(place)), None)

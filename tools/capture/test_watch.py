@@ -286,7 +286,8 @@ class Months(unittest.TestCase):
         made = Frames(ports={"left": 41_000, "right": 102}).open()
         start = made.next["left"]
         made.put("left", data(b"\1\0\1\0wrong"), PUSH | ACK).put("left", data(b"\1\0\1\0right"), PUSH | ACK, sequence=start)
-        self.assertRegex(self.fed(made.frames), "left broke .*\n.* sent again as others in frame 18, so what was said of later frames is not")
+        said = "sent again as others in frame 18, so what was said of later frames is not certain"
+        self.assertRegex(self.fed(made.frames), f"left broke .*\n.* {said}")
         self.assertEqual(self.watching.status(), 3)
 
     def test_memory_stays_flat(self):

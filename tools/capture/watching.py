@@ -228,8 +228,8 @@ class Fed(Watched):
     def at_the_end(self):
         """The verdict on a stream that is over, or of which no more is captured; the line is None if breaks were told."""
         if self.left is None:
-            begun = self.stream.opener is not None
-            return "not judged: " + (asking.ALONE if self.stream.is_alone() else "nothing passed" if begun else "begins in the middle"), None
+            begun = "nothing passed" if self.stream.opener is not None else "begins in the middle"
+            return f"not judged: {asking.ALONE if self.stream.is_alone() else begun}", None
         if self.stream.is_alone():
             return f"not judged: {asking.ALONE}", None
         if self.statuses:
