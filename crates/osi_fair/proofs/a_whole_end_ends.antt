@@ -83,7 +83,7 @@ module _ (local : Local) (w : Whole) (f : Followed local w) (sane : IsSane w.tap
   takes_by : (b : Bool) (u : Value) (later : List Value) → is_some (react u w.end).ended ≡ b → w.coming ≡ u ∷ later →
       ((react u w.end).ended ≡ None → w.end.ended ≡ None) →
       (w.end.ended ≡ None → IsDr u → (m : ℕ) → closed_by u ≡ Some m → IsLive w.end m ⊎ (w.tap.course.disconnects.strays ≡ true)) →
-          SelectsTwo w.end u →
+      SelectsTwo w.end u →
       Followed local (after u later)
   takes_by true u later h e was live_dr selects =
       with_nothing local w (react u w.end) later (put_for u w.end) (ended_puts (is_some w.end.ended) u w.end refl offers h)
@@ -94,7 +94,7 @@ module _ (local : Local) (w : Whole) (f : Followed local w) (sane : IsSane w.tap
 
   pub whole_takes : (u : Value) (later : List Value) → w.coming ≡ u ∷ later → ((react u w.end).ended ≡ None → w.end.ended ≡ None) →
       (w.end.ended ≡ None → IsDr u → (m : ℕ) → closed_by u ≡ Some m → IsLive w.end m ⊎ (w.tap.course.disconnects.strays ≡ true)) →
-          SelectsTwo w.end u →
+      SelectsTwo w.end u →
       Followed local (after u later)
   whole_takes u later e was live_dr selects = takes_by (is_some (react u w.end).ended) u later refl e was live_dr selects
 

@@ -130,9 +130,12 @@ own_turned r peer course in_use old new (unit, first, begun, new_is) was h =
     judged_same old.tap.is_judged (found Right course in_use old.tap unit) was
     ∙ kept_turned course in_use old.tap unit (right.kept course in_use) in
     let tap_is = finding_turned Right (finding_of Right course in_use old.tap unit) unit old.tap
-    ∙ ap (λ (f : Finding). after_finding Left f unit (turned old.tap)) (kept ∙ sym turned_kept) in
-    (unit, first, begun,
-    ap turned_line new_is ∙ ap (λ (c : Connection). record (turned_line old) { put = new.put; begun = false; tap = c }) tap_is)
+    ∙ ap (λ (f : Finding). after_finding Left f unit (turned old.tap)) (kept ∙ sym turned_kept) in (
+      unit,
+      first,
+      begun,
+      ap turned_line new_is ∙ ap (λ (c : Connection). record (turned_line old) { put = new.put; begun = false; tap = c }) tap_is,
+    )
 
 other_keeps : (r peer : ℕ) (course : Course) (in_use : Bool) (unit : Value) (old new : Line) →
     Acts Right r peer (passes_other course in_use unit) old new → Keeps r peer (turned_line old) →

@@ -194,7 +194,7 @@ beginning local w some (ended none h) = absurd (some none)
 beginning local w some (quiet is none not_begun cs drs tap done dcs) = absurd (some none)
 beginning local w some (asks x put is offers cs drs tap done dcs begun) =
     asks x put is offers (map (begins Left) cs) (disconnects_begin Left drs) (ap (λ (t : Traffic). packet_begins Left t) tap)
-        (done_begins Left cs done) dcs
+    (done_begins Left cs done) dcs
     (λ h. over_begins cs done)
 beginning local w some (waits r is none not_begun cs drs tap p o offers waiting dcs) = absurd (some none)
 beginning local w some (refused r is none not_begun cs drs tap done dcs v more coming are refusal too) = absurd (some none)
@@ -257,18 +257,18 @@ begun_elsewhere : (local : Local) (w : Whole) → Stage local w → Stage local 
 begun_elsewhere local w (ended none h) = ended none h
 begun_elsewhere local w (quiet is none not_begun cs drs tap done dcs) =
     quiet is none not_begun (map (begins Right) cs) (disconnects_begin Right drs) (ap (λ (t : Traffic). packet_begins Right t) tap)
-        (done_begins Right cs done) dcs
+    (done_begins Right cs done) dcs
 begun_elsewhere local w (asks x put is offers cs drs tap done dcs begun) =
     asks x put is offers (map (begins Right) cs) (disconnects_begin Right drs) (ap (λ (t : Traffic). packet_begins Right t) tap)
-        (done_begins Right cs done) dcs
+    (done_begins Right cs done) dcs
     (λ h. over_still cs (begun h))
 begun_elsewhere local w (waits r is none not_begun cs drs tap p o offers waiting dcs) =
     waits r is none not_begun (map (begins Right) cs) (disconnects_begin Right drs) (ap (λ (t : Traffic). packet_begins Right t) tap) p o
-        offers
+    offers
     (waits_begins Right r p o cs waiting) dcs
 begun_elsewhere local w (refused r is none not_begun cs drs tap done dcs v more coming are refusal too) =
     refused r is none not_begun (map (begins Right) cs) (disconnects_begin Right drs) (ap (λ (t : Traffic). packet_begins Right t) tap)
-        (done_begins Right cs done)
+    (done_begins Right cs done)
     dcs v more coming are refusal too
 begun_elsewhere local w (answered r is none not_begun dcs n x more coming are class has after so z) =
     answered r is none not_begun dcs n x more coming are class has after so (zeroed_elsewhere after [] false w.tap z)

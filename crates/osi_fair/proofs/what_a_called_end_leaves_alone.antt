@@ -26,7 +26,7 @@ module _ (local : Local) (w : Whole) (f : Called local w) (t : State) (units : L
     (shut : ℕ → Bool) (shut_was : (r : ℕ) → shut r ≡ true → (f.shut r ≡ true) ⊎ (r ≡ n)) (shut_still : (r : ℕ) → f.shut r ≡ true →
     shut r ≡ true)
     (shut_given : (r : ℕ) → shut r ≡ true → r ≤ t.given) (strays : AreStrays shut t f.refs f.home w.tap.course.disconnects.strays
-        (all_at None units))
+    (all_at None units))
     (come_is : coming ≡ values came) (few : AllByRecursion (IsFor w.end.given) coming) (untagged : AllByRecursion Untagged came)
     (no_cc : AllByRecursion (λ (v : Value). (m : ℕ) (x : Connect) → v ≡ confirm m x → ⊥) units)
     (timely : w.tap.course.disconnects.strays ≡ false → t.ended ≡ None → Timely t coming w.tap.connections (values f.tagged)) where

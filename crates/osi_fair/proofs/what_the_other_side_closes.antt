@@ -103,8 +103,8 @@ still_open p q a b c h = grind arith
 
 module _ (L : ℕ → Type 0) (s : State) (q : ℕ) (c : Connection) (at : slice_get s.connections q ≡ Some c)
     (sound : Sound c) (started : IsStarted c) (distinct : AreDistinct s.connections)
-    (lively : HoldsOfEach (IsLively L) s.connections) (plain : s.course.disconnects.strays ≡ false) (fine : s.course.left_erred ≡ false)
-        where
+    (lively : HoldsOfEach (IsLively L) s.connections) (plain : s.course.disconnects.strays ≡ false)
+    (fine : s.course.left_erred ≡ false) where
   abbrev finding : Value → Finding
   finding v = found_on Right s c v
 

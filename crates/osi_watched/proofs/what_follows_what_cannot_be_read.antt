@@ -66,7 +66,7 @@ right_looked t (whole unit) (o ∷ held) s h = h
 left_by : (x : ℕ) (s : State) → s.left.spent ≡ true → (b : Bool) →
     (let t = gathered (x ∷ []) s.right in
     (if b then with_stream Right (counted 1 s.right) s else looked_at Right t (front_of t.held) (begun Right s.right.held s)).left.spent ≡
-        true)
+    true)
 left_by x s h true = h
 left_by x s h false = let t = gathered (x ∷ []) s.right in left_looked t (front_of t.held) s.right.held s h
 

@@ -50,7 +50,7 @@ report_clear b f h k = grind arith
 
 module _ (d : Way) (v : Value) (s : State) (firm : s.course.loose ≡ false) (judged : AreJudged s)
     (plain : is_report (traffic.has_erred (sides.other d) s.course) v ≡ false)
-        (nowhere : IsClear (unnamed_by (traffic.may_answer d s.course.disconnects) v))
+    (nowhere : IsClear (unnamed_by (traffic.may_answer d s.course.disconnects) v))
     (clear : (c : Connection) → IsClear (found d s.course (uses_source d s.connections v) c v)) where
   clear_one : (i : ℕ) (o : Option Connection) → slice_get s.connections i ≡ o → IsClear (at_found d v s i o).told.finding
   clear_one i None e = grind (arith, report_clear, loose_clear)

@@ -264,7 +264,7 @@ module _ (local : Local) (w : Whole) (t : Sessions) (f : Called local w) (apart 
 
   ordered_one : (n r : ℕ) (front rest : List Placed) (o : Option ℕ) (v : Value) → f.tagged ≡ front ++ (o, v) ∷ rest →
       StrayIf f.shut w.end f.refs f.home w.tap.course.disconnects.strays o v rest → IsNotZero v → is_for (Some n) v ≡ true → CcAt n r rest →
-          ⊥
+      ⊥
   ordered_one n r front rest None v is stray zero mine k = differ (is_for (Some n) v) mine (ap (is_for (Some n)) stray.is)
   ordered_one n r front rest (Some p) v is stray zero mine k = by (slice_get w.tap.connections p) refl
     where
@@ -274,7 +274,7 @@ module _ (local : Local) (w : Whole) (t : Sessions) (f : Called local w) (apart 
 
   all_ordered : (front rest : List Placed) → f.tagged ≡ front ++ rest →
       AreStrays f.shut w.end f.refs f.home w.tap.course.disconnects.strays rest → AllByRecursion IsNotZero (values rest) →
-          AreOrdered (values rest)
+      AreOrdered (values rest)
   all_ordered front [] is strays zero = tt
   all_ordered front (m ∷ rest) is strays zero =
       let next : f.tagged ≡ (front ++ m ∷ []) ++ rest = is ∙ sym (append_assoc front (m ∷ []) rest) in (
