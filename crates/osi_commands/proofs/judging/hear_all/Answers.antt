@@ -15,5 +15,5 @@ pieces-preserved g c =
       heard = heard_piece c.args.hearing.now c.pieces.hearing c.hear.new.hearing (remaining c.args.reader.now) (remaining c.pieces.reader)
           (remaining c.read.new.reader) (take count c.read.new.buf) c.pieces.invariant.heard c.in_ok-count.ensures.bytes
           (λ whole more k. c.in_ok-hear.ensures.ok whole more
-            (subst (λ (piece : List ℕ). IsHeard c.pieces.hearing whole (piece ++ more)) (grind (arith, common_steps)) k));
+          (subst (λ (piece : List ℕ). IsHeard c.pieces.hearing whole (piece ++ more)) (grind (arith, common_steps)) k));
     }
