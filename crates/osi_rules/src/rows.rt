@@ -7,7 +7,8 @@ ghost use Rattle.osi_tpdu.specs.View.{confirm_content};
 ghost use Rattle.osi_rules.specs.Rows.{first_failed, steps_from, has_credit, is_tellable, has_passed, keeps_credit, fits_size, fits_tsdu};
 ghost use Rattle.osi_rules.specs.Rows.{is_without_flow_control, is_extended};
 ghost use Rattle.osi_rules.specs.Rows.{code_named, selects_expedited, are_offered, is_offered, is_inside, given_again, confirm_tests};
-ghost use Rattle.osi_rules.specs.Rows.{data0_tests, data2_tests, acknowledge_tests, disconnect_tests, is_due, disconnected_tests, error_tests};
+ghost use Rattle.osi_rules.specs.Rows.{data0_tests, data2_tests, acknowledge_tests, disconnect_tests, is_due, disconnected_tests};
+ghost use Rattle.osi_rules.specs.Rows.{error_tests};
 
 use crate::connections::{Connection, Offer};
 use crate::directions::Direction;
