@@ -19,10 +19,6 @@ HasHeard first h None now = Unit {0}
 HasHeard first h (Some whole) None = ⊥
 HasHeard first h (Some whole) (Some rest) = IsHeard first whole whole → IsHeard h whole rest
 
-pub heard_none : (h : Hearing) (known : Option (List ℕ)) → HasHeard h h known known
-heard_none h None = tt
-heard_none h (Some x) = λ k. k
-
 pub heard_piece : (first old new : Hearing) (all now later : Option (List ℕ)) (piece : List ℕ) → HasHeard first old all now
     → Consumes now later piece → ((whole more : List ℕ) → IsHeard old whole (piece ++ more) → IsHeard new whole more)
     → HasHeard first new all later
