@@ -1,5 +1,5 @@
 #!/usr/bin/env python3
-"""Shows that the memory of `osi-capture watch` stays flat: 100,000 streams in turn, and beside them one with 1,000,000 TSDUs of data.
+"""Measures the memory of `osi-capture watch`: 100,000 streams in turn, and beside them one with 1,000,000 TSDUs of data.
 
 The judge is one that keeps nothing, so this measures what the watch itself keeps: python3 bench/watch.py [STREAMS]
 """
