@@ -155,7 +155,7 @@ class Fed(Watched):
     def __init__(self, stream):
         super().__init__(stream)
         self.judge, self.heard, self.found, self.lines, self.statuses = None, set(), None, [], []
-        self.head = {side: [] for side in streams.SIDES}
+        self.head, self.is_told = {side: [] for side in streams.SIDES}, False
 
     def look_for_limit(self):
         if self.stream.is_over and self.limit is None and self.stream.gap():
@@ -169,7 +169,7 @@ class Fed(Watched):
             self.follower.take(side, piece)
             if sum(len(each.octets) for each in self.head[side]) < ENOUGH:
                 self.head[side].append(piece)
-            if not self.found:
+            if not (self.found or self.is_told):
                 self.feed(source, piece)
         self.stream.pieces.clear()
 
@@ -260,6 +260,8 @@ class Fed(Watched):
             found = f"not judged: {kind}, not a session", None
         if found and self.judge is not None:
             self.judge.close()
+        # What passes after its verdict says only how the stream ends.
+        self.is_told = self.is_told or bool(found)
         return found
 
 
