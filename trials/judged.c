@@ -30,7 +30,7 @@ static const struct packet packets[] = {
 
 static osi_judge judge;
 static struct text told, ample, written;
-static uint64_t fed_again;
+static uint64_t fed_again, told_again;
 
 static void add(struct text *text, const void *at, size_t length)
 {
@@ -68,14 +68,25 @@ static void feeds(uint32_t side, const uint8_t *octets, size_t length)
     holds(code == OSI_OK && used == length, "a piece does not pass: %u", code);
 }
 
-/* What is certain is told. It needs no memory. */
+/* What is certain is told. If memory runs out, the same is told by the next call. */
 static void tells(void)
 {
     osi_verdict v;
-    memory_in();
-    while (osi_judge_next(&judge, &v))
-        text_put(&told, "%u: %u %u %u %llu %u\n", v.side, v.kind, v.rule, v.said, (unsigned long long)v.offset, v.reference);
-    holds(memory_out() == 0, "fetching a verdict wants memory");
+    uint32_t code;
+    do {
+        memory_in();
+        code = osi_judge_next(&judge, &v);
+        memory_out();
+        if (code == OSI_NO_MEMORY) {
+            told_again += 1;
+            holds(memory_refused, "no growth was refused");
+            check_text("when memory ran out for a verdict");
+        }
+        if (code == OSI_OK)
+            text_put(&told, "%u: %u %u %u %u %llu %llu %u %u\n", v.side, v.kind, v.by, v.rule, v.said, (unsigned long long)v.offset,
+                     (unsigned long long)v.connection, v.left, v.right);
+    } while (code == OSI_OK || code == OSI_NO_MEMORY);
+    holds(code == OSI_NOTHING, "no verdict is told: %u", code);
 }
 
 static void writes(void)
@@ -142,6 +153,8 @@ int main(void)
     for (uint64_t refuse = 1; play(refuse); refuse++)
         ;
     holds(fed_again > 0, "no piece was fed again");
-    printf("judged: %llu growths of a judge refused in turn, in %llu pieces\n", (unsigned long long)growths, (unsigned long long)fed_again);
+    holds(told_again > 0, "no verdict was asked for again");
+    printf("judged: %llu growths of a judge refused in turn, %llu of them in a piece and %llu for a verdict\n", (unsigned long long)growths,
+           (unsigned long long)fed_again, (unsigned long long)told_again);
     return counts("judged");
 }
