@@ -12,8 +12,8 @@ use Rattle.osi_dispute.specs.declared.places.Passing.{Passing}
 use Rattle.osi_dispute.specs.declared.places.Place.{Place}
 use Rattle.osi_dispute.specs.declared.places.Step.{Step}
 use Rattle.osi_dispute.specs.Hearing.{IsHeard}
-use Rattle.osi_dispute.specs.Passing.{after_passed, at_end, if_step, passed_by, passed_from, start, step_of}
-use Rattle.osi_dispute.proofs.what_is_read_octet_by_octet.{after_both, after_none}
+use Rattle.osi_dispute.specs.Passing.{after_passed, at_end, if_step, passed_by, passed_from, step_of}
+use Rattle.osi_dispute.proofs.what_is_read_octet_by_octet.{after_both}
 use Rattle.osi_dispute.proofs.what_passes_is_the_capture_of_the_text.{is_capture, is_none}
 
 -- octets of a side pass, by what is known of a tap and of how left begins
@@ -30,17 +30,6 @@ heard_more old new passed whole rest more p f e h = record {
   passed = h.passed ∙ ap (after_passed h.capture) e ∙ sym (after_both h.capture passed (passed_from new.place more));
   holds = p.tap h.capture h.holds;
   opens = p.opening h.capture h.opens;
-  sound = f ∙ h.sound;
-}
-
--- nothing passed
-pub heard_still : (old new : Hearing) (whole rest more : List ℕ) → new.tap ≡ old.tap → new.opening ≡ old.opening → new.fault ≡ old.fault
-    → passed_from old.place rest ≡ after_passed [] (passed_from new.place more) → IsHeard old whole rest → IsHeard new whole more
-heard_still old new whole rest more t o f e h = record {
-  capture = h.capture;
-  passed = h.passed ∙ ap (after_passed h.capture) (e ∙ after_none (passed_from new.place more));
-  holds = subst (λ (x : Tap). HoldsState x (comes_to h.capture)) (sym t) h.holds;
-  opens = subst (λ (x : Opening). Opens x (stream side.Left h.capture)) (sym o) h.opens;
   sound = f ∙ h.sound;
 }
 

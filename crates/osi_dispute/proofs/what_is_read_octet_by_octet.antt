@@ -3,13 +3,11 @@ use Rattle.std.proofs.Common.{◌+◌, ◌*◌, ◌-◌, ◌≤◌, slice_index}
 use Rattle.std.proofs.lemmas.List.{take_all}
 use Rattle.hex.specs.Hex.{hex_digit_value}
 use Rattle.osi_listing.proofs.digits_give_octets.{digit_no_blank}
-use Rattle.osi_dispute.proofs.Vocabulary.{◌≡◌, ◌∙◌, refl, sym, ap, subst, ℕ, ◌==◌, Bool, true, false, List, [], ◌∷◌, ◌++◌}
-use Rattle.osi_dispute.proofs.Vocabulary.{length, take, drop}
-use Rattle.osi_dispute.proofs.Vocabulary.{Option, Some, None, inl, inr, arith, eqb_tells, append_assoc, map-append}
-use Rattle.osi_dispute.proofs.Vocabulary.{Direction, Capture, of, piece}
+use Rattle.osi_dispute.proofs.Vocabulary.{◌≡◌, ◌∙◌, refl, sym, ap, ℕ, ◌==◌, false, List, [], ◌∷◌, ◌++◌, length, take, drop, Option, Some}
+use Rattle.osi_dispute.proofs.Vocabulary.{None, inl, inr, arith, eqb_tells, append_assoc, Direction, Capture, piece}
 use Rattle.osi_dispute.specs.declared.places.Place.{Place}
 use Rattle.osi_dispute.specs.declared.places.Step.{Step}
-use Rattle.osi_dispute.specs.Passing.{after_passed, digit_read, if_step, on_line, outside, passed_from, plain, side_at, step_of}
+use Rattle.osi_dispute.specs.Passing.{after_passed, digit_read, if_step, passed_from, plain, side_at, step_of}
 
 pub after_none : (o : Option Capture) → after_passed [] o ≡ o
 after_none None = refl
@@ -58,14 +56,3 @@ front_pass d (a ∷ b ∷ rest) more high low n h k =
 pub after_both : (a b : Capture) (o : Option Capture) → after_passed (a ++ b) o ≡ after_passed a (after_passed b o)
 after_both a b None = refl
 after_both a b (Some x) = ap Some (append_assoc a b x)
-
-pub read_none : (d : Direction) (octets : List ℕ) (o : Option Capture) → octets ≡ [] → o ≡ after_passed (piece d octets) o
-read_none d octets o e = sym (ap (λ (xs : List ℕ). after_passed (piece d xs) o) e ∙ after_none o)
-
--- one octet more is read
-pub read_more : (d : Direction) (octets new : List ℕ) (octet : ℕ) (all now later : Option Capture) → new ≡ octets ++ octet ∷ []
-    → all ≡ after_passed (piece d octets) now → now ≡ after_passed (piece d (octet ∷ [])) later → all ≡ after_passed (piece d new) later
-read_more d octets new octet all now later e h k =
-    h ∙ ap (after_passed (piece d octets)) k ∙ sym (after_both (piece d octets) (piece d (octet ∷ [])) later)
-    ∙ ap (λ (c : Capture). after_passed c later) (sym (map-append (of d) octets (octet ∷ [])))
-    ∙ ap (λ (xs : List ℕ). after_passed (piece d xs) later) (sym e)

@@ -5,17 +5,15 @@ use Rattle.std.proofs.Math.Seq.{take-add}
 use Rattle.std.proofs.lemmas.List.{drop-drop}
 use Rattle.std.specs.Option.{option_map}
 use Rattle.std.specs.List.{slice_split}
-use Rattle.hex.specs.Hex.{decode_of, hex_digit_value}
+use Rattle.hex.specs.Hex.{hex_digit_value}
 use Rattle.osi_listing.specs.Capture.{IsNoCapture, after_octets, digits_of, digits_of_lines, if_digit, is_line_feed}
 use Rattle.osi_listing.specs.Capture.{octets_from, with_digit}
 use Rattle.osi_listing.proofs.digits_give_octets.{all_are_digits, no_capture_here}
 use Rattle.osi_names.specs.Lines.{lines_of}
-use Rattle.osi_dispute.proofs.Vocabulary.{◌≡◌, ◌∙◌, refl, sym, ap, subst, ℕ, ◌==◌, Bool, true, false, not, List, [], ◌∷◌, ◌++◌}
-use Rattle.osi_dispute.proofs.Vocabulary.{length, take, drop, filter, Option, Some, None, inl, inr, arith, eqb_tells}
-use Rattle.osi_dispute.proofs.Vocabulary.{append_assoc, append-nil, map-append}
-use Rattle.osi_dispute.proofs.Vocabulary.{flat_map, before_first, is_blank, is_comment_sign, Direction, Capture, of, piece}
-use Rattle.osi_dispute.proofs.Vocabulary.{side_of, digits_on}
-use Rattle.osi_dispute.proofs.Vocabulary.{digits_left, capture_of, rows_of, IsCaptureOf}
+use Rattle.osi_dispute.proofs.Vocabulary.{◌≡◌, ◌∙◌, refl, sym, ap, subst, ℕ, ◌==◌, Bool, true, false, not, List, [], ◌∷◌, ◌++◌, length}
+use Rattle.osi_dispute.proofs.Vocabulary.{take, drop, filter, Option, Some, None, inl, inr, arith, eqb_tells, append_assoc, map-append}
+use Rattle.osi_dispute.proofs.Vocabulary.{flat_map, before_first, is_blank, is_comment_sign, Direction, Capture, of, piece, side_of}
+use Rattle.osi_dispute.proofs.Vocabulary.{digits_on, digits_left, capture_of, rows_of, IsCaptureOf}
 use Rattle.osi_dispute.specs.Rows.{is_tabbed, begun_on, ends_within, rows_from}
 use Rattle.osi_dispute.specs.declared.places.Half.{Half}
 use Rattle.osi_dispute.specs.declared.places.Place.{Place}
@@ -68,9 +66,6 @@ all_by_lines p lines =
     option_map (λ (octets : List ℕ). by_lines p lines octets) (octets_from (digits_in p.in_comment lines) (high_of p.half))
 
 -- ---- small facts
-
-other : (a b : ℕ) → (a ≡ b → ⊥) → (a == b) ≡ false
-other a b h = elim (eqb_tells a b) [ inl same ↦ absurd (h same.1) | inr differ ↦ differ.0 ]
 
 after_none : (o : Option Capture) → after_passed [] o ≡ o
 after_none None = refl
