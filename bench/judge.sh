@@ -5,7 +5,7 @@ cd "$(dirname "$0")/.."
 make >&2
 mkdir -p bench/out
 python3 - bench/out <<'P'
-import os, subprocess, sys
+import os, subprocess, sys, time
 sys.dont_write_bytecode = True
 sys.path.insert(0, "bench")
 from processor import processor
@@ -29,12 +29,22 @@ def texts():
     yield "confirmed points", "".join(points)
 
 
+def most_of(pid):
+    """The most KiB of memory that a process has had so far, or 0 if it is gone. (What wait4 tells counts this program's memory, too.)"""
+    with open(f"/proc/{pid}/status") as status:
+        return max([int(line.split()[1]) for line in status if line.startswith("VmHWM")], default=0)
+
+
 def timed(word, path):
     """Seconds of processor time, the most MiB of memory, and the status."""
     with open(path, "rb") as text, open(os.devnull, "wb") as out:
         child = subprocess.Popen([PROGRAM, word], stdin=text, stdout=out)
-        _, status, used = os.wait4(child.pid, 0)
-        return used.ru_utime + used.ru_stime, used.ru_maxrss // 1024, os.waitstatus_to_exitcode(status)
+        peak, ended = 0, 0
+        while not ended:
+            peak = max(peak, most_of(child.pid))
+            time.sleep(0.002)
+            ended, status, used = os.wait4(child.pid, os.WNOHANG)
+        return used.ru_utime + used.ru_stime, peak / 1024, os.waitstatus_to_exitcode(status)
 
 
 print("Judging 16 MiB of text, in seconds of processor time, beside `osi show` on the same octets\n"
@@ -53,5 +63,5 @@ for name, text in texts():
         assert status == 0, status
         best[0], peak = min(best[0], seconds), max(peak, used)
         best[1] = min(best[1], timed("show", listed)[0])
-    print(f"{name:>32} {best[0]:8.3f} {peak:8} {best[1]:8.3f} {best[1] / best[0]:12.2f}")
+    print(f"{name:>32} {best[0]:8.3f} {peak:8.1f} {best[1]:8.3f} {best[1] / best[0]:12.2f}")
 P
