@@ -179,7 +179,8 @@ static uint8_t code_of_the_last(void)
 }
 
 /* Where a judge may say less of the peer than the end does. What begins with another unit than a CR may have begun before, which is
- * certain once a packet of the calling side has passed. And a DC with any references may answer a DR that refused a CR. */
+ * certain once a packet of the calling side has passed. And a DC with any references may answer a DR that refused a CR: each DC of which
+ * the judge says nothing is passed over, without a look whether such a DR had passed. */
 static bool is_liberty(void)
 {
     bool is_undecided = side_of_one == OSI_LEFT && !has_sent;

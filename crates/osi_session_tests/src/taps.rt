@@ -182,7 +182,7 @@ fn tapped(checks: &Checks, alloc: Global, most: usize, fed: Fed) {
     }
 }
 
-/// What is kept counts, and not what passed: of CN, AC and data both ways 228 octets, and 56 for the DT under way.
+/// The bound counts what is kept: CN, AC and data both ways count 228 octets, and the DT that passes 56 more.
 #[test]
 fn a_bound_counts_what_is_kept(rt: HostRuntime) -> Result<(), Fail> {
     let checks = Checks::new();
