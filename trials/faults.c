@@ -27,11 +27,11 @@ enum said { NOTHING_SAID, NOT_JUDGED, BLAMED, SAYINGS };
 static osi_end one = OSI_END, peer = OSI_END;
 static osi_judge judge = OSI_JUDGE;
 static struct text history;
-/* All octets that the end used. */
-static struct text used;
+/* All octets that the end used, and all that it sent. */
+static struct text used, sent;
 static struct told told;
 static enum said said;
-static bool begins_in_the_middle, has_sent;
+static bool begins_in_the_middle;
 static uint32_t side_of_one;
 static uint64_t counted[2][2][CODES][SAYINGS];
 
@@ -40,6 +40,13 @@ static void note(const char *what, const uint8_t *octets, size_t length)
     text_put(&history, "%s ", what);
     text_octets(&history, octets, length);
     text_put(&history, "\n");
+}
+
+static void keep(struct text *all, const uint8_t *octets, size_t length)
+{
+    text_grow(all, length + 1);
+    memcpy(all->at + all->length, octets, length);
+    all->length += length;
 }
 
 /* ---- the judge */
@@ -101,9 +108,7 @@ static void one_is_fed(const uint8_t *octets, size_t length)
         if (osi_feed(&one, octets, length, &fed) != OSI_OK)
             abort();
         judge_feeds(1 - side_of_one, octets, fed.used);
-        text_grow(&used, fed.used + 1);
-        memcpy(used.at + used.length, octets, fed.used);
-        used.length += fed.used;
+        keep(&used, octets, fed.used);
         while (osi_next(&one, &shown))
             looked_at(&shown);
         look_at_end();
@@ -117,7 +122,7 @@ static void peer_is_fed(void)
     osi_octets there;
     osi_outgoing(&one, &there);
     note("sent", there.at, there.length);
-    has_sent = has_sent || there.length > 0;
+    keep(&sent, there.at, there.length);
     judge_feeds(side_of_one, there.at, there.length);
     for (size_t at = 0; at < there.length;) {
         osi_fed fed;
@@ -178,13 +183,35 @@ static uint8_t code_of_the_last(void)
     return code;
 }
 
+/* Whether there is a DR in a whole packet. A DT is the last unit of its packet, since the rest is its user data. */
+static bool has_a_dr(const uint8_t *packet, size_t length)
+{
+    for (size_t at = 4; at + 1 < length && (packet[at + 1] & 0xf0) != 0xf0; at += packet[at] + 1u)
+        if (packet[at + 1] == 0x80)
+            return true;
+    return false;
+}
+
+/* Whether the end has sent a DR. All that it sends is whole packets. */
+static bool has_sent_a_dr(void)
+{
+    const uint8_t *octets = (const uint8_t *)sent.at;
+    for (size_t at = 0, length; at + 4 <= sent.length; at += length) {
+        length = (size_t)octets[at + 2] * 256 + octets[at + 3];
+        if (has_a_dr(octets + at, length))
+            return true;
+    }
+    return false;
+}
+
 /* Where a judge may say less of the peer than the end does. What begins with another unit than a CR may have begun before, which is
- * certain once a packet of the calling side has passed. And a DC with any references may answer a DR that refused a CR: each DC of which
- * the judge says nothing is passed over, without a look whether such a DR had passed. */
+ * certain once a packet of the calling side has passed. And after a DR of the end that refused a CR, a DC with any references may answer
+ * it. */
 static bool is_liberty(void)
 {
-    bool is_undecided = side_of_one == OSI_LEFT && !has_sent;
-    return begins_in_the_middle || (said == NOTHING_SAID && (is_undecided || code_of_the_last() == 0xc0));
+    bool is_undecided = side_of_one == OSI_LEFT && sent.length == 0;
+    bool may_answer = code_of_the_last() == 0xc0 && has_sent_a_dr();
+    return begins_in_the_middle || (said == NOTHING_SAID && (is_undecided || may_answer));
 }
 
 static void live_once(uint32_t class)
@@ -196,9 +223,10 @@ static void live_once(uint32_t class)
     int hostile_from = any(3) == 0 ? 0 : (int)any(STEPS);
     text_clear(&history);
     text_clear(&used);
+    text_clear(&sent);
     told = (struct told){false, 0};
     said = NOTHING_SAID;
-    begins_in_the_middle = has_sent = false;
+    begins_in_the_middle = false;
     side_of_one = is_caller ? OSI_LEFT : OSI_RIGHT;
     if ((is_caller ? osi_caller : osi_called)(&one, &terms) || (is_caller ? osi_called : osi_caller)(&peer, &terms) || osi_judge_new(&judge))
         abort();
