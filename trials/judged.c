@@ -27,6 +27,8 @@ static const struct packet packets[] = {
 };
 #define PACKETS (sizeof packets / sizeof packets[0])
 #define PIECE 6u
+/* More than the judge has places for without more memory. */
+#define CONNECTIONS 300
 
 static osi_judge judge;
 static struct text told, ample, written;
@@ -144,6 +146,47 @@ static bool play(uint64_t refuse)
     return memory_refused;
 }
 
+/* ---- many verdicts */
+
+static void feeds_packet(uint32_t side, const uint8_t *octets, size_t length)
+{
+    size_t used;
+    holds(osi_judge_feed(&judge, side, octets, length, &used) == OSI_OK && used == length, "a packet does not pass");
+}
+
+/* Left opens a connection of class 2, and sends a TSDU that is no session unit. */
+static void breaks_on(uint16_t reference)
+{
+    const uint8_t high = (uint8_t)(reference >> 8), low = (uint8_t)reference;
+    const uint8_t cr[] = {3, 0, 0, 14, 9, 0xEF, 0, 0, high, low, 0x20, 0xC0, 1, 10};
+    const uint8_t cc[] = {3, 0, 0, 14, 9, 0xDF, high, low, high, low, 0x20, 0xC0, 1, 10};
+    const uint8_t dt[] = {3, 0, 0, 11, 4, 0xF0, high, low, 0x80, 0xFF, 0};
+    feeds_packet(OSI_LEFT, cr, sizeof cr);
+    feeds_packet(OSI_RIGHT, cc, sizeof cc);
+    feeds_packet(OSI_LEFT, dt, sizeof dt);
+}
+
+static void many_verdicts_wait(void)
+{
+    bool told_of[CONNECTIONS] = {false};
+    osi_verdict v;
+    text_clear(&place);
+    text_put(&place, "%d connections", CONNECTIONS);
+    judge = (osi_judge)OSI_JUDGE;
+    holds(osi_judge_new(&judge) == OSI_OK, "no judge");
+    for (uint16_t reference = 1; reference <= CONNECTIONS; reference++)
+        breaks_on(reference);
+    for (int i = 0; i < CONNECTIONS; i++) {
+        uint32_t code = osi_judge_next(&judge, &v);
+        holds(code == OSI_OK && v.kind == OSI_VERDICT_BROKE && v.side == OSI_LEFT, "verdict %d: %u, kind %u", i, code, v.kind);
+        holds(v.connection < CONNECTIONS && !told_of[v.connection], "verdict %d is of connection %llu", i, (unsigned long long)v.connection);
+        told_of[v.connection] = true;
+    }
+    holds(osi_judge_next(&judge, &v) == OSI_NOTHING, "more verdicts than breaks");
+    osi_judge_free(&judge);
+    runs += 1;
+}
+
 int main(void)
 {
     play(0);
@@ -154,6 +197,7 @@ int main(void)
         ;
     holds(fed_again > 0, "no piece was fed again");
     holds(told_again > 0, "no verdict was asked for again");
+    many_verdicts_wait();
     printf("judged: %llu growths of a judge refused in turn, %llu of them in a piece and %llu for a verdict\n", (unsigned long long)growths,
            (unsigned long long)fed_again, (unsigned long long)told_again);
     return counts("judged");
