@@ -740,10 +740,10 @@ void osi_judge_free(osi_judge *judge);
  * others again when there is memory. After the other two none has.
  *
  * Of each connection a judge keeps the TSDUs that passed, without their user data and equal ones in a row
- * once, and what has passed of unfinished ones: at most 1,048,576 octets, of which each TSDU counts 48 more
- * than it has. So data may pass for ever. If there is no room for a DT, the connection is judged no further,
- * and the verdict on a side that was kept until then is OSI_VERDICT_NOT_JUDGED with OSI_RULE_LIMIT. What is
- * kept of a connection takes at most 6 MiB, and stays until osi_judge_free, also if the connection is over. */
+ * once, and what has passed of unfinished ones: at most 3,145,728 octets, of which each TSDU counts 48 more
+ * than it has. So data may pass for ever, and a TSDU of each side may be as long as one may be. If there is no
+ * room for a DT, the connection is judged no further, and the verdict on a side that was kept until then is
+ * OSI_VERDICT_NOT_JUDGED with OSI_RULE_LIMIT. What is kept of a connection takes at most 8 MiB, and stays until osi_judge_free, also if the connection is over. */
 uint32_t osi_judge_feed(osi_judge *judge, uint32_t side, const uint8_t *piece, size_t length, size_t *used) OSI_LOOK;
 
 /* Writes a verdict that is certain to *verdict: OSI_OK. If there is none the struct is all 0: OSI_NOTHING; or

@@ -686,39 +686,55 @@ static void each_word_is_known(void)
 }
 
 /* The most that a judge keeps of a connection, what each TSDU of it counts beside its octets, and how many these are of CN and AC. */
-#define MOST_KEPT 1048576u
+#define MOST_KEPT 3145728u
 #define OF_EACH_TSDU 48u
 #define OPENING (2 * (20 + OF_EACH_TSDU))
 
-/* More than is kept of a connection passes on the first: a TSDU of each side that has no end. That is said once of each of its sides,
- * and the second is judged on. */
+/* The packet of a minor synchronisation point with this number, in a DT of class 2 to reference 2. Returns its length. */
+static size_t point_of(uint8_t *packet, unsigned number)
+{
+    const uint8_t head[] = {3, 0, 0, 0, 4, 0xF0, 0, 2, 0x80 | ((number + 1) & 127), 1, 0, 49, 0, 42, 0};
+    memcpy(packet, head, sizeof head);
+    const int digits = snprintf((char *)packet + sizeof head, 7, "%u", number);
+    packet[14] = (uint8_t)digits;
+    packet[12] = (uint8_t)(digits + 2);
+    packet[3] = (uint8_t)(sizeof head + digits);
+    return packet[3];
+}
+
+/* Points pass on the first of two connections until there is no room for one more, and are acknowledged. Returns how many passed,
+ * the one without room included. */
+static unsigned points_that_fit(osi_judge *judge)
+{
+    uint8_t packet[24], ak[] = {3, 0, 0, 9, 4, 0x6F, 0, 1, 0};
+    size_t kept = OPENING, length;
+    unsigned number = 0;
+    do {
+        length = point_of(packet, ++number);
+        pass(judge, OSI_LEFT, packet, length);
+        ak[8] = (number + 2) & 127;
+        pass(judge, OSI_RIGHT, ak, sizeof ak);
+        kept += length - 9 + OF_EACH_TSDU;
+    } while (kept <= MOST_KEPT && has_none(judge));
+    return number;
+}
+
+/* More than is kept of a connection passes on the first: points, each with a number of its own. That is said once of each of its
+ * sides, and the second is judged on. */
 static void more_than_is_kept_of_a_connection_passes(void)
 {
-    enum { PART = 1000, HEADERS = 9 };
-    static uint8_t part[HEADERS + PART] = {3, 0, (HEADERS + PART) >> 8, (HEADERS + PART) & 255, 4, 0xF0, 0, 2, 0, 1, 0, 1, 0};
     osi_judge judge = OSI_JUDGE;
     osi_verdict verdict;
     CHECK(osi_judge_new(&judge) == OSI_OK);
     open_on(&judge, 1);
     open_on(&judge, 3);
-    uint8_t ak[] = {3, 0, 0, 9, 4, 0x6F, 0, 1, 0};
-    unsigned sent = 0;
-    do {
-        const uint32_t side = sent % 2;
-        part[7] = side == OSI_LEFT ? 2 : 1;
-        part[8] = (1 + sent++ / 2) & 127;
-        pass(&judge, side, part, sizeof part);
-        ak[7] = 3 - part[7];
-        ak[8] = (part[8] + 1) & 127;
-        pass(&judge, 1 - side, ak, sizeof ak);
-    } while (osi_judge_next(&judge, &verdict) == OSI_NOTHING && sent < 5000);
-    /* The last DT is the first for which there is no room beside the others. */
-    CHECK(sent == (MOST_KEPT - OPENING - OF_EACH_TSDU - PART) / PART + 2);
+    CHECK(points_that_fit(&judge) > 50000);
     for (uint32_t side = OSI_LEFT; side <= OSI_RIGHT; side++) {
+        CHECK(osi_judge_next(&judge, &verdict) == OSI_OK);
         CHECK(verdict.side == side && verdict.kind == OSI_VERDICT_NOT_JUDGED && verdict.rule == OSI_RULE_LIMIT);
         CHECK(verdict.connection == 0 && verdict.left == 1 && verdict.right == 2);
-        CHECK(osi_judge_next(&judge, &verdict) == (side == OSI_LEFT ? OSI_OK : OSI_NOTHING));
     }
+    CHECK(has_none(&judge));
     dt2[7] = 3;
     dt2[8] = 0x81;
     pass(&judge, OSI_RIGHT, dt2, sizeof dt2);
@@ -762,19 +778,20 @@ static size_t taken_by_data(size_t length, size_t count, bool is_whole)
         data[length - 1]++;
         pass(&judge, is_whole ? OSI_LEFT : count % 2, data, length);
     }
-    CHECK(kind_so_far(&judge, 0, OSI_LEFT) == (is_whole ? OSI_VERDICT_KEPT : OSI_VERDICT_NOT_JUDGED));
+    CHECK(kind_so_far(&judge, 0, OSI_LEFT) == OSI_VERDICT_KEPT && kind_so_far(&judge, 0, OSI_RIGHT) == OSI_VERDICT_KEPT);
     const size_t taken = allocated() - before;
     osi_judge_free(&judge);
     return taken;
 }
 
-/* However much data passes on a connection, it takes next to nothing; and at most 6 MiB, if the TSDUs of both sides have no end. */
+/* However much data passes on a connection, it takes next to nothing; and at most 8 MiB, if both sides are within a TSDU that is nearly as
+ * long as one may be. */
 static void a_connection_takes_little_memory(void)
 {
     static const size_t lengths[] = {12, 13, 19, 24, 40, 48, 100, 1000, 8196};
     for (size_t i = 0; i < sizeof lengths / sizeof *lengths; i++)
         CHECK(taken_by_data(lengths[i], 3000, true) <= 65536);
-    CHECK(taken_by_data(8196, 200, false) <= 6u * 1048576u);
+    CHECK(taken_by_data(8196, 250, false) <= 8u * 1048576u);
 }
 #else
 static void a_connection_takes_little_memory(void)

@@ -19,7 +19,7 @@ use Rattle.osi_c.specs.declared.judges.Judge.{Judge}
 -- ---- what a judge knows
 
 fed_more : (a b : Capture) → fed (a ++ b) ≡ after b (fed a)
-fed_more a b = after_more a b (begin_within (Octets 1048576))
+fed_more a b = after_more a b (begin_within (Octets 3145728))
 
 -- octets passed to its tap and to its opening
 pub octets_known : (d : Direction) (octets : List ℕ) (old new : Judge)

@@ -61,4 +61,4 @@ asked_after asked.NoMemory number d old now k h = k
 -- ---- the text
 
 pub fed_reached : (capture : Capture) → IsReached (fed capture)
-fed_reached capture = record { room = Octets 1048576; capture = capture; is = refl }
+fed_reached capture = record { room = Octets 3145728; capture = capture; is = refl }

@@ -13,9 +13,9 @@ use Rattle.osi_c.specs.declared.judges.Judge.{Judge}
 
 -- ---- what a judge knows
 
--- what a capture comes to, if of each connection 1,048,576 octets may be kept
+-- what a capture comes to, if of each connection 3,145,728 octets may be kept
 abbrev pub fed : Capture → State
-fed capture = after capture (begin_within (Octets 1048576))
+fed capture = after capture (begin_within (Octets 3145728))
 
 -- it was fed this capture
 pub record Knows (w : Judge) (capture : Capture) : Type 0 where

@@ -10,8 +10,9 @@ use osi_tap::Tap;
 use std::alloc::{AllocError, Global};
 
 /// How much may be kept of a connection: the outlines of the TSDUs of both sides, each 48 octets more than its length and equal ones
-/// in a row once, and what has passed of unfinished TSDUs.
-const MOST_OF_A_CONNECTION: usize = 1_048_576;
+/// in a row once, and what has passed of unfinished TSDUs. That is room for a TSDU of each side, as long as one may be, and for as
+/// much of outlines.
+const MOST_OF_A_CONNECTION: usize = 3_145_728;
 
 /// The contents of a C slot that judges a byte connection: the tap; how the octets of left begin; of what C was told; and the text
 /// that C asked for last. The text is lent until the next call.

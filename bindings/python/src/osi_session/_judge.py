@@ -79,7 +79,7 @@ class Judge:
             print(judge.text())
 
     Of each connection it keeps the TSDUs that passed, without their user data and equal ones in a row once, and what has
-    passed of unfinished ones: at most 1,048,576 octets, of which each TSDU counts 48 more than it has. So data may pass for
+    passed of unfinished ones: at most 3,145,728 octets, of which each TSDU counts 48 more than it has. So data may pass for
     ever. If there is no room for a DT, the connection is judged no further, and a side that was kept until then has
     NOT_JUDGED with Rule.LIMIT.
 
