@@ -10,7 +10,7 @@ use Rattle.osi_tap.specs.Connections.{Joined, spoken}
 use Rattle.osi_tap.specs.Holding.{line_in, HoldsFound, HoldsJoined, IsHeard, IsPlace}
 use Rattle.osi_tap.specs.Rooms.{is_over}
 use Rattle.osi_tap.proofs.the_session_of_a_side_is_known.{session_at}
-use Rattle.osi_verdict.specs.Leaving.{is_dropped}
+use Rattle.osi_dispute.specs.Telling.{is_dropped}
 use Rattle.osi_c.specs.Notes.{note_of_found, note_unless, IsNoteOf, IsNoteAt}
 use Rattle.osi_c.specs.Verdicts.{named_in}
 use Rattle.osi_c.specs.declared.notes.Note.{Note}

@@ -16,7 +16,7 @@ use Rattle.osi_tap.specs.KnownSessions.{IsSession}
 use Rattle.osi_tap.specs.Rooms.{is_over}
 use Rattle.osi_tap.specs.Standing.{IsSettled}
 use Rattle.osi_tap.specs.Tapping.{State}
-use Rattle.osi_verdict.specs.Leaving.{is_dropped}
+use Rattle.osi_dispute.specs.Telling.{is_dropped}
 use Rattle.osi_dispute.specs.Openings.{begins_late}
 use Rattle.osi_c.specs.Judges.{fed, Knows}
 use Rattle.osi_c.specs.declared.judges.Judge.{Judge}

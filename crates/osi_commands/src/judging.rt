@@ -9,9 +9,8 @@ ghost use Rattle.osi_commands.specs.Judging.{FailsToHear, Finds, FindsPart};
 
 use crate::faults::{Failure, ToolFault};
 use crate::watched::Watch;
-use osi_dispute::Hearing;
+use osi_dispute::{Hearing, Judgement};
 use osi_listing::CaptureFault;
-use osi_verdict::Judgement;
 use std::alloc::Global;
 use std::io::{Read, Write};
 

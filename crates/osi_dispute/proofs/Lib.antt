@@ -1,4 +1,5 @@
 mod Vocabulary
+pub mod text_added_in_two_parts_is_added_whole
 pub mod what_is_fed_piece_by_piece_passes_whole
 pub mod digits_are_counted_one_by_one
 pub mod what_passes_is_the_capture_of_the_text

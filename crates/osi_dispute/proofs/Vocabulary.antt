@@ -65,7 +65,7 @@ pub use Rattle.osi_dispute.specs.Adding.{AddsJudgement, AddsPair, AddsPairs, Add
 pub use Rattle.osi_dispute.specs.Disputes.{IsJudgement, Judges}
 pub use Rattle.osi_dispute.specs.Openings.{Opens, first_code, unjudged}
 pub use Rattle.osi_dispute.specs.declared.openings.Opening.{Opening}
-pub use Rattle.osi_verdict.specs.Facts.{connection_by}
+pub use Rattle.osi_dispute.specs.Telling.{connection_by}
 pub use Rattle.osi_dispute.specs.Reading.{row, rows_left}
 pub use Rattle.osi_dispute.specs.ReportTexts.{last_line, last_status, pair_lines, read_lines, transport_lines}
 pub use Rattle.osi_dispute.specs.Reports.{ArePairs, IsFirstLast, IsLast, IsLastBy, IsMarkLast, IsPair, IsPairOf, IsReport, IsStrayLast}
@@ -77,6 +77,6 @@ pub use Rattle.osi_dispute.specs.declared.reports.Last.{Last}
 pub use Rattle.osi_dispute.specs.declared.reports.Pair.{Pair}
 pub use Rattle.osi_dispute.specs.declared.reports.Together.{Together}
 pub use Rattle.osi_dispute.specs.declared.reports.Transport.{Transport}
-pub use Rattle.osi_verdict.specs.declared.texts.Judgement.{Judgement}
-pub use Rattle.osi_verdict.specs.declared.verdicts.Connection.{Connection}
-pub use Rattle.osi_verdict.specs.declared.verdicts.Told.{Told}
+pub use Rattle.osi_dispute.specs.declared.disputes.Judgement.{Judgement}
+pub use Rattle.osi_dispute.specs.declared.told.Connection.{Connection}
+pub use Rattle.osi_dispute.specs.declared.told.Told.{Told}

@@ -8,9 +8,7 @@ use Rattle.osi_tap.specs.declared.marks.Layer.TheVariants as layer
 use Rattle.osi_dispute.specs.declared.reports.Last.TheVariants.{BothKept, Broke, Left, Transport, TooManySessions, TooManyConnections}
 use Rattle.osi_dispute.specs.declared.reports.Last.TheVariants.{Limit, NoOctets, BeginsLate}
 use Rattle.osi_dispute.specs.ReportTexts.{mark_first}
-use Rattle.osi_verdict.specs.declared.verdicts.Unjudged.TheVariants.{TooMany}
-use Rattle.osi_verdict.specs.Names.{unjudged_text}
-use Rattle.osi_verdict.specs.Texts.{first_text, broke_first, left_first, unjudged_line}
+use Rattle.osi_dispute.specs.ToldTexts.{first_text, broke_first, left_first}
 
 -- ---- words
 
@@ -29,16 +27,12 @@ mark_words : (d : Direction) (m : Mark) → HasWords (mark_first d m)
 unfolding mark_first first_text
 mark_words d m e = grind arith
 
-unjudged_words : HasWords (unjudged_line TooMany)
-unfolding unjudged_line unjudged_text
-unjudged_words e = grind arith
-
 pub last_words : (last : Last) → HasWords (last_line last)
 last_words BothKept e = grind arith
 last_words (Broke d offset by) e = broke_words d offset by e
 last_words (Left d offset by) e = left_words d offset by e
 last_words (Transport d m) e = mark_words d m e
-last_words TooManySessions e = unjudged_words e
+last_words TooManySessions e = grind arith
 last_words Limit e = grind arith
 last_words TooManyConnections e = grind arith
 last_words NoOctets e = grind arith

@@ -14,9 +14,9 @@ use Rattle.osi_tap.specs.declared.connections.Connection.{Connection as Joint}
 use Rattle.osi_tap.specs.declared.marks.Layer.TheVariants as layer
 use Rattle.osi_dispute.specs.declared.reports.Last.TheVariants as ending
 use Rattle.osi_dispute.specs.declared.reports.Transport.{Transport as Carried}
-use Rattle.osi_verdict.specs.declared.verdicts.Told.TheVariants as what
+use Rattle.osi_dispute.specs.declared.told.Told.TheVariants as what
 use Rattle.osi_tap.proofs.the_session_of_a_side_is_known.{session_at}
-use Rattle.osi_verdict.specs.Leaving.{is_dropped}
+use Rattle.osi_dispute.specs.Telling.{is_dropped}
 
 -- ---- the session of a side
 

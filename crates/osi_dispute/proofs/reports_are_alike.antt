@@ -8,7 +8,7 @@ use Rattle.osi_dispute.proofs.Vocabulary.{comes_to, Judges, IsJudgement, last_st
 use Rattle.osi_dispute.specs.ReportTexts.{report_text}
 use Rattle.osi_judge.specs.declared.directions.Direction.TheVariants as side
 use Rattle.osi_tap.specs.Lines.{told}
-use Rattle.osi_verdict.specs.declared.verdicts.Told.TheVariants as what
+use Rattle.osi_dispute.specs.declared.told.Told.TheVariants as what
 use Rattle.osi_dispute.proofs.a_session_is_told_in_one_way.{IsOne, one_session}
 use Rattle.osi_dispute.proofs.a_text_is_one_capture.{one_text}
 

@@ -19,7 +19,7 @@ use Rattle.osi_dispute.specs.Blaming.{BlameNowhere, IsBlameless, IsClearOf, blam
 use Rattle.osi_dispute.specs.Blaming.BlameNowhere.{not_judged, reported}
 use Rattle.osi_dispute.specs.Openings.{unjudged_by}
 use Rattle.osi_dispute.specs.ReportTexts.{is_side}
-use Rattle.osi_verdict.specs.declared.verdicts.Told.TheVariants as what
+use Rattle.osi_dispute.specs.declared.told.Told.TheVariants as what
 use Rattle.osi_dispute.proofs.what_halts_a_side_is_told_of_its_sender.{halts_told}
 
 -- ---- a session

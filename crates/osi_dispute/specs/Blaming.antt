@@ -14,10 +14,10 @@ use Rattle.osi_dispute.specs.declared.reports.Last.{Last}
 use Rattle.osi_dispute.specs.declared.reports.Last.TheVariants.{Broke, Left, Transport}
 use Rattle.osi_dispute.specs.Reports.{Report}
 use Rattle.osi_dispute.specs.ReportTexts.{is_side, last_line, read_lines, report_text}
-use Rattle.osi_verdict.specs.declared.verdicts.Told.{Told}
-use Rattle.osi_verdict.specs.declared.verdicts.Told.TheVariants as told
-use Rattle.osi_verdict.specs.declared.verdicts.Connection.{Connection}
-use Rattle.osi_verdict.specs.declared.verdicts.Connection.TheVariants.{Session}
+use Rattle.osi_dispute.specs.declared.told.Told.{Told}
+use Rattle.osi_dispute.specs.declared.told.Told.TheVariants as told
+use Rattle.osi_dispute.specs.declared.told.Connection.{Connection}
+use Rattle.osi_dispute.specs.declared.told.Connection.TheVariants.{Session}
 
 -- ---- what is found
 

@@ -1,3 +1,7 @@
+pub mod Names
+pub mod Lines
+pub mod ToldTexts
+pub mod Telling
 pub mod Rows
 pub mod Reading
 pub mod Causes

@@ -13,14 +13,13 @@ use Rattle.osi_dispute.specs.declared.reports.Last.{Last}
 use Rattle.osi_dispute.specs.declared.reports.Last.TheVariants.{BothKept, Broke, Left, Transport, TooManySessions, Limit}
 use Rattle.osi_dispute.specs.declared.reports.Last.TheVariants.{TooManyConnections, NoOctets, BeginsLate}
 use Rattle.osi_dispute.specs.Reports.{Report}
-use Rattle.osi_verdict.specs.declared.verdicts.Connection.{Connection}
-use Rattle.osi_verdict.specs.declared.verdicts.Connection.TheVariants.{Session}
-use Rattle.osi_verdict.specs.declared.verdicts.Told.TheVariants.{Kept}
-use Rattle.osi_verdict.specs.declared.verdicts.Unjudged.TheVariants.{TooMany}
-use Rattle.osi_verdict.specs.Names.{side_name}
+use Rattle.osi_dispute.specs.declared.told.Connection.{Connection}
+use Rattle.osi_dispute.specs.declared.told.Connection.TheVariants.{Session}
+use Rattle.osi_dispute.specs.declared.told.Told.TheVariants.{Kept}
+use Rattle.osi_dispute.specs.Names.{side_name}
 use Rattle.osi_dispute.specs.Causes.{marked_at_name, cause_name}
-use Rattle.osi_verdict.specs.Lines.{reading_line, without_line}
-use Rattle.osi_verdict.specs.Texts.{connection_lines, first_text, broke_first, left_first, unjudged_line}
+use Rattle.osi_dispute.specs.Lines.{reading_line, without_line}
+use Rattle.osi_dispute.specs.ToldTexts.{connection_lines, first_text, broke_first, left_first}
 
 -- ---- transport
 
@@ -114,7 +113,7 @@ last_line BothKept = codes "both kept the protocol\n"
 last_line (Broke d offset by) = broke_first d offset by
 last_line (Left d offset by) = left_first d offset by
 last_line (Transport d m) = mark_first d m
-last_line TooManySessions = unjudged_line TooMany
+last_line TooManySessions = codes "not judged: too many sessions explain a side\n"
 last_line Limit = codes "not judged: more passed on a connection than is kept\n"
 last_line TooManyConnections = codes "not judged: there are more than 128 connections at once\n"
 last_line NoOctets = codes "not judged: no octets\n"

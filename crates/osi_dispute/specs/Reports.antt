@@ -29,12 +29,11 @@ use Rattle.osi_dispute.specs.declared.reports.Pair.{Pair}
 use Rattle.osi_dispute.specs.declared.reports.Transport.{Transport as Carried}
 use Rattle.osi_dispute.specs.declared.reports.Last.{Last}
 use Rattle.osi_dispute.specs.declared.reports.Last.TheVariants.{BothKept, Broke, Left, Transport, TooManySessions, Limit, TooManyConnections}
-use Rattle.osi_verdict.specs.declared.verdicts.Told.{Told}
-use Rattle.osi_verdict.specs.declared.verdicts.Told.TheVariants as told
-use Rattle.osi_verdict.specs.declared.verdicts.Connection.{Connection}
-use Rattle.osi_verdict.specs.declared.verdicts.Connection.TheVariants.{Silent}
-use Rattle.osi_verdict.specs.Facts.{is_kept, connection_by}
-use Rattle.osi_verdict.specs.Leaving.{is_dropped}
+use Rattle.osi_dispute.specs.declared.told.Told.{Told}
+use Rattle.osi_dispute.specs.declared.told.Told.TheVariants as told
+use Rattle.osi_dispute.specs.declared.told.Connection.{Connection}
+use Rattle.osi_dispute.specs.declared.told.Connection.TheVariants.{Silent}
+use Rattle.osi_dispute.specs.Telling.{is_kept, is_dropped, connection_by}
 
 -- ---- one connection
 

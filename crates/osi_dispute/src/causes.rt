@@ -3,9 +3,9 @@
 ghost use Rattle.std.specs.Prelude.{◌≡◌};
 ghost use Rattle.osi_dispute.specs.Causes.{unit_kind_name, transport_rule_name, marked_at_name, cause_name};
 
+use crate::names;
 use osi_rules::Rule;
 use osi_tap::{Cause, Mark, UnitKind};
-use osi_verdict::{packet_fault_name, unit_fault_name};
 
 /// The word for a transport unit.
 fn unit_kind(kind: UnitKind) -> &'static str
@@ -62,8 +62,8 @@ pub(crate) fn cause(cause: Cause) -> &'static str
     ensures { result.now ≡ cause_name cause }
 {
     match cause {
-        Cause::BadPacket(fault) => packet_fault_name(fault),
-        Cause::BadUnit(fault) => unit_fault_name(fault),
+        Cause::BadPacket(fault) => names::packet_fault(fault),
+        Cause::BadUnit(fault) => names::unit_fault(fault),
         Cause::Broke(rule) => transport_rule(rule),
         Cause::Outside => "Outside",
         Cause::TooMany => "TooMany",

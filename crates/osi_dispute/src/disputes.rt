@@ -17,8 +17,16 @@ use crate::report_texts::push_judgement;
 use osi_judge::Direction;
 use osi_listing::CaptureFault;
 use osi_tap::Tap;
-use osi_verdict::Judgement;
 use std::alloc::{AllocError, Global};
+
+/// The judgement of a text.
+#[derive(Drop)]
+pub struct Judgement {
+    /// Its lines.
+    pub lines: Vec<u8>,
+    /// 0 if both sides kept the protocol; 1 if one broke it or left the profile, or the capture was not judged.
+    pub status: u8,
+}
 
 /// Feeds all of a piece.
 pub(crate) fn feed_all(tap: &mut Tap, direction: Direction, octets: &[u8]) -> Result<(), AllocError>

@@ -3,13 +3,12 @@
 ghost use Rattle.std.specs.Prelude.{◌≡◌, ◌<◌};
 ghost use Rattle.osi_dispute.specs.Passing.{digit_of};
 
-use crate::disputes::{judgement_by, pass, pass_if};
+use crate::disputes::{Judgement, judgement_by, pass, pass_if};
 use crate::openings::Opening;
 use crate::places::Place;
 use crate::steps::{is_plain, read_octets, start_of_text, step};
 use osi_listing::CaptureFault;
 use osi_tap::Tap;
-use osi_verdict::Judgement;
 use std::alloc::Global;
 
 /// The text of a capture of both sides, heard piece by piece. You feed it the text in pieces of any size, and ask for the

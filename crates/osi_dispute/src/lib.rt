@@ -45,24 +45,28 @@
 //! same octets. Such a tap may have a bound for each connection. A side of a connection that reached it has a line that says so, and
 //! the last line then never says that both kept the protocol.
 //!
-//! It leaves judging to `osi_judge` and `osi_tap`, the lines of sessions to `osi_verdict`, and standard input and output to
-//! the program.
+//! It leaves judging to `osi_judge` and `osi_tap`, and standard input and output to the program.
 #![tactic(auto)]
 
 mod causes;
 mod disputes;
 mod hearing;
 pub mod laws;
+mod lines;
+mod names;
 mod openings;
 mod pieces;
 mod places;
 mod report_texts;
 mod reports;
 mod steps;
+mod told;
+mod told_texts;
 
-pub use disputes::judge_text;
+pub use disputes::{Judgement, judge_text};
 pub use hearing::Hearing;
 pub use openings::Opening;
 pub use pieces::{Piece, Pieces};
 pub use report_texts::{push_judgement, push_report};
 pub use reports::{Last, Pair, Together, Transport, is_late, is_undecided};
+pub use told::{Connection, Told};

@@ -13,15 +13,14 @@ ghost use Rattle.osi_dispute.specs.ReportTexts.{first_verb, mark_first, last_lin
 ghost use Rattle.osi_dispute.specs.ReportTexts.{ends_itself, halt_told, is_at, is_of, is_side, limit_lines, over_lines};
 
 use crate::causes;
+use crate::lines::{push_reading, push_side, push_without};
 use crate::openings::Opening;
 use crate::reports::{Last, Pair, Together, Transport, last_of, pair_at, transport_of, unjudged};
+use crate::told::{Connection, Told};
+use crate::told_texts::{push_broke_first, push_connection, push_first, push_left_first};
 use osi_judge::Direction;
 use osi_listing::{push_number_field, push_words};
 use osi_tap::{Cause, Mark, Tap};
-use osi_verdict::{
-    Connection, Told, Unjudged, push_broke_first, push_connection, push_first, push_left_first,
-    push_reading, push_side, push_unjudged, push_without,
-};
 use std::alloc::AllocError;
 
 /// Adds what a mark is at, and what was found there.
@@ -289,7 +288,9 @@ fn push_last(text: &mut Vec<u8>, last: &Last) -> Result<(), AllocError>
         Last::Broke(direction, offset, by) => push_broke_first(text, direction, offset, &by),
         Last::Left(direction, offset, by) => push_left_first(text, direction, offset, &by),
         Last::Transport(direction, mark) => push_mark_first(text, direction, &mark),
-        Last::TooManySessions => push_unjudged(text, Unjudged::TooMany),
+        Last::TooManySessions => {
+            push_words(text, "not judged: too many sessions explain a side\n")
+        }
         Last::Limit => push_words(
             text,
             "not judged: more passed on a connection than is kept\n",

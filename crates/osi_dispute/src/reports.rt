@@ -11,17 +11,16 @@ ghost use Rattle.osi_tap.specs.Rooms.{is_over};
 ghost use Rattle.osi_tap.specs.Tapping.{State};
 ghost use Rattle.osi_tap.specs.declared.marks.First.{First as Breach};
 ghost use Rattle.osi_dispute.specs.declared.reports.Pair.{Pair as Couple};
-ghost use Rattle.osi_verdict.specs.Facts.{is_kept, is_left, connection_with};
-ghost use Rattle.osi_verdict.specs.Leaving.{is_dropped};
+ghost use Rattle.osi_dispute.specs.Telling.{is_kept, is_left, is_dropped, connection_with};
 ghost use Rattle.osi_dispute.specs.Reports.{SaysSo, is_opened, is_refused_in, Tells, IsPair, IsPairOf};
 ghost use Rattle.osi_dispute.specs.Reports.{all_keep, some_over, carried, is_clear, kept_last, HoldsReached, IsFirstLast};
 ghost use Rattle.osi_dispute.specs.Reports.{IsLast, IsMarkLast, IsStrayLast};
 ghost use Rattle.osi_dispute.specs.Openings.{Opens, begins_late, called_back, has_no_octets, is_request, may_be_late, unjudged_in};
 
 use crate::openings::Opening;
+use crate::told::{Connection, Told};
 use osi_judge::{Break, Direction, Finding, Reading};
 use osi_tap::{Connection as Joint, First, Layer, Mark, Tap, UnitKind};
-use osi_verdict::{Connection, Told};
 use std::alloc::AllocError;
 
 /// What is reported of one connection.

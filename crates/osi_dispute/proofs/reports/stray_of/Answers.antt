@@ -2,7 +2,7 @@ use Rattle.std.proofs.Common.{arith}
 use Rattle.osi_dispute.proofs.Vocabulary.{refl}
 use Rattle.osi_judge.specs.declared.findings.Finding.TheVariants as finding
 use Rattle.osi_dispute.specs.declared.reports.Last.TheVariants as ending
-use Rattle.osi_verdict.specs.declared.verdicts.Told.TheVariants as what
+use Rattle.osi_dispute.specs.declared.told.Told.TheVariants as what
 use Rattle.osi_dispute.proofs.a_report_says_what_a_tap_holds.{broke_says, left_says, stray_held, kept_or_blamed}
 use Rattle.osi_dispute.proofs.reports.stray_of.Goals as goal
 

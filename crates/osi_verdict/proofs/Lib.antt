@@ -1,3 +1,0 @@
-mod Vocabulary
-pub mod text_added_in_two_parts_is_added_whole
-pub mod what_is_told_is_by_facts
