@@ -345,3 +345,8 @@ pub gives_as : (w : Watched) (x : Told) (new : List Member) (heard : List (List 
     (λ (us : List (List ℕ)) (later : List Remark). SomeExplains us members (remarks_of x ++ later) ↔ SomeExplains us new later) →
     Gives w x new
 gives_as w x new heard members h m g = grind arith
+
+-- ---- how many TSDUs it told
+
+pub count_kept : (w : Watched) (said : List Told) → Watches w said → w.finding ≡ Kept → w.told ≡ length said
+count_kept w said k e = grind arith
