@@ -1,5 +1,5 @@
 -- A piece that passes adds to the stream of its side, and to no other: for what reads captures.
-use Rattle.osi_judge.proofs.Vocabulary.{◌≡◌, ◌∙◌, refl, ap, ℕ, ◌+◌, List, [], ◌∷◌, ◌++◌, arith, flat_map-append, Direction, Left, Right}
+use Rattle.osi_judge.proofs.Vocabulary.{◌≡◌, ◌∙◌, refl, ap, ℕ, List, [], ◌∷◌, ◌++◌, arith, flat_map-append, Direction, Left, Right}
 use Rattle.osi_judge.proofs.Vocabulary.{other, Capture, piece, stream}
 
 stream_own : (d : Direction) (octets : List ℕ) → stream d (piece d octets) ≡ octets

@@ -14,6 +14,8 @@ ghost use Rattle.osi_session.specs.Standing.{Seen, seen_called, seen_calling};
 ghost use Rattle.osi_judge.specs.declared.directions.Direction.{Direction};
 ghost use Rattle.osi_judge.specs.declared.findings.Finding.{Finding};
 ghost use Rattle.osi_judge.specs.Between.{seen_to};
+ghost use Rattle.osi_judge.specs.Breaking.{BreaksWith};
+ghost use Rattle.osi_judge.specs.declared.rules.Break.{Break};
 ghost use Rattle.osi_judge.specs.Sides.{begin_of};
 ghost use Rattle.std.specs.List.{flat_map};
 ghost use Rattle.osi_judge.specs.declared.members.Member.{Member};
@@ -24,7 +26,7 @@ ghost use Rattle.osi_judge.specs.Judging.{HasRoom, IsFound};
 ghost use Rattle.osi_judge.specs.Members.{is_empty};
 ghost use Rattle.osi_judge.specs.Nearest.{Unsaid, reached, far, nearest};
 ghost use Rattle.osi_judge.specs.Onward.{IsNearest, StandsBehind};
-ghost use Rattle.osi_judge.specs.Outlines.{AreAlike, bare, outline};
+ghost use Rattle.osi_judge.specs.Outlines.{AreAlike, bare, outline, outlines};
 ghost use Rattle.osi_judge.specs.Findings.{broke_session, is_judged, place_of};
 ghost use Rattle.osi_judge.specs.Running.{IsSentFrom, IsHonest};
 
@@ -64,6 +66,14 @@ pub fn an_outline_has_no_user_data()
         → 4 ≤ length tsdu → outline tsdu ≡ 1 ∷ 0 ∷ 1 ∷ 0 ∷ [] }
     ensures part_outline { (tsdu octets : List ℕ) (place : Place) (item : Meaning) → said_at tsdu ≡ Ok (says item ∷ part place octets ∷ [])
         → has_no_effect item ≡ true → 7 + length octets ≤ length tsdu → outline tsdu ≡ part_octets place (replicate (length octets) 0) }
+{}
+
+/// So the outlines of the TSDUs of the other side are enough to tell how a session of a side stands (`stands`), and by which
+/// rule the side broke the protocol (`rule`): what is told by them is told by the TSDUs themselves.
+pub fn outlines_tell_what_the_tsdus_do()
+    ensures stands { (us : List (List ℕ)) (m : Member) (s : Stands) → StandsBehind (outlines us) m s → StandsBehind us m s }
+    ensures rule { (us : List (List ℕ)) (tsdu : List ℕ) (before : ℕ) (members at : List Member) (by : Break)
+        → BreaksWith (outlines us) tsdu before members at by → BreaksWith us tsdu before members at by }
 {}
 
 /// An honest session is explained, whatever the other side sends and its own user calls, at whatever times: any

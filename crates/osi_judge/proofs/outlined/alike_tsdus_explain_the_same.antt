@@ -1,14 +1,16 @@
 -- What is explained, found and taken where outlines were heard is so where the TSDUs themselves were.
--- For the judge, which keeps outlines, and says what holds of the TSDUs of a capture.
-use Rattle.osi_judge.proofs.Vocabulary.{◌≡◌, ◌∙◌, refl, sym, ap, subst, ℕ, zero, suc, ◌+◌, Bool, true, false, List, [], ◌∷◌, take, get_or}
-use Rattle.osi_judge.proofs.Vocabulary.{Option, None, Result, Ok, IfSome, if◌then◌else◌, arith, SpduFault, Meaning, Word, Words, says}
-use Rattle.osi_judge.proofs.Vocabulary.{is_second, written, has_no_effect, Seen, Count, Takes, Finding, Kept, Broke, TooMany, Explains}
-use Rattle.osi_judge.proofs.Vocabulary.{Remark, Told, done, takes, answers, IsAstray, IsFound, IsKept, AreAlike, bare, outline_as}
-use Rattle.osi_judge.proofs.Vocabulary.{outline_behind, outlines, in_first, offered_in, selects_outside}
+-- For a side, which keeps outlines, and says what holds of the TSDUs.
+use Rattle.osi_judge.proofs.Vocabulary.{◌≡◌, ◌∙◌, refl, sym, ap, subst, ℕ, zero, suc, ◌+◌, Bool, true, false, List, [], ◌∷◌, length, take}
+use Rattle.osi_judge.proofs.Vocabulary.{get_or, Option, None, Result, Ok, IfSome, if◌then◌else◌, arith, SpduFault, Meaning, Word, Words}
+use Rattle.osi_judge.proofs.Vocabulary.{says, is_second, written, Reply, has_no_effect, Seen, Count, Takes, Finding, Kept, Broke, TooMany}
+use Rattle.osi_judge.proofs.Vocabulary.{Member, Stands, Explains, Remark, Told, done, takes, answers, IsAstray, IsFound, IsKept, Comes}
+use Rattle.osi_judge.proofs.Vocabulary.{StandsBehind, StopsBy, standing_of, stays, goes_to, AreAlike, bare, outline_as, outline_behind}
+use Rattle.osi_judge.proofs.Vocabulary.{outlines, in_first, offered_in, selects_outside}
 use Rattle.osi_spdu.specs.Reading.{tsdu_at, unit_at}
 use Rattle.osi_message.specs.Reading.{said_at}
 use Rattle.osi_judge.specs.declared.findings.Finding.TheVariants.{Left}
 use Rattle.osi_judge.specs.Explaining.{says as sends}
+use Rattle.osi_judge.specs.Onward.{goes}
 use Rattle.osi_judge.specs.Outlines.{outline}
 use Rattle.osi_judge.proofs.outlined.an_outline_is_taken_alike.{Bared, bared, numbered_at, part_again, read_again, taken_alike}
 
@@ -44,6 +46,10 @@ pub outlines_at : (us : List (List ℕ)) (i : ℕ) → get_or (outlines us) i []
 outlines_at [] i = sym outline_none
 outlines_at (u ∷ us) zero = refl
 outlines_at (u ∷ us) (suc i) = outlines_at us i
+
+pub length_outlines : (us : List (List ℕ)) → length (outlines us) ≡ length us
+length_outlines [] = refl
+length_outlines (u ∷ us) = ap (λ (n : ℕ). suc n) (length_outlines us)
 
 pub outlines_alike : (us : List (List ℕ)) → Alike (outlines us) us
 outlines_alike us = λ i. subst (λ (x : List ℕ). AreAlike x (get_or us i [])) (sym (outlines_at us i)) (taken_alike (get_or us i []))
@@ -108,3 +114,18 @@ found_of_tsdus begin us told Kept h = kept_of_tsdus begin us told h
 found_of_tsdus begin us told (Broke i) h = grind (arith, explains_as, outlines_alike, same_selection)
 found_of_tsdus begin us told (Left i) h = (h.0, kept_of_tsdus begin us (take i told) h.1, astray begin us (take (i + 1) told) h.2)
 found_of_tsdus begin us told TooMany (i, l, h) = (i, l, kept_of_tsdus begin us (take (i + 1) told) h)
+
+-- ---- how a session stands
+
+comes_as : (us vs : List (List ℕ)) → Alike us vs → (m n : Member) → Comes us m n → Comes vs m n
+comes_as us vs h m n (stays x) = stays x
+comes_as us vs h m n (goes x y t q k) =
+    goes x y t (grind (arith, takes_as))
+    (comes_as us vs h y t k)
+
+stops_as : (s : Seen) (a b : List ℕ) (owes : Option Reply) → AreAlike a b → StopsBy s a owes → StopsBy s b owes
+stops_as s a b owes h k = grind (arith, takes_as)
+
+pub stands_of_tsdus : (us : List (List ℕ)) (m : Member) (s : Stands) → StandsBehind (outlines us) m s → standing_of s ≡ goes_to us m
+    → StandsBehind us m s
+stands_of_tsdus us m s h g = grind (arith, comes_as, outlines_alike, length_outlines, stops_as)

@@ -1,7 +1,7 @@
 -- TSDUs of which equal ones in a row are kept once: how many there are, which one has a place, one more, and one fewer.
 -- For the value Heard.
 use Rattle.osi_judge.proofs.Vocabulary.{◌≡◌, ◌∙◌, refl, sym, ap, ℕ, zero, suc, ◌+◌, ◌-◌, ◌<◌, ◌≤◌, List, [], ◌∷◌, ◌++◌, length, get_or}
-use Rattle.osi_judge.proofs.Vocabulary.{arith, Bool, true, false, ◌&&◌, ◌==◌, if◌then◌else◌, replicate, get_or_append_left}
+use Rattle.osi_judge.proofs.Vocabulary.{arith, Bool, true, false, ◌&&◌, ◌==◌, replicate, get_or_append_left}
 use Rattle.osi_judge.proofs.Vocabulary.{get_or-append_right, get_or-replicate, length-append, length-replicate, append-nil, replicate_more}
 use Rattle.osi_judge.proofs.Vocabulary.{eq-eqb, eqb-true, eqb, pointwise, Run, is_same, once, once_behind, room_in, AreApart, AreFrom}
 use Rattle.osi_judge.proofs.Vocabulary.{HasPlace, IsOther, begin_at, begin_in, last_from, last_in, room_of, spread}

@@ -1,6 +1,6 @@
 -- A side keeps the protocol, or strays from it at one TSDU: those before it are kept, and no more.
 -- For the law that a side is found in one way.
-use Rattle.osi_judge.proofs.Vocabulary.{◌≡◌, refl, ap, ℕ, suc, zero, ◌+◌, ◌<◌, ◌≤◌, ◌⊎◌, inl, inr, Bool, true, List, [], ◌∷◌, take, drop}
+use Rattle.osi_judge.proofs.Vocabulary.{◌≡◌, refl, ap, ℕ, suc, zero, ◌+◌, ◌<◌, ◌≤◌, ◌⊎◌, inl, inr, Bool, true, List, [], ◌∷◌, take}
 use Rattle.osi_judge.proofs.Vocabulary.{arith, take-append-drop, Seen, Finding, Kept, Broke, TooMany, Told, IsKept, IsAstray, IsFound}
 use Rattle.osi_judge.proofs.Vocabulary.{IsFew, HasRoom, is_judged, place_of, Some}
 use Rattle.osi_judge.specs.declared.findings.Finding.TheVariants.{Left}
