@@ -144,7 +144,7 @@ module _ (P : List (List ℕ) → Carrier → Type 0) (tracked : IsTracked P) wh
         (takes us dry.units old.end new.end (all_octets dry.units _ _ dry.packets) p dry.taken)
         (subst (λ (l : List ℕ). ArePackets dry.units (old.held.octets ++ l) new.held.octets) (sym whole) dry.packets) (λ lasts. refl) is
     goes us piece put used old new p (inl (inr stop)) is =
-        let s = stopped_within awaits 0 [] [] [] proper awaits history.begins piece used old new stop new.end.carrier.ended
+        let s = stopped_within piece used old new stop new.end.carrier.ended
         (uses_all new.end) refl refl in
         as_used us stop.units (take used piece) put s.rest old new
         (takes us stop.units old.end new.end (all_octets stop.units _ _ stop.packets) p stop.taken) s.cut s.held is
@@ -171,7 +171,7 @@ module _ (P : List (List ℕ) → Carrier → Type 0) (tracked : IsTracked P) wh
             Tracks P us (take used piece) put old new
         by (inl same) =
             all_used us f.units piece put (f.rest ++ drop f.within piece) used old new f.all
-            (more_used awaits 0 [] [] [] proper awaits history.begins f.units old.held.octets piece f.rest f.within f.packets) ended
+            (more_used f.units old.held.octets piece f.rest f.within f.packets) ended
             (subst (λ (x : End). P (us ++ f.units) x.carrier) (sym same)
             (tracked.ends_so (us ++ f.units) NoMemory f.before.carrier before)) is
         by (inr (packet, one, starved)) =
