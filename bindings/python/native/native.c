@@ -1,4 +1,5 @@
 /* The calls of an end that a program makes for each message, for Python: what _calls.py does over ctypes, with the same results.
+ * judge.h has those of a judge.
  *
  * It is built for the limited API of Python 3.9, so that one file serves that version and all later ones. It is not linked with
  * libosi-session: the package loads the library and hands over the addresses of its functions (`bind`). No call here lets another
@@ -222,6 +223,7 @@ static PyObject *say(PyObject *self, PyObject *given, PyObject *named, call_with
     return answered(self, &said, call(said.slot, (uint16_t)said.reference, said.octets.at, said.octets.length));
 }
 
+#define WITH_NAMES(call) ((PyCFunction)(void (*)(void))(call)), METH_VARARGS | METH_KEYWORDS
 #define CALL_WITH_OCTETS(name, least) \
     static PyObject *call_##name(PyObject *self, PyObject *given, PyObject *named) \
     { \
@@ -578,7 +580,6 @@ static PyObject *call_traces(PyObject *self, PyObject *traces)
     Py_RETURN_NONE;
 }
 
-#define WITH_NAMES(call) ((PyCFunction)(void (*)(void))(call)), METH_VARARGS | METH_KEYWORDS
 static PyMethodDef calls[] = {
     {"refuse", WITH_NAMES(call_refuse), NULL},
     {"data", WITH_NAMES(call_data), NULL},
@@ -622,8 +623,10 @@ static void free_calls(PyObject *self)
 static PyType_Slot calls_slots[] = {{Py_tp_methods, calls}, {Py_tp_dealloc, free_calls}, {0, NULL}};
 static PyType_Spec calls_spec = {"osi_session._native.Calls", sizeof(Calls), 0, Py_TPFLAGS_DEFAULT | Py_TPFLAGS_BASETYPE, calls_slots};
 
-/* Keeps what the package hands over, and gives the methods their texts. */
-static bool keep(PyObject *texts, PyObject *handed)
+#include "judge.h"
+
+/* Keeps what the package hands over. */
+static bool keep(PyObject *handed)
 {
     for (size_t i = 0; i < COUNT(parts); i++) {
         PyObject *part = PyDict_GetItemString(handed, parts[i].name);
@@ -632,45 +635,54 @@ static bool keep(PyObject *texts, PyObject *handed)
         Py_INCREF(part);
         *parts[i].place = part;
     }
-    for (PyMethodDef *call = calls; call->ml_name != NULL; call++) {
+    return true;
+}
+
+/* The base class of such objects, whose methods get their texts. */
+static PyObject *made_of(PyType_Spec *spec, PyMethodDef *methods, PyObject *texts)
+{
+    for (PyMethodDef *call = methods; call->ml_name != NULL; call++) {
         PyObject *text = PyDict_GetItemString(texts, call->ml_name);
         PyObject *octets = text == NULL ? NULL : PyUnicode_AsUTF8String(text);
         /* The text is kept as long as the process lasts, as the method is. */
         if (octets != NULL)
             call->ml_doc = PyBytes_AsString(octets);
         else if (text != NULL)
-            return false;
+            return NULL;
     }
-    return true;
+    return PyType_FromSpec(spec);
 }
 
-/* The base class of an end: `calls(texts, parts)`. It is made once. */
+/* The base classes of an end and of a judge: `calls(parts, texts of an end, texts of a judge)`. They are made once. */
 static PyObject *make_calls(PyObject *module, PyObject *given)
 {
-    static PyObject *made;
-    PyObject *texts, *handed;
+    static PyObject *end, *judge;
+    PyObject *handed, *of_end, *of_judge;
     (void)module;
-    if (!PyArg_ParseTuple(given, "O!O!:calls", &PyDict_Type, &texts, &PyDict_Type, &handed))
+    if (!PyArg_ParseTuple(given, "O!O!O!:calls", &PyDict_Type, &handed, &PyDict_Type, &of_end, &PyDict_Type, &of_judge))
         return NULL;
-    if (made == NULL && keep(texts, handed))
-        made = PyType_FromSpec(&calls_spec);
-    Py_XINCREF(made);
-    return made;
+    if (judge == NULL
+        && (!keep(handed) || (end = made_of(&calls_spec, calls, of_end)) == NULL
+            || (judge = made_of(&judge_spec, judge_methods, of_judge)) == NULL))
+        return NULL;
+    return PyTuple_Pack(2, end, judge);
 }
 
 static PyMethodDef module_functions[] = {
     {"bind", bind, METH_O, "Hands over the addresses of the library's functions, by their names."},
-    {"calls", make_calls, METH_VARARGS, "The base class of an end, from the texts of its methods and what it needs of the package."},
+    {"calls", make_calls, METH_VARARGS,
+     "The base classes of an end and of a judge, from what they need of the package and the texts of their methods."},
     {NULL, NULL, 0, NULL},
 };
 static struct PyModuleDef definition = {
-    PyModuleDef_HEAD_INIT, "_native", "The calls of an end that a program makes for each message.", -1, module_functions, NULL, NULL, NULL, NULL,
+    PyModuleDef_HEAD_INIT, "_native", "The calls that a program makes for each message.", -1, module_functions, NULL, NULL, NULL, NULL,
 };
 
 PyMODINIT_FUNC PyInit__native(void)
 {
     indications_type = (PyTypeObject *)PyType_FromSpec(&indications_spec);
-    if (indications_type == NULL || !make_names())
+    verdicts_type = (PyTypeObject *)PyType_FromSpec(&verdicts_spec);
+    if (indications_type == NULL || verdicts_type == NULL || !make_names())
         return NULL;
     return PyModule_Create(&definition);
 }
