@@ -20,7 +20,7 @@ sys.path[:0] = [os.path.dirname(os.path.abspath(__file__)), os.path.join(TOP, "t
 from gateways.costs import ECHOES, LINES, echoes  # noqa: E402
 from processor import processor  # noqa: E402
 
-RUNS, RUNS_BESIDE, CALLS, MESSAGES = 7, 5, 20000, 5000
+RUNS, RUNS_BESIDE, CALLS, MESSAGES = 7, 3, 20000, 5000
 DATA = bytes(range(100))
 # How large the pieces are that a judge is fed.
 PIECE = 65536
@@ -234,7 +234,8 @@ def beside(checkout, python):
     version = subprocess.run([python, "-V"], check=True, capture_output=True, text=True).stdout.strip()
     print(f"{processor()}, {version}, microseconds of processor time, the median of {RUNS_BESIDE} runs; load {os.getloadavg()[0]:.1f}")
     rows = [(other, ours, ours / other) for other, ours in zip(*medians)]
-    table(("the other one", "this one", "ratio"), (*OF_MESSAGES, *OF_LINES), rows)
+    table(("the other one", "this one", "this / other"), (*OF_MESSAGES, *OF_LINES), rows)
+    sys.stdout.flush()
 
 
 def main(words):

@@ -223,7 +223,6 @@ static PyObject *say(PyObject *self, PyObject *given, PyObject *named, call_with
     return answered(self, &said, call(said.slot, (uint16_t)said.reference, said.octets.at, said.octets.length));
 }
 
-#define WITH_NAMES(call) ((PyCFunction)(void (*)(void))(call)), METH_VARARGS | METH_KEYWORDS
 #define CALL_WITH_OCTETS(name, least) \
     static PyObject *call_##name(PyObject *self, PyObject *given, PyObject *named) \
     { \
@@ -368,6 +367,17 @@ static PyObject *call_unfed(PyObject *self, PyObject *unused)
     for (Py_ssize_t i = 0; i < pieces_of(self); i++)
         count += (size_t)PyBytes_Size(PyList_GetItem(((Calls *)self)->unfed, i));
     return PyLong_FromSize_t(count - ((Calls *)self)->used);
+}
+
+/* Whether a loop over feed_all would yield nothing more. Feeding no octets says whether an indication is pending. */
+static PyObject *call_is_spent(PyObject *self, PyObject *unused)
+{
+    osi_fed said = {0, false};
+    osi_end *slot = slot_of(self);
+    (void)unused;
+    if (slot == NULL)
+        return NULL;
+    return PyBool_FromLong(pieces_of(self) == 0 && osi.feed(slot, (const uint8_t *)"", 0, &said) == OSI_OK && !said.waits);
 }
 
 static PyObject *call_next_indication(PyObject *self, PyObject *unused)
@@ -606,6 +616,7 @@ static PyMethodDef calls[] = {
     {"live", call_live, METH_NOARGS, NULL},
     {"phase", WITH_NAMES(call_phase), NULL},
     {"ended", call_ended, METH_NOARGS, NULL},
+    {"_is_spent", call_is_spent, METH_NOARGS, NULL},
     {"_attach", call_attach, METH_O, NULL},
     {"_traces", call_traces, METH_O, NULL},
     {NULL, NULL, 0, NULL},

@@ -70,6 +70,8 @@ static const struct {
     {"osi_judge_text", &osi.judge_text},
 };
 #define COUNT(array) (sizeof(array) / sizeof((array)[0]))
+/* A method with arguments by name. */
+#define WITH_NAMES(call) ((PyCFunction)(void (*)(void))(call)), METH_VARARGS | METH_KEYWORDS
 
 /* What the package hands over beside the functions. */
 static struct {
