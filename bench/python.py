@@ -1,11 +1,15 @@
 #!/usr/bin/env python3
 """Times the calls of the package for Python: with the module in C, over ctypes, and without sessions. It needs what `make lib` builds.
 
-    bench/python.py          prints microseconds of processor time, the least of several runs, which take turns
+    bench/python.py                             prints microseconds of processor time, the least of several runs, which take turns
+    bench/python.py --beside CHECKOUT PYTHON..  compares this checkout with another one in which `make lib` was run, such as one of a
+                                                release: many lines over asyncio, and messages of one line, with each of these Pythons.
+                                                Prints medians of several runs, which take turns
 """
 import asyncio
 import contextlib
 import os
+import statistics
 import subprocess
 import sys
 import time
@@ -16,15 +20,21 @@ sys.path[:0] = [os.path.dirname(os.path.abspath(__file__)), os.path.join(TOP, "t
 from gateways.costs import ECHOES, LINES, echoes  # noqa: E402
 from processor import processor  # noqa: E402
 
-RUNS, CALLS, MESSAGES = 7, 20000, 5000
+RUNS, RUNS_BESIDE, CALLS, MESSAGES = 7, 3, 20000, 5000
 DATA = bytes(range(100))
+# How large the pieces are that a judge is fed.
+PIECE = 65536
 # What each process measures, by the unit of its figures.
-ROWS = ("a call for data of 100 octets", "an indication of them", "a message of 100 octets, asyncio, class 0", "the same, class 2",
-        "a message and its echo, asyncio, class 0", "the same, class 2")
-LAST_ROW = f"an echo on each of {LINES} lines, asyncio, both sides"
+OF_CALLS = ("a call for data of 100 octets", "an indication of them", "a call of a judge's feed, of no octets",
+            "a TSDU of data in a judge's pieces of 64 KiB")
+OF_MESSAGES = ("a message of 100 octets, asyncio, class 0", "the same, class 2", "a message and its echo, asyncio, class 0",
+               "the same, class 2")
+OF_LINES = (f"an echo on each of {LINES} lines, asyncio, both sides", "seconds of all of these, by the clock",
+            "milliseconds of one, the median by the clock")
 
 
-def opened(classes):
+def opened(classes, passes=lambda is_called, piece: None):
+    """Two ends with an open connection. What they send is passed on."""
     from osi_session import Connect, Connected, End, Opening, Terms
 
     caller, called = End.caller(Terms(classes=classes)), End.called(Terms(classes=classes))
@@ -33,6 +43,7 @@ def opened(classes):
         for source, sink in ((caller, called), (called, caller)):
             piece = source.outgoing()
             source.taken(len(piece))
+            passes(source is called, piece)
             for shown in sink.feed_all(piece):
                 if isinstance(shown, Connect):
                     sink.accept(shown.reference, shown.requirements)
@@ -57,6 +68,28 @@ def calls():
     heard = time.process_time() - began
     assert count == CALLS, count
     return said / CALLS * 1e6, heard / CALLS * 1e6
+
+
+def judged():
+    """Microseconds of a call of a judge's feed with no octets, and of a TSDU of data in large pieces."""
+    from osi_session import Classes, Judge, TapSide
+
+    judge = Judge()
+    caller, _, reference = opened(Classes.CLASS_0, lambda is_called, piece: judge.feed(TapSide(is_called), piece))
+    feed, side = judge.feed, TapSide.LEFT
+    began = time.process_time()
+    for _ in range(CALLS):
+        feed(side, b"")
+    called = time.process_time() - began
+    for _ in range(CALLS):
+        caller.data(reference, DATA)
+    said = caller.outgoing()
+    began = time.process_time()
+    for at in range(0, len(said), PIECE):
+        feed(side, said[at : at + PIECE])
+    took = time.process_time() - began
+    assert judge.text().endswith("both kept the protocol\n"), judge.text()
+    return called / CALLS * 1e6, took / CALLS * 1e6
 
 
 @contextlib.asynccontextmanager
@@ -143,44 +176,80 @@ async def exchanged_plainly():
         return took / MESSAGES * 1e6
 
 
-def measured():
-    """What one process measures."""
+def of_messages():
+    """What each process measures of messages."""
     from osi_session import Classes
 
     both = (Classes.CLASS_0, Classes.CLASS_2)
-    return [*calls(), *(asyncio.run(streamed(classes)) for classes in both), *(asyncio.run(exchanged(classes)) for classes in both)]
+    return [*(asyncio.run(streamed(classes)) for classes in both), *(asyncio.run(exchanged(classes)) for classes in both)]
 
 
-def of_lines(kind):
-    """Microseconds of an echo on each of many lines, or on as many byte connections."""
-    (_, _, took), errors = echoes(sys.executable, kind, LINES, ECHOES)
+def of_lines(python, kind):
+    """An echo on each of many lines, or on as many byte connections: microseconds of one, seconds of all, milliseconds of one."""
+    (seconds, median, took), errors = echoes(python, kind, LINES, ECHOES)
     assert not errors, errors
-    return took / (LINES * ECHOES) * 1e6
+    return took / (LINES * ECHOES) * 1e6, seconds, median * 1e3
+
+
+def of_process(python, checkout, what, way=""):
+    """What a process measures with the package of a checkout."""
+    os.environ.update(OSI_SESSION_DIR=f"{checkout}/build", PYTHONPATH=f"{checkout}/bindings/python/src",
+                      OSI_SESSION_CTYPES="1" * (way == "ctypes"))
+    done = subprocess.run([python, os.path.abspath(__file__), "--measure", what], check=True, capture_output=True, text=True)
+    return [*map(float, done.stdout.split()), *of_lines(python, "osi")]
 
 
 def of_way(way):
     """The figures of one way; 0 for what it doesn't have."""
-    os.environ.update(OSI_SESSION_DIR=f"{TOP}/build", PYTHONPATH=f"{TOP}/bindings/python/src", OSI_SESSION_CTYPES="1" * (way == "ctypes"))
     if way == "plain":
-        return [0, 0, 0, 0, *[asyncio.run(exchanged_plainly())] * 2, of_lines("plain")]
-    done = subprocess.run([sys.executable, __file__, "--measure"], check=True, capture_output=True, text=True)
-    return [*map(float, done.stdout.split()), of_lines("osi")]
+        return [*[0] * (len(OF_CALLS) + 2), *[asyncio.run(exchanged_plainly())] * 2, *of_lines(sys.executable, "plain")]
+    return of_process(sys.executable, TOP, "all", way)
 
 
-def main():
-    if sys.argv[1:] == ["--measure"]:
-        print(*measured())
-        return
+def table(names, columns, rows):
+    print(f"{'':52}" + "".join(f" {name:>14}" for name in names))
+    for name, row in zip(columns, rows):
+        print(f"{name:52}" + "".join(f" {f'{figure:.2f}' if figure else '':>14}" for figure in row))
+
+
+def ways():
     best = {}
     for _ in range(RUNS):
         for way in ("in C", "ctypes", "plain"):
             figures = of_way(way)
             best[way] = [min(pair) for pair in zip(best.get(way, figures), figures)]
     print(f"{processor()}, Python {sys.version.split()[0]}, microseconds of processor time, the least of {RUNS} runs")
-    print(f"{'':50} {'in C':>8} {'ctypes':>8} {'ctypes / in C':>14} {'no session':>11}")
-    for name, ours, other, plain in zip((*ROWS, LAST_ROW), *best.values()):
-        print(f"{name:50} {ours:8.2f} {other:8.2f} {other / ours:14.1f} {f'{plain:.2f}' if plain else '':>11}")
+    rows = [(ours, other, other / ours, plain) for ours, other, plain in zip(*best.values())]
+    table(("in C", "ctypes", "ctypes / in C", "no session"), (*OF_CALLS, *OF_MESSAGES, *OF_LINES), rows)
+
+
+def beside(checkout, python):
+    """This checkout beside another one."""
+    checkouts = (os.path.abspath(checkout), TOP)
+    runs = {place: [] for place in checkouts}
+    for _ in range(RUNS_BESIDE):
+        for place in checkouts:
+            runs[place].append(of_process(python, place, "messages"))
+    medians = [[statistics.median(figures) for figures in zip(*runs[place])] for place in checkouts]
+    version = subprocess.run([python, "-V"], check=True, capture_output=True, text=True).stdout.strip()
+    print(f"{processor()}, {version}, microseconds of processor time, the median of {RUNS_BESIDE} runs; load {os.getloadavg()[0]:.1f}")
+    rows = [(other, ours, ours / other) for other, ours in zip(*medians)]
+    table(("the other one", "this one", "this / other"), (*OF_MESSAGES, *OF_LINES), rows)
+    sys.stdout.flush()
+
+
+def main(words):
+    if words[:1] == ["--measure"]:
+        calls_too = words[1] == "all"
+        print(*(calls() + judged() if calls_too else ()), *of_messages())
+    elif words[:1] == ["--beside"] and len(words) >= 2:
+        for python in words[2:] or [sys.executable]:
+            beside(words[1], python)
+    elif words:
+        sys.exit(__doc__)
+    else:
+        ways()
 
 
 if __name__ == "__main__":
-    main()
+    main(sys.argv[1:])

@@ -2,7 +2,7 @@
 give the same octets; their time is SOURCE_DATE_EPOCH, or the earliest that a wheel can store.
 
 A wheel has no library, and fits every platform. With two settings it has the shared library in it, and fits one platform; with a
-third it also has the module in C that makes an end's calls fast, for Python 3.9 and later:
+third it also has the module in C that makes the calls of each message fast, for Python 3.9 and later:
 
     pip wheel --config-settings library=PATH --config-settings platform=linux_x86_64 --config-settings native=PATH .
 

@@ -1,4 +1,5 @@
 /* The calls of an end that a program makes for each message, for Python: what _calls.py does over ctypes, with the same results.
+ * judge.h has those of a judge.
  *
  * It is built for the limited API of Python 3.9, so that one file serves that version and all later ones. It is not linked with
  * libosi-session: the package loads the library and hands over the addresses of its functions (`bind`). No call here lets another
@@ -368,6 +369,17 @@ static PyObject *call_unfed(PyObject *self, PyObject *unused)
     return PyLong_FromSize_t(count - ((Calls *)self)->used);
 }
 
+/* Whether a loop over feed_all would yield nothing more. Feeding no octets says whether an indication is pending. */
+static PyObject *call_is_spent(PyObject *self, PyObject *unused)
+{
+    osi_fed said = {0, false};
+    osi_end *slot = slot_of(self);
+    (void)unused;
+    if (slot == NULL)
+        return NULL;
+    return PyBool_FromLong(pieces_of(self) == 0 && osi.feed(slot, (const uint8_t *)"", 0, &said) == OSI_OK && !said.waits);
+}
+
 static PyObject *call_next_indication(PyObject *self, PyObject *unused)
 {
     osi_end *slot = slot_of(self);
@@ -578,7 +590,6 @@ static PyObject *call_traces(PyObject *self, PyObject *traces)
     Py_RETURN_NONE;
 }
 
-#define WITH_NAMES(call) ((PyCFunction)(void (*)(void))(call)), METH_VARARGS | METH_KEYWORDS
 static PyMethodDef calls[] = {
     {"refuse", WITH_NAMES(call_refuse), NULL},
     {"data", WITH_NAMES(call_data), NULL},
@@ -605,6 +616,7 @@ static PyMethodDef calls[] = {
     {"live", call_live, METH_NOARGS, NULL},
     {"phase", WITH_NAMES(call_phase), NULL},
     {"ended", call_ended, METH_NOARGS, NULL},
+    {"_is_spent", call_is_spent, METH_NOARGS, NULL},
     {"_attach", call_attach, METH_O, NULL},
     {"_traces", call_traces, METH_O, NULL},
     {NULL, NULL, 0, NULL},
@@ -622,8 +634,10 @@ static void free_calls(PyObject *self)
 static PyType_Slot calls_slots[] = {{Py_tp_methods, calls}, {Py_tp_dealloc, free_calls}, {0, NULL}};
 static PyType_Spec calls_spec = {"osi_session._native.Calls", sizeof(Calls), 0, Py_TPFLAGS_DEFAULT | Py_TPFLAGS_BASETYPE, calls_slots};
 
-/* Keeps what the package hands over, and gives the methods their texts. */
-static bool keep(PyObject *texts, PyObject *handed)
+#include "judge.h"
+
+/* Keeps what the package hands over. */
+static bool keep(PyObject *handed)
 {
     for (size_t i = 0; i < COUNT(parts); i++) {
         PyObject *part = PyDict_GetItemString(handed, parts[i].name);
@@ -632,45 +646,54 @@ static bool keep(PyObject *texts, PyObject *handed)
         Py_INCREF(part);
         *parts[i].place = part;
     }
-    for (PyMethodDef *call = calls; call->ml_name != NULL; call++) {
+    return true;
+}
+
+/* The base class of such objects, whose methods get their texts. */
+static PyObject *made_of(PyType_Spec *spec, PyMethodDef *methods, PyObject *texts)
+{
+    for (PyMethodDef *call = methods; call->ml_name != NULL; call++) {
         PyObject *text = PyDict_GetItemString(texts, call->ml_name);
         PyObject *octets = text == NULL ? NULL : PyUnicode_AsUTF8String(text);
         /* The text is kept as long as the process lasts, as the method is. */
         if (octets != NULL)
             call->ml_doc = PyBytes_AsString(octets);
         else if (text != NULL)
-            return false;
+            return NULL;
     }
-    return true;
+    return PyType_FromSpec(spec);
 }
 
-/* The base class of an end: `calls(texts, parts)`. It is made once. */
+/* The base classes of an end and of a judge: `calls(parts, texts of an end, texts of a judge)`. They are made once. */
 static PyObject *make_calls(PyObject *module, PyObject *given)
 {
-    static PyObject *made;
-    PyObject *texts, *handed;
+    static PyObject *end, *judge;
+    PyObject *handed, *of_end, *of_judge;
     (void)module;
-    if (!PyArg_ParseTuple(given, "O!O!:calls", &PyDict_Type, &texts, &PyDict_Type, &handed))
+    if (!PyArg_ParseTuple(given, "O!O!O!:calls", &PyDict_Type, &handed, &PyDict_Type, &of_end, &PyDict_Type, &of_judge))
         return NULL;
-    if (made == NULL && keep(texts, handed))
-        made = PyType_FromSpec(&calls_spec);
-    Py_XINCREF(made);
-    return made;
+    if (judge == NULL
+        && (!keep(handed) || (end = made_of(&calls_spec, calls, of_end)) == NULL
+            || (judge = made_of(&judge_spec, judge_methods, of_judge)) == NULL))
+        return NULL;
+    return PyTuple_Pack(2, end, judge);
 }
 
 static PyMethodDef module_functions[] = {
     {"bind", bind, METH_O, "Hands over the addresses of the library's functions, by their names."},
-    {"calls", make_calls, METH_VARARGS, "The base class of an end, from the texts of its methods and what it needs of the package."},
+    {"calls", make_calls, METH_VARARGS,
+     "The base classes of an end and of a judge, from what they need of the package and the texts of their methods."},
     {NULL, NULL, 0, NULL},
 };
 static struct PyModuleDef definition = {
-    PyModuleDef_HEAD_INIT, "_native", "The calls of an end that a program makes for each message.", -1, module_functions, NULL, NULL, NULL, NULL,
+    PyModuleDef_HEAD_INIT, "_native", "The calls that a program makes for each message.", -1, module_functions, NULL, NULL, NULL, NULL,
 };
 
 PyMODINIT_FUNC PyInit__native(void)
 {
     indications_type = (PyTypeObject *)PyType_FromSpec(&indications_spec);
-    if (indications_type == NULL || !make_names())
+    verdicts_type = (PyTypeObject *)PyType_FromSpec(&verdicts_spec);
+    if (indications_type == NULL || verdicts_type == NULL || !make_names())
         return NULL;
     return PyModule_Create(&definition);
 }

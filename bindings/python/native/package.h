@@ -27,6 +27,12 @@ static struct {
     size_t (*live)(osi_end *);
     uint32_t (*phase)(osi_end *, uint16_t);
     uint32_t (*ended)(osi_end *, uint64_t *);
+    uint32_t (*judge_feed)(osi_judge *, uint32_t, const uint8_t *, size_t, size_t *);
+    uint32_t (*judge_next)(osi_judge *, osi_verdict *);
+    uint32_t (*judge_verdict)(osi_judge *, uint64_t, uint32_t, osi_verdict *);
+    uint32_t (*judge_connections)(osi_judge *, uint64_t *);
+    uint32_t (*judge_write)(osi_judge *);
+    void (*judge_text)(osi_judge *, osi_octets *);
 } osi;
 
 static const struct {
@@ -56,8 +62,16 @@ static const struct {
     {"osi_live", &osi.live},
     {"osi_phase", &osi.phase},
     {"osi_ended", &osi.ended},
+    {"osi_judge_feed", &osi.judge_feed},
+    {"osi_judge_next", &osi.judge_next},
+    {"osi_judge_verdict", &osi.judge_verdict},
+    {"osi_judge_connections", &osi.judge_connections},
+    {"osi_judge_write", &osi.judge_write},
+    {"osi_judge_text", &osi.judge_text},
 };
 #define COUNT(array) (sizeof(array) / sizeof((array)[0]))
+/* A method with arguments by name. */
+#define WITH_NAMES(call) ((PyCFunction)(void (*)(void))(call)), METH_VARARGS | METH_KEYWORDS
 
 /* What the package hands over beside the functions. */
 static struct {
@@ -69,6 +83,8 @@ static struct {
     PyObject *data, *minor, *minor_confirmed, *fed; /* classes */
     PyObject *phases;    /* the phases, by number */
     PyObject *received, *sent; /* the directions */
+    PyObject *tap_side;  /* TapSide, by its number; raises ValueError if it is none */
+    PyObject *verdict;   /* the verdict at the address of an osi_verdict */
 } package;
 
 /* The names of attributes. */
@@ -107,6 +123,8 @@ static const struct {
     {"phases", &package.phases},
     {"received", &package.received},
     {"sent", &package.sent},
+    {"tap_side", &package.tap_side},
+    {"verdict", &package.verdict},
 };
 
 static bool make_names(void)

@@ -93,6 +93,24 @@ class Judges(unittest.TestCase):
         judge.feed(TapSide.RIGHT, DT)
         self.assertEqual([told.side for told in judge.verdicts()], [TapSide.RIGHT])
 
+    def test_an_iterator_that_has_ended_stays_at_its_end(self):
+        judge = opened()
+        verdicts = judge.verdicts()
+        self.assertEqual(list(verdicts), [])
+        told = judge.feed(TapSide.RIGHT, DT)
+        self.assertEqual(list(verdicts), [])
+        self.assertEqual([one.side for one in told], [TapSide.RIGHT])
+
+    def test_an_iterator_keeps_its_judge(self):
+        told = opened().feed(TapSide.RIGHT, DT)
+        self.assertEqual([one.side for one in told], [TapSide.RIGHT])
+
+    def test_a_side_and_octets_in_other_forms_and_arguments_by_name(self):
+        judge = opened()
+        self.assertEqual(list(judge.feed(piece=bytearray(DT[:4]), side=1)), [])
+        self.assertEqual([one.side for one in judge.feed(True, memoryview(DT[4:]))], [TapSide.RIGHT])
+        self.assertEqual(judge.verdict(connection=0, side=1), judge.verdict(0, TapSide.RIGHT))
+
     def test_the_first_break_is_told_first(self):
         judge = opened()
         judge.feed(TapSide.RIGHT, DT)
@@ -170,9 +188,13 @@ class Judges(unittest.TestCase):
 
     def test_what_is_no_side_no_number_and_what_are_no_octets(self):
         self.assertRaises(ValueError, Judge().feed, 2, DT)
+        self.assertRaises(ValueError, Judge().feed, -1, DT)
+        self.assertRaises(TypeError, Judge().feed, TapSide.LEFT)
         self.assertRaises(TypeError, Judge().feed, TapSide.LEFT, "text")
         self.assertRaises(ValueError, Judge().verdict, 0, 2)
         self.assertRaises(ValueError, Judge().verdict, -1, TapSide.LEFT)
+        self.assertRaises(ValueError, Judge().verdict, 1 << 64, TapSide.LEFT)
+        self.assertRaises(TypeError, Judge().verdict, "0", TapSide.LEFT)
 
 
 if __name__ == "__main__":

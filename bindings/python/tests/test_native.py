@@ -3,7 +3,7 @@ import inspect
 import os
 import unittest
 
-from osi_session import Code, End, Opening, SessionError, _calls, _library
+from osi_session import Code, End, Judge, Opening, SessionError, TapSide, _calls, _library, _verdicts
 
 IN_C = _library.native()
 
@@ -11,10 +11,11 @@ IN_C = _library.native()
 @unittest.skipIf(IN_C is None, "there is no module in C for this Python, or OSI_SESSION_CTYPES is set")
 class InC(unittest.TestCase):
     def test_each_call_is_there_with_its_text_and_arguments(self):
-        for name, method in vars(_calls.Calls).items():
+        both = [(End, it) for it in vars(_calls.Calls).items()] + [(Judge, it) for it in vars(_verdicts.JudgeCalls).items()]
+        for of, (name, method) in both:
             if name.startswith("_") or not callable(method):
                 continue
-            in_c = getattr(End, name)
+            in_c = getattr(of, name)
             self.assertEqual(type(in_c).__name__, "method_descriptor", name)
             self.assertEqual(in_c.__doc__.split(), inspect.getdoc(method).split(), name)
             self.assertEqual(list(inspect.signature(in_c).parameters), list(inspect.signature(method).parameters), name)
@@ -50,8 +51,11 @@ class InC(unittest.TestCase):
             ):
                 self.assertRaises(TypeError, call)
 
-    def test_an_end_that_was_not_made(self):
+    def test_an_end_and_a_judge_that_were_not_made(self):
         self.assertRaises(RuntimeError, End.__new__(End).outgoing)
+        judge = Judge.__new__(Judge)
+        for call in (lambda: judge.feed(TapSide.LEFT, b"a"), lambda: list(judge.verdicts()), judge.connections, judge.text):
+            self.assertRaises(RuntimeError, call)
 
     def test_arguments_by_name(self):
         with End.caller() as end:

@@ -37,7 +37,7 @@ from ._codes import (
     VerdictKind,
 )
 from ._end import End
-from ._judge import Judge, Verdict
+from ._judge import Judge
 from ._library import VERSION as __version__, LibraryNotFound, library_version
 from ._values import (
     Aborted,
@@ -73,6 +73,7 @@ from ._values import (
     Tally,
     Terms,
 )
+from ._verdicts import Verdict
 
 __all__ = [
     "Aborted",

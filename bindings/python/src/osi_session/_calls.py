@@ -202,6 +202,10 @@ class Calls(Slotted):
             self._unfed.append(octets)
         return self._indications()
 
+    def _is_spent(self) -> bool:
+        """Whether it is known that a loop over ``feed_all`` would yield nothing more."""
+        return not (self._unfed or self._may_show)
+
     def _indications(self) -> Iterator[Indication]:
         while self._unfed:
             # It uses nothing while an indication is pending.

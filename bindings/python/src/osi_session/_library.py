@@ -304,7 +304,7 @@ def load() -> ctypes.CDLL:
             function.argtypes = takes
             function.restype = c_char_p
         if in_c is not None:
-            in_c.bind({name: ctypes.cast(getattr(library, name), c_void_p).value for name in FUNCTIONS})
+            in_c.bind({name: ctypes.cast(getattr(library, name), c_void_p).value for name in (*FUNCTIONS, *JUDGES)})
         return library
     raise LibraryNotFound(
         f"{NAME} is not found. Set OSI_SESSION_DIR to the folder that has it, or to the PREFIX of its"

@@ -281,6 +281,10 @@ class EndProtocol(asyncio.Protocol):
 
     def connection_made(self, transport: asyncio.BaseTransport) -> None:
         self._transport = cast(asyncio.Transport, transport)
+        if hasattr(transport, "max_size"):
+            # The transports of asyncio make room for 256 KiB at each read. The C library gets so much from the system, and
+            # gives it back, each time.
+            setattr(transport, "max_size", _PIECE)
         if self._closing:
             self._linger()
         self._go_on()
@@ -489,7 +493,8 @@ class EndProtocol(asyncio.Protocol):
         """Whether there are octets to feed, and room for what they cause."""
         if self.end.closed or self._feed.is_empty:
             return False
-        self._make_room()
+        if self._draining > 0 or self._closing:
+            self._make_room()
         return not self._must_wait()
 
     def _step(self) -> Optional[Indication]:
@@ -544,7 +549,7 @@ class EndProtocol(asyncio.Protocol):
             return False
         if self._answers.octets > _PIECE:
             return True
-        if self._waits_for_room():
+        if (self._draining > 0 or self._closing) and self._waits_for_room():
             return False
         if self._pending.octets > self.most or self._outgoing() > self.most:
             return True

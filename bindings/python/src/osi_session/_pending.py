@@ -29,10 +29,6 @@ class _Share:
     def __init__(self) -> None:
         self.count = self.octets = self.unpaid = 0
 
-    @property
-    def is_full(self) -> bool:
-        return self.count >= MOST_INDICATIONS or self.octets >= MOST_OCTETS
-
 
 class Pending:
     """How many indications of each connection are pending, and their octets. Unpaid indications are those that came while
@@ -67,32 +63,34 @@ class Pending:
         return max(self._owing, key=lambda of: self._shares[of].unpaid) if self._owing else None
 
     def add(self, indication: Indication, is_unpaid: bool) -> None:
-        share = self._shares.setdefault(indication.reference, _Share())
+        share = self._shares.get(indication.reference)
+        if share is None:
+            share = self._shares[indication.reference] = _Share()
         weight = _weight(indication)
-        self._set(indication.reference, share.count + 1, share.octets + weight, share.unpaid + weight * is_unpaid)
+        self._set(indication.reference, share, share.count + 1, share.octets + weight, share.unpaid + weight * is_unpaid)
 
     def fetched(self, indication: Indication) -> None:
         share = self._shares.get(indication.reference)
         if share is not None:
             octets = share.octets - _weight(indication)
-            self._set(indication.reference, share.count - 1, octets, min(share.unpaid, octets))
+            self._set(indication.reference, share, share.count - 1, octets, min(share.unpaid, octets) if share.unpaid else 0)
 
     def paid(self, reference: int) -> None:
         """The connection has given credit."""
         share = self._shares[reference]
-        self._set(reference, share.count, share.octets, 0)
+        self._set(reference, share, share.count, share.octets, 0)
 
     def forget(self, reference: int) -> None:
         """The pending indications of this connection were dropped."""
-        if reference in self._shares:
-            self._set(reference, 0, 0, 0)
+        share = self._shares.get(reference)
+        if share is not None:
+            self._set(reference, share, 0, 0, 0)
 
-    def _set(self, reference: int, count: int, octets: int, unpaid: int) -> None:
-        share = self._shares[reference]
+    def _set(self, reference: int, share: _Share, count: int, octets: int, unpaid: int) -> None:
         self.octets += octets - share.octets
         self.unpaid += unpaid - share.unpaid
         share.count, share.octets, share.unpaid = count, octets, unpaid
-        if share.is_full:
+        if count >= MOST_INDICATIONS or octets >= MOST_OCTETS:
             self._full.add(reference)
         elif self._full:
             self._full.discard(reference)
@@ -166,6 +164,6 @@ class Feed:
         if self._current is None:
             self._current = iter(self._end.feed_all(self._pieces.popleft()))
         indication = next(self._current, None)
-        if indication is None:
+        if indication is None or self._end._is_spent():
             self._current = None
         return indication
