@@ -3,7 +3,7 @@ import json
 import os
 import sys
 
-from ladders import drawing, judged, script, tapped, verdicts
+from ladders import drawing, judged, tapped, verdicts
 from ladders.program import Progress
 
 from . import listing, middle, outcome, reports, texts, tshark
@@ -98,34 +98,12 @@ class Judged:
         gap = stream.gap() if hasattr(stream, "gap") else None
         self.limit = f"judged up to {gap}" if gap else None
         self.gap = gap
-        self.verdict = verdicts.printed(self.asked(judge))
+        self.verdict = verdicts.printed(judge(Parts(self.parts)))
 
     @property
     def pieces(self):
         """The pieces that are judged, as the ladders have them."""
         return [tapped.Piece(side, piece.octets, piece.frame, piece.time) for side, piece in self.parts]
-
-    def asked(self, judge):
-        """What `osi judge` prints; of a stream that is longer than it reads, of as much as it reads."""
-        try:
-            return judge(Parts(self.parts))
-        except BadInput:
-            if sum(2 * len(piece.octets) + 2 for _, piece in self.parts) <= script.LONGEST:
-                raise
-        self.shorten(script.LONGEST)
-        return judge(Parts(self.parts))
-
-    def shorten(self, longest):
-        """Leaves out the pieces that don't fit into a text of so many characters."""
-        length = kept = 0
-        for side, piece in self.parts:
-            length += 2 * len(piece.octets) + 2
-            if length > longest:
-                break
-            kept += 1
-        frame = self.parts[kept][1].frame
-        self.limit = f"judged up to frame {frame}: osi judge reads at most {longest:,} characters of digits"
-        self.parts, self.gap = self.parts[:kept], None
 
     def octets(self, side):
         """What a side sent, as far as it is judged."""

@@ -14,7 +14,7 @@ from . import judging, listing, program, streams, tshark
 
 DISPUTES = test_judged.DISPUTES
 LAST = ("frame 16, 0.005600 seconds: left broke the protocol first, in its packet at octet 143. It sent data (DT); it did not hold the "
-        "data token (X.225, 7.11 and 5.8).")
+        'data token (X.225, 7.11 "DATA TRANSFER SPDU" and "Tokens").')
 ENDED = "ended: right aborted by its session layer, protocol error: AB 17=05 (frame 17, 0.005810 seconds)"
 CURED = "ended: released: left asked for it (FN), right agreed (DN) (frame 22, 0.009100 seconds)"
 with open(os.path.join(script.TOP, "docs", "judge.schema.json"), encoding="utf-8") as schema_file:

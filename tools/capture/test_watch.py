@@ -11,7 +11,7 @@ from unittest import mock
 
 from ladders import script, tapped, test_judged, transcript
 
-from . import frames, program, streams, tshark, watching as watch
+from . import directions, frames, program, streams, tshark, watching as watch
 from .test_frames import ACK, DT, PUSH, RESET, SYN, Frames, data, pcap_of
 from .test_judging import CURED, DISPUTES, ENDED, LAST
 
@@ -239,7 +239,7 @@ class Months(unittest.TestCase):
         out = self.fed(Frames().open().talk().close().frames)
         self.assertRegex(out, r"^stream 0 \S+ \S+: both kept the protocol\nstream 0 .*: ended: released")
         wrong = Frames(ports={"left": 41_000, "right": 102}).open().send("left", data(b"\1\0\1\0wrong"))
-        out = self.fed(wrong.frames)
+        out = self.fed(wrong.put("right").frames)
         self.assertRegex(out, r"^stream 1 .*: frame \d+, 0.00\d+ seconds: left broke the protocol first, in its packet at octet 70\.")
         with contextlib.redirect_stdout(io.StringIO()):
             self.watching.look(is_end=True)
@@ -292,15 +292,16 @@ class Months(unittest.TestCase):
         self.assertIn("judged up to frame 8, whose octets left sent again as others in frame 9", self.fed(made.frames))
         made = Frames(ports={"left": 41_000, "right": 102}).open()
         start = made.next["left"]
-        made.put("left", data(b"\1\0\1\0wrong"), PUSH | ACK).put("left", data(b"\1\0\1\0right"), PUSH | ACK, sequence=start)
-        said = "sent again as others in frame 18, so what was said of later frames is not certain"
+        made.put("left", data(b"\1\0\1\0wrong"), PUSH | ACK).put("right")
+        made.put("left", data(b"\1\0\1\0right"), PUSH | ACK, sequence=start)
+        said = "sent again as others in frame 19, so what was said of later frames is not certain"
         self.assertRegex(self.fed(made.frames), f"left broke .*\n.* {said}")
         self.assertEqual(self.watching.status(), 3)
 
     def test_memory_stays_flat(self):
         """bench/watch.py does the same with 100,000 streams and 1,000,000 TSDUs."""
         steady, counts = self.steady(), []
-        with mock.patch.object(watch, "REMEMBERED", 50):
+        with mock.patch.object(watch, "REMEMBERED", 50), mock.patch.object(directions, "SPARE_SEGMENTS", 10):
             for _ in range(2):
                 self.memory(150, steady)
                 gc.collect()

@@ -77,14 +77,9 @@ class Watched:
 
     def is_late(self, now):
         """Whether octets are missing for so long that they won't come."""
-        lost = self.lost()
-        self.missing = None if not lost else self.missing or now
+        self.missing = (self.missing or now) if self.stream.is_stuck() else None
         held = sum(direction.held for direction in self.stream.directions.values())
-        return lost > 0 and (held > MOST_WAITING or now - self.missing > PATIENCE)
-
-    def lost(self):
-        """How many octets at least are missing, for which others wait."""
-        return sum(direction.lost() for direction in self.stream.directions.values())
+        return self.missing is not None and (held > MOST_WAITING or now - self.missing > PATIENCE)
 
     def look_for_limit(self):
         """Notes that the stream is judged no further, if so."""
@@ -107,7 +102,7 @@ class Watched:
 
     def is_over(self):
         """Whether nothing more will pass."""
-        return any(each.reset for each in self.stream.directions.values()) or self.is_closed() and not self.lost()
+        return any(each.reset for each in self.stream.directions.values()) or self.is_closed() and not self.stream.is_stuck()
 
     def is_closed(self):
         """Whether both directions were ended, though octets of them may still be missing."""
@@ -155,6 +150,8 @@ class Fed(Watched):
     def __init__(self, stream):
         super().__init__(stream)
         self.judge, self.heard, self.found, self.lines, self.statuses = None, set(), None, [], []
+        # What is found of octets that nobody acknowledged yet: the side, the place after them, the status, the frame and the line.
+        self.waiting = []
         self.head, self.is_told = {side: [] for side in streams.SIDES}, False
 
     def look_for_limit(self):
@@ -172,6 +169,7 @@ class Fed(Watched):
             if not (self.found or self.is_told):
                 self.feed(source, piece)
         self.stream.pieces.clear()
+        self.stream.forget()
 
     def by_side(self):
         """The first pieces of each side."""
@@ -192,7 +190,7 @@ class Fed(Watched):
             if kind:
                 self.found = f"not judged: {kind}, not a session", None
                 return
-            self.certain(told, piece)
+            self.certain(told, source, piece)
 
     def may_begin(self, source, octets):
         """Whether the first octets of a side without its first segment may be those of a connection."""
@@ -200,21 +198,29 @@ class Fed(Watched):
             return streams.is_packet(octets)
         return streams.is_connect_request(octets) if source == self.left else streams.is_packet(octets) and streams.is_answer(octets)
 
-    def certain(self, told, piece):
-        """Notes a verdict that became certain with these octets."""
+    def certain(self, told, source, piece):
+        """Notes a verdict that became certain with these octets, if they are those that arrived."""
         rule, kind = told.rule.name, told.kind.name
         if rule == "NO_OPENING":
             self.found = "not judged: the capture begins in the middle of a connection", None
         elif rule == "LIMIT":
             self.limit = self.limit or "not judged further: more passed than a judge of the library keeps"
-        elif kind in ("BROKE", "LEAVES"):
-            self.lines.append(f"frame {piece.frame}, {piece.time - self.begin:.6f} seconds: {self.line_of(told)}")
-        is_break = kind == "BROKE" and rule != "TSDU_TOO_LONG"
-        self.statuses.append((judging.BROKE if is_break else judging.PARTLY, piece.frame))
+        line = f"frame {piece.frame}, {piece.time - self.begin:.6f} seconds: {self.line_of(told)}" if kind in ("BROKE", "LEAVES") else None
+        status = judging.BROKE if kind == "BROKE" else judging.PARTLY
+        self.waiting.append((source, piece.start + len(piece.octets), status, piece.frame, line))
+
+    def tell(self, is_end):
+        """Tells what is found of octets that are acknowledged, or at the end of all; not of those that were sent again as others."""
+        doubt = self.stream.doubt()
+        while self.waiting and (is_end or doubt or self.stream.directions[self.waiting[0][0]].heard >= self.waiting[0][1]):
+            _, _, status, frame, line = self.waiting.pop(0)
+            if doubt is None or frame < doubt.frame:
+                self.statuses.append((status, frame))
+                self.lines += [line] if line else []
 
     def line_of(self, told):
         """What is said of a verdict: of the first one a sentence, of others the words of `osi judge`."""
-        if not self.statuses and hasattr(self.judge, "text"):
+        if not (self.statuses or self.waiting) and hasattr(self.judge, "text"):
             said = verdicts.printed(self.judge.text())
             if said.first:
                 return f"{verdicts.sentence(said)} {verdicts.reason(said, said.first)}"
@@ -253,8 +259,9 @@ class Fed(Watched):
             self.stream.finish()
             self.look_for_limit()
             self.follow()
+        self.tell(is_end or self.limit is not None)
         found = self.found or (self.at_the_end() if is_end or self.limit else None)
-        kind = kinds.of(self) if found else None
+        kind = kinds.of(self) if found and found is not self.found else None
         if kind:
             self.lines.clear()
             found = f"not judged: {kind}, not a session", None
@@ -301,6 +308,7 @@ class Watching:
         watched.stream.take(segment)
         watched.follow()
         watched.stream.pieces.clear()
+        watched.stream.forget()
         watched.seen = 0
         if watched.is_over():
             self.tell_end(self.ending.pop(segment.stream))
