@@ -215,8 +215,11 @@ class Stream:
 
     def order(self):
         """Where the next octets of both sides acknowledge each other, or None."""
-        heads = [(chunk.frame, side) for side, chunk in ((side, self.directions[end].head()) for side, end in self.by_end().items()) if chunk]
-        return Order(max(heads)[1], min(heads)[0], max(heads)[0]) if len(heads) == 2 else None
+        heads = [(direction.head(), side) for side, direction in ((side, self.directions[end]) for side, end in self.by_end().items())]
+        if any(chunk is None for chunk, _ in heads):
+            return None
+        (first, _), (again, side) = sorted(heads, key=lambda head: head[0].frame)
+        return Order(side, first.frame, again.frame)
 
     def is_stuck(self):
         """Whether octets are missing, or some wait for others."""

@@ -39,7 +39,8 @@ class Run:
 
     def __init__(self, chance, again=0.2, keepalives=0.0):
         first = chance.choice((FIRST, {"left": SPACE - chance.randrange(90), "right": SPACE - chance.randrange(60)}))
-        self.chance, self.frames, self.again, self.keepalives = chance, Frames(first, mtu=chance.choice((1, 3, 20, 1_400))), again, keepalives
+        self.chance, self.again, self.keepalives = chance, again, keepalives
+        self.frames = Frames(first, mtu=chance.choice((1, 3, 20, 1_400)))
         self.now, self.seen, self.sent, self.before = 0.0, [], [], None
         self.late = {side: chance.random() + 0.1 for side in streams.SIDES}
         self.frames.begin()
@@ -281,7 +282,7 @@ class Honest(Room):
         tagged = [linked(frame, ETHERNET, ((0x8100, 7),)) for frame in whole()[0]]
         plain = [linked(frame[:8] + bytes([frame[8] - 1]) + frame[9:]) for frame in whole()[0]]
         for late in (0, 1, 5):
-            order = sorted([(place, each) for place, each in enumerate(tagged)] + [(place + late + 0.5, each) for place, each in enumerate(plain)])
+            order = sorted([*enumerate(tagged), *((place + late + 0.5, each) for place, each in enumerate(plain))])
             self.beginning(self.streams(pcap_of([each for _, each in order], ETHERNET))[0], is_whole=True)
 
     def test_two_taps_in_one_file(self):

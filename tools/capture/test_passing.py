@@ -162,6 +162,12 @@ class Gaps(unittest.TestCase):
             report = judged(frames)
             self.assertEqual(report.why, "only one direction is here")
 
+    def test_a_side_that_sent_nothing_is_named(self):
+        """Both directions are here, so it isn't said that only one is."""
+        for made, side in ((Frames().begin().send("left", CR).put("right", flags=RESET | ACK), "right"),
+                           (Frames().begin().send("right", CC).put("left"), "left")):
+            self.assertEqual(asking.why_not(stream_of(made.frames)), f"{side} sent nothing")
+
     @needs_osi
     def test_a_stream_whose_answers_are_all_lost_is_not_judged(self):
         frames = [frame for frame in whole()[0] if frame[12:16] == bytes((192, 0, 2, 1)) or len(frame) == 40]

@@ -31,7 +31,8 @@ def rules_of_the_library():
     """The rules for which the library may say that a side broke the protocol or left the profile, in the words of `osi judge`."""
     with open(os.path.join(script.TOP, "bindings", "python", "src", "osi_session", "_codes.py"), encoding="utf-8") as codes:
         body = codes.read().partition("class Rule(IntEnum):")[2].partition("\nclass ")[0]
-    names = {name for name, text in re.findall(r'^    ([A-Z_]+) = \d+(?:\n    """(.*?)""")?', body, re.M | re.S) if not text.startswith("No break")}
+    found = re.findall(r'^    ([A-Z_]+) = \d+(?:\n    """(.*?)""")?', body, re.M | re.S)
+    names = {name for name, text in found if not text.startswith("No break")}
     words = {"".join(word.capitalize() for word in name.split("_")) for name in names - {"NONE", "NO_SUCH_CONNECTION"}}
     return {word.replace("Tpdu", "") for word in words}
 
@@ -79,12 +80,13 @@ class Rules(unittest.TestCase):
             does, last = ("leaves", "leaves the profile") if rule == "Outside" else ("broke", "broke the protocol")
             for what in ("Data", "DT", "TSDU"):
                 for line in (f"left 1 {does} packet 41 {what} {rule}", f"left {does} packet 41 {what} {rule}"):
-                    verdict = verdicts.read(f"{line}\nright broke packet 9 DT NoCredit\nleft {last} first, packet 41: {what} {rule}\n")[0]
+                    verdict = verdicts.read(f"{line}\nleft {last} first, packet 41: {what} {rule}\n")[0]
                     self.assertEqual(verdicts.is_broken(verdict.break_of("left")), does == "broke", line)
                     self.assertIn(" broke " if does == "broke" else "was the first to leave the profile", verdicts.sentence(verdict))
                     later = verdicts.read(f"{line}\nright broke the protocol first, packet 9: DT NoCredit\n")[0]
                     self.assertEqual(verdicts.is_broken(later.break_of("left")), does == "broke", line)
-                    self.assertIn("Later left broke" if does == "broke" else "Later left left the profile too", " ".join(verdicts.box(later)))
+                    self.assertIn("Later left broke" if does == "broke" else "Later left left the profile too",
+                                  " ".join(verdicts.box(later)))
 
     def test_every_rule_of_the_library_has_a_sentence(self):
         for rule in rules_of_the_library():
@@ -103,7 +105,8 @@ class Rules(unittest.TestCase):
                 for rule in re.findall(r"`(\w+)`", row[0]):
                     found.add((standard, rule))
                     self.assertEqual(row[1], clause_in_table(standard, rule, "of an AK" in row[0]), rule)
-        wanted = {("X.225", rule) for rule in (*rules.OF_SESSIONS, *rules.OF_TSDUS, "NothingToAnswer")} - {("X.225", "NoSuchConnection")}
+        wanted = {("X.225", rule) for rule in (*rules.OF_SESSIONS, *rules.OF_TSDUS, "NothingToAnswer")}
+        wanted.remove(("X.225", "NoSuchConnection"))
         wanted |= {("X.224", rule) for rule in (*rules.OF_TRANSPORT, *rules.OF_PACKETS, "NothingToAnswer")} - {("X.224", "TooMany")}
         self.assertEqual(found, wanted)
 
@@ -124,9 +127,11 @@ class Details(unittest.TestCase):
     def test_sizes(self):
         data = "0300040a02f080" + "00" * 1027
         said = self.reason("left", "DT", "SizeExceeded", self.REQUEST + data, self.CONFIRM.replace("c0010b", "c0010a"), 14)
-        self.assertIn('it has 1,030 octets, and the agreed TPDU size is 1,024 (X.224, 13.3.4 "Connection request TPDU, variable part")', said)
+        self.assertIn("it has 1,030 octets, and the agreed TPDU size is 1,024 "
+                      '(X.224, 13.3.4 "Connection request TPDU, variable part")', said)
         said = self.reason("right", "CC", "LargerSize", self.REQUEST, self.CONFIRM, 0)
-        self.assertIn('it selects TPDUs of 2,048 octets, and the connect request offers 1,024 (X.224, 13.3.4 "Connection request TPDU, variable part")', said)
+        self.assertIn("it selects TPDUs of 2,048 octets, and the connect request offers 1,024 "
+                      '(X.224, 13.3.4 "Connection request TPDU, variable part")', said)
 
     def test_references(self):
         said = self.reason("right", "CC", "UnknownReference", self.REQUEST, self.CONFIRM.replace("d00001", "d00009"), 0)
