@@ -47,6 +47,16 @@ class Doubt(Gap):
         return f"frame {self.frame}, whose octets {self.side} sent again as others in frame {self.again}"
 
 
+class Damage(Gap):
+    """A frame that was damaged on its way, so that its octets aren't those that arrived: its side, and the frame."""
+
+    def __init__(self, side, frame):
+        super().__init__(side, None, frame, None)
+
+    def __str__(self):
+        return f"frame {self.frame}, which was damaged on its way from {self.side} (its TCP checksum is wrong)"
+
+
 class Order(Gap):
     """Octets of both sides that acknowledge each other, so that some were sent again, and the capture lacks their first copy: their side,
     the frame up to which the order is known, and that which had them again."""
@@ -64,7 +74,7 @@ class Stream:
     that begin the connection (SYN) may be late."""
 
     def __init__(self, number, ends):
-        self.number, self.ends, self.pieces, self.opener = number, ends, [], None
+        self.number, self.ends, self.pieces, self.opener, self.requester = number, ends, [], None, None
         self.directions = {end: Direction() for end in ends}
         self.is_over = self.is_other = False
         self.last, self.early = None, []
@@ -182,9 +192,9 @@ class Stream:
 
     def caller(self):
         """The end that opened the connection, or else the one whose first packet is a CR, or None."""
-        if self.opener is not None:
-            return self.opener
-        return next((end for end in self.ends if is_connect_request(self.front(end))), None)
+        if self.opener is None and self.requester is None:
+            self.requester = next((end for end in self.ends if is_connect_request(self.front(end))), None)
+        return self.opener or self.requester
 
     def left(self):
         """The end that is left: the caller. If it isn't known, the one with the higher port."""

@@ -8,11 +8,11 @@ import types
 import unittest
 from unittest import mock
 
-from . import asking, directions, frames, kinds, streams, watching
+from . import asking, directions, frames, judging, kinds, pcap, reports, streams, watching
 from .test_frames import (AC, ACK, CC, CN, CR, DT, ETHERNET, FIN, FIRST, PUSH, RESET, SPACE, SYN, TOKENS, Frames, Room, data, fragments,
                           linked, packet, pcap_of, segment_of, stream_of, whole)
 
-GIVE = data(bytes.fromhex("0103100101"))
+BLAMING = "left 1 broke packet 50 Data BadState\nleft broke the protocol first, packet 50: Data BadState\n"
 
 
 def in_turns(parts):
@@ -333,6 +333,45 @@ class Honest(Room):
         made.put("left", b"old octets", PUSH | ACK, sequence=FIRST["left"] + 1_000_000, acknowledged=FIRST["right"] - 1_000_000)
         made.next["left"] -= 10
         self.beginning(made.talk().close().frames, [*whole()[1][:6], *whole()[1][4:]])
+
+
+def summed(frame):
+    """A frame with its TCP checksum."""
+    segment = frame[20:36] + b"\0\0" + frame[38:]
+    return frame[:36] + struct.pack(">H", pcap.checksum(frame[12:20] + struct.pack(">HH", 6, len(segment)) + segment)) + frame[38:]
+
+
+class Damaged(Room):
+    """A frame that was damaged on its way, and of which no other copy is here."""
+
+    def judged(self, made):
+        """What is said of frames by a judge that blames whoever sends the word `wrong`."""
+        path = self.write(pcap_of(made))
+        stream = asking.found_in(path, 102)[0]
+        return judging.Judged(stream, lambda parts: BLAMING if b"wrong".hex() in str(parts) else "both kept the protocol\n")
+
+    def test_its_sender_is_not_blamed(self):
+        made = Frames().open().talk().send("left", data(b"\1\0\1\0wrong")).send("right", DT)
+        right = [summed(frame) for frame in made.frames]
+        hurt = right[:9] + [made.frames[9][:36] + b"\x12\x34" + made.frames[9][38:]] + right[10:]
+        found = self.judged(hurt)
+        said = "judged up to frame 10, which was damaged on its way from left (its TCP checksum is wrong)"
+        self.assertEqual((found.status(), found.limit), (3, said))
+        self.assertIsNone(reports.first_of(found))
+        self.assertEqual(self.judged(right).status(), 1)
+
+    def test_checksums_that_the_card_has_still_to_write_say_nothing(self):
+        made = Frames().open().talk().send("left", data(b"\1\0\1\0wrong")).send("right", DT)
+        self.assertEqual(self.judged(made.frames).status(), 1)
+        sums = [~pcap.checksum(frame[12:20] + struct.pack(">HH", 6, len(frame) - 20)) & 0xFFFF for frame in made.frames]
+        partial = [frame[:36] + struct.pack(">H", value) + frame[38:] for frame, value in zip(made.frames, sums)]
+        self.assertEqual(self.judged([summed(frame) for frame in made.frames[:9]] + partial[9:]).status(), 1)
+
+    def test_a_break_before_it_stays_found(self):
+        made = Frames().open().talk().send("left", data(b"\1\0\1\0wrong")).send("right", DT, DT, DT)
+        right = [summed(frame) for frame in made.frames]
+        right[10] = right[10][:36] + b"\x12\x34" + right[10][38:]
+        self.assertEqual(self.judged(right).status(), 1)
 
 
 class Foreign(unittest.TestCase):

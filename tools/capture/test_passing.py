@@ -3,12 +3,13 @@ import contextlib
 import io
 import os
 import random
+import tempfile
 import unittest
 from unittest import mock
 
 from ladders import script, tapped
 
-from . import asking, judging, kinds, middle, outcome, program, streams, tshark
+from . import asking, judging, kinds, listing, middle, outcome, program, streams, tshark
 from .tshark import BadInput
 from .test_frames import (AA, AB, AC, ACK, CC, CN, CR, DT, FIN, FIRST, FN, MIP, PUSH, RESET, SYN, TOKENS, Frames, data, packet,
                           segment_of, stream_of, whole)
@@ -451,6 +452,12 @@ class Status(unittest.TestCase):
         foreign = Kinds.frames(("left", CR), ("right", CC), ("left", data(b"\x32\1\0\0")))
         for frames, wanted in (([kept], 0), ([kept, kept], 0), ([kept, broke, foreign], 1), ([foreign, kept], 3), ([foreign], 2)):
             self.assertEqual(call(frames, "judge")[0], wanted)
+
+    @needs_osi
+    def test_a_stream_that_is_too_long_to_be_listed_is_judged(self):
+        with mock.patch.object(listing, "MOST_OCTETS", 40), tempfile.TemporaryDirectory() as room:
+            status, out, _ = call(whole()[0], "judge", "--show", "--pictures", room)
+        self.assertEqual((status, "both kept the protocol" in out, out.count("osi show lists at most 40")), (0, True, 2), out)
 
     @needs_osi
     def test_streams_and_hosts_are_chosen(self):

@@ -556,8 +556,8 @@ class Captures(unittest.TestCase):
             for name, status, said, ended in (("restart", 1, LAST, ENDED), ("restart_cured", 0, "both kept the protocol", CURED)):
                 pcap = os.path.join(room, f"{name}.pcap")
                 self.assertEqual(program.main(["join", os.path.join(DISPUTES, name), "-o", pcap]), 0)
-                for every in ("0", "60"):
-                    found, out, err = self.call("-r", pcap, "--every", every, "--by", "program")
+                for words in (("-r", pcap, "--every", "0"), (pcap, "--every", "60")):
+                    found, out, err = self.call(*words, "--by", "program")
                     self.assertEqual((found, out.partition(still)[0], err), (status, f"{named}{said}\n{named}{ended}", ""))
 
     def test_a_missing_file_has_status_2(self):

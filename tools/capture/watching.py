@@ -264,9 +264,6 @@ class Fed(Watched):
         said = verdicts.printed(self.judge.text()) if hasattr(self.judge, "text") else None
         if said and said.last["why"]:
             return f"not judged: {said.last['why']}" + (f", {self.limit}" if self.limit else ""), None
-        if said and said.first and not self.limit:
-            status = judging.BROKE if verdicts.is_broken(said.last) else judging.PARTLY
-            return f"{verdicts.sentence(said)} {verdicts.reason(said, said.first)}", status
         limit, status = (f", {self.limit}", judging.PARTLY) if self.limit else ("", judging.KEPT)
         return "both kept the protocol" + limit, status
 
@@ -328,10 +325,15 @@ class Piped(Fed):
         """Notes what the program says; at the end it says all."""
         if self.judge is None or self.found or self.is_told:
             return
-        if is_end:
-            self.process.text()
+        report = verdicts.printed(self.process.text()) if is_end else None
         for row in self.process.news():
             self.note(row)
+        if report and report.first and not (self.found or self.statuses or self.waiting):
+            self.note_break(report, report.last, self.end_of(report.first))
+
+    def end_of(self, side):
+        """The end that is a side."""
+        return self.left if side == streams.SIDES[0] else next(end for end in self.stream.ends if end != self.left)
 
     def note(self, row):
         """Notes a line of the program."""
@@ -339,35 +341,35 @@ class Piped(Fed):
             name, fields = verdicts.line_of(row)
         except transcript.BadInput:
             return
-        side = fields["side"]
-        source = self.stream.by_end()[side]
+        source = self.end_of(fields["side"])
         if name in ("without", "halted"):
             self.waiting.append((source, 0, judging.PARTLY, 0, None))
         elif name in ("broke", "leaves", "stopped"):
-            self.note_break(row, fields, side, source)
+            said = None if self.statuses or self.waiting else of_line(fields)
+            self.note_break(said, fields, source, row)
 
-    def note_break(self, row, fields, side, source):
-        """Notes a break, or that a side left the profile."""
+    def note_break(self, said, fields, source, row=None):
+        """Notes a break, or that a side left the profile: the first one in a sentence, others in the words of the program."""
         kind = kinds.of(self)
         if kind:
             self.found = f"not judged: {kind}, not a session", None
             return
+        side = streams.SIDES[source != self.left]
         end, frame, when = self.places[side].of(int(fields["offset"])) or (0, 0, None)
         where = "" if when is None else f"frame {frame}, {when - self.begin:.6f} seconds: "
-        said = row if self.statuses or self.waiting else sentence_of(fields)
+        line = f"{verdicts.sentence(said)} {verdicts.reason(said, said.first)}" if said else row
         status = judging.BROKE if verdicts.is_broken(fields) else judging.PARTLY
-        self.waiting.append((source, end, status, frame, where + said))
+        self.waiting.append((source, end, status, frame, where + line))
 
     def close(self):
         """Ends the program."""
         self.programs.end(self.process)
 
 
-def sentence_of(fields):
-    """What is said of the first break, by its line alone."""
+def of_line(fields):
+    """The verdict of which a line tells the first break."""
     did = "broke the protocol" if fields["did"] == "broke" else "leaves the profile"
-    said = verdicts.printed(f"{fields['side']} {did} first, packet {fields['offset']}: {fields['what']} {fields['rule']}\n")
-    return f"{verdicts.sentence(said)} {verdicts.reason(said, said.first)}"
+    return verdicts.printed(f"{fields['side']} {did} first, packet {fields['offset']}: {fields['what']} {fields['rule']}\n")
 
 
 class Watching:
@@ -523,6 +525,7 @@ def add_words(made):
     source = made.add_mutually_exclusive_group(required=True)
     source.add_argument("-i", "--interface", help="the interface to capture on")
     source.add_argument("-r", "--file", help="a pcap or pcapng, or - for standard input")
+    source.add_argument("named", metavar="FILE", nargs="?", help="the same")
     judging.add_streams(made)
     made.add_argument("--json", action="store_true", help="an object for each line")
     made.add_argument("--by", choices=("library", "program"), help="who judges (the library, if the package osi_session is there)")
@@ -536,6 +539,7 @@ def watch(asked):
     """Watches what is asked for until it ends. An interrupt ends what captures, and what had passed is still judged."""
     if asked.by == "library" and not library():
         raise BadInput("there is no package osi_session, or no library for it")
+    asked.file = asked.file or asked.named
     by_program = asked.by == "program" or asked.osi or not library()
     judge = (lambda text: script.run(asked.osi, "judge", text)) if by_program else None
     programs = processes.Programs(listing.program(asked.osi)) if by_program else None
