@@ -46,7 +46,8 @@ def text_of(judged, side):
     if side == judged.verdict.first:
         return judged.sentence()
     octets = {each: judged.octets(each) for each in ("left", "right")}
-    return f"later {side} broke the protocol too, {verdicts.place_of(judged.verdict.break_of(side))}. " \
+    later = judged.verdict.break_of(side)
+    return f"later {side} {verdicts.did_too(later)}, {verdicts.place_of(later)}. " \
            f"{verdicts.reason(judged.verdict, side, None, octets)}"
 
 

@@ -159,7 +159,8 @@ def why_not(stream):
     if gap and gap.side not in {side for side, _ in stream.by_side()}:
         return f"the first {gap.many()} of {gap.side} are lost, at frame {gap.frame}" if gap.octets else \
             f"the first octets of {gap.side}, in frame {gap.frame}, were sent again as others in frame {gap.again}"
-    return None
+    silent = set(streams.SIDES) - {side for side, _ in stream.by_side()}
+    return f"{silent.pop()} sent nothing" if len(silent) == 1 else None
 
 
 def write_all(files):

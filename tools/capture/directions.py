@@ -1,11 +1,26 @@
 """One direction of a TCP connection: its octets in the order of their sequence numbers, and what of them is missing."""
 import heapq
+from bisect import bisect_right
 
 SPACE = 2 ** 32
 # How many octets wait for one that is missing, before it counts as lost.
 MOST_WAITING = 16_777_216
-# How many of the octets that passed last are compared with what is sent again, and of how many segments.
-RECENT, MARKS = 65_536, 512
+# A direction that forgets what passed keeps what isn't acknowledged, up to so many octets, since it may be sent again; and of what is,
+# the last octets and segments, since an acknowledgement may be lost on its way.
+IN_FLIGHT, SPARE, SPARE_SEGMENTS = 1_048_576, 65_536, 512
+# A segment of one octet that comes so many seconds after its octet was acknowledged is a keepalive, whose octet may be any.
+QUIET = 1.0
+# How far ahead of the octets that passed the number of an empty segment may be.
+NEAR = 16_777_216
+
+
+class Piece:
+    """Octets of one direction that passed together: the frame and the time at which they did, and their place in the direction."""
+
+    __slots__ = ("frame", "time", "start", "octets")
+
+    def __init__(self, frame, time, start, octets):
+        self.frame, self.time, self.start, self.octets = frame, time, start, octets
 
 
 def distance(first, second):
@@ -38,11 +53,15 @@ class Direction:
         self.next, self.count, self.waiting, self.held = None, 0, [], 0
         # Whether any segment and the first one (SYN) are there.
         self.is_here = self.has_first = False
+        # Whether octets before the first ones are acknowledged.
+        self.has_more = False
         # Where the direction ends (FIN), how far it was sent, and the frame that first told of octets that have not passed.
         self.last, self.sent, self.beyond = None, 0, None
-        # The octets that passed last, the places and frames at which they begin, and the first place at which some were sent again as
-        # others, with both frames.
-        self.recent, self.marks, self.doubt = bytearray(), [], None
+        # How far the other end acknowledged it, and when it did last.
+        self.heard, self.heard_at = 0, None
+        # What passed, with the places at which it begins, as far as it is kept; the place before which octets were forgotten that nobody
+        # had acknowledged; and the first place at which octets were sent again as others, with both frames.
+        self.passed, self.starts, self.forgotten, self.doubt = [], [], 0, None
         # The frames and times at which it was ended or reset, and how many octets of a frame were captured, if not all.
         self.ended = self.reset = self.cut = None
 
@@ -55,10 +74,13 @@ class Direction:
         self.is_here = self.has_first = True
         self.next = (segment.sequence + 1) % SPACE
 
-    def presume(self, numbers):
-        """Takes the lowest of some sequence numbers as that of the first octet, if there are any."""
+    def presume(self, sent, heard, is_begun):
+        """Takes as the number of the first octet the lowest that is sent. If the other direction is here from its beginning, that may be
+        one that is only acknowledged; if it isn't, octets before the first may have passed before the capture."""
+        numbers = sent + heard if is_begun else sent or heard
         if numbers:
             self.next = min(numbers, key=lambda number: distance(numbers[0], number))
+        self.has_more = any(distance(number, self.next) > 0 for number in heard)
 
     def note(self, segment):
         """Notes what a segment says besides its octets."""
@@ -67,12 +89,26 @@ class Direction:
             self.reset = self.reset or (segment.frame, segment.time)
         if self.next is None and (segment.octets or segment.is_last):
             self.next = segment.sequence
+        if not segment.octets and segment.sequence != self.next:
+            self.note_number(segment)
         if segment.is_last:
             self.ended = self.ended or (segment.frame, segment.time)
             self.last = self.place(segment.sequence + len(segment.octets) + segment.missing)
         if segment.missing:
             self.cut = self.cut or segment.captured
             self.hear(segment.sequence + len(segment.octets) + segment.missing, segment.frame)
+
+    def note_number(self, segment):
+        """Notes that what comes before an empty segment was sent."""
+        if self.next is not None and not (segment.is_first or segment.is_reset) and self.place(segment.sequence) - self.count < NEAR:
+            self.hear(segment.sequence, segment.frame)
+
+    def acknowledge(self, number, frame, time):
+        """Notes that the other end has received the octets up to a sequence number."""
+        self.hear(number, frame)
+        place = self.place(number)
+        if place > self.heard:
+            self.heard, self.heard_at = place, time
 
     def hear(self, number, frame):
         """Notes that octets up to a sequence number were sent."""
@@ -90,21 +126,33 @@ class Direction:
         place = self.place(start)
         if place < self.count:
             self.compare(place, segment.octets, segment.frame)
-        if place + len(segment.octets) > self.count:
+        if place + len(segment.octets) > self.count and not self.is_keepalive(place, segment):
             heapq.heappush(self.waiting, Chunk(place, segment))
             self.held += len(segment.octets)
 
+    def is_keepalive(self, place, segment):
+        """Whether a segment sends the last octet again, though it was acknowledged, so that it may be another octet."""
+        return len(segment.octets) == 1 and place + 1 == self.heard and segment.time - self.heard_at > QUIET
+
     def compare(self, place, octets, frame):
         """Compares octets that are sent again with those that passed. A keepalive sends the last octet again, as any other."""
-        first, last = max(place, self.count - len(self.recent)), min(place + len(octets), self.count)
-        if first >= last or len(octets) == 1 and last == self.count:
+        last = min(place + len(octets), self.count)
+        if place >= last or len(octets) == 1 and last == self.count <= self.heard:
             return
-        end = len(self.recent) - self.count
-        before, again = self.recent[first + end:last + end], octets[first - place:last - place]
-        if before != again:
-            first += next(at for at, (one, other) in enumerate(zip(before, again)) if one != other)
-            if self.doubt is None or first < self.doubt[0]:
-                self.doubt = first, max((mark for mark in self.marks if mark[0] <= first), default=self.marks[0])[1], frame
+        if place < self.forgotten:
+            self.doubt = self.doubt or (self.count, None, frame)
+            return
+        at = max(bisect_right(self.starts, place) - 1, 0)
+        while at < len(self.passed) and self.starts[at] < last:
+            piece = self.passed[at]
+            first, end = max(place, piece.start), min(last, piece.start + len(piece.octets))
+            before, again = piece.octets[first - piece.start:end - piece.start], octets[first - place:end - place]
+            if before != again:
+                first += next(at for at, (one, other) in enumerate(zip(before, again)) if one != other)
+                if self.doubt is None or first < self.doubt[0]:
+                    self.doubt = first, piece.frame, frame
+                return
+            at += 1
 
     def head(self):
         """The octets that wait and are the next ones, or None."""
@@ -117,34 +165,43 @@ class Direction:
         return None
 
     def let_pass(self):
-        """The octets of the head that had not passed; they have now."""
+        """The octets of the head that had not passed, as a piece; they have now."""
         chunk = heapq.heappop(self.waiting)
         self.held -= len(chunk.octets)
         octets = chunk.octets
         if chunk.start < self.count:
             self.compare(chunk.start, octets, chunk.frame)
             octets = octets[self.count - chunk.start:]
-        self.go_on(octets, chunk.frame)
-        return octets
+        piece = Piece(chunk.frame, chunk.time, self.count, octets)
+        self.go_on(piece)
+        return piece
 
-    def go_on(self, octets, frame):
-        """Takes octets that have passed, of a frame."""
-        self.marks.append((self.count, frame))
-        self.recent += octets
-        self.count += len(octets)
-        self.next = (self.next + len(octets)) % SPACE
+    def go_on(self, piece):
+        """Takes octets that have passed."""
+        self.passed.append(piece)
+        self.starts.append(piece.start)
+        self.count += len(piece.octets)
+        self.next = (self.next + len(piece.octets)) % SPACE
         if self.beyond is not None and self.count >= self.sent:
             self.beyond = None
-        if len(self.recent) > 2 * RECENT or len(self.marks) > 2 * MARKS:
-            del self.marks[:-MARKS]
-            del self.recent[:len(self.recent) - min(RECENT, self.count - self.marks[0][0])]
+
+    def forget(self):
+        """Forgets what passed and won't be sent again."""
+        heard = min(self.heard, self.count)
+        limit = max(heard - SPARE, self.count - IN_FLIGHT)
+        acknowledged = bisect_right(self.starts, heard) - 1
+        going = max(bisect_right(self.starts, limit) - 1, acknowledged - SPARE_SEGMENTS)
+        if going > SPARE_SEGMENTS or going > 0 and self.starts[going] - self.starts[0] > SPARE:
+            del self.passed[:going], self.starts[:going]
+            if self.starts[0] > heard:
+                self.forgotten = self.starts[0]
 
     def needed(self, number):
         """How many octets have to pass before what acknowledges this sequence number. (The end of a direction has a number, too.)"""
         if self.next is None:
             self.next = number
         place = self.place(number)
-        return place if self.last is None else min(place, self.last)
+        return place - (self.last is not None and place == self.last + 1)
 
     def has_passed(self, number):
         """Whether everything before a sequence number has passed; of None nothing is known."""

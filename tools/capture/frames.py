@@ -34,13 +34,14 @@ HEAD = struct.Struct(">IIBB")
 
 
 class Way:
-    """One direction of a stream: its number and its ends, the first sequence number if SYN was there, and the other direction."""
+    """One direction of a stream: its number and its ends, the first sequence number if SYN was there, whether it had any segment and was
+    ended or reset, and the other direction."""
 
-    __slots__ = ("stream", "source", "target", "first", "is_begun", "back", "key")
+    __slots__ = ("stream", "source", "target", "first", "is_begun", "is_ended", "back", "key")
 
     def __init__(self, stream, source, target, key):
         self.stream, self.source, self.target, self.key = stream, source, target, key
-        self.first, self.is_begun, self.back = None, False, None
+        self.first, self.is_begun, self.is_ended, self.back = None, False, False, None
 
 
 class Reader:
@@ -90,6 +91,8 @@ class Reader:
         if flags & SYN:
             way = self.begun(way, sequence, flags)
         way.is_begun = True
+        if flags & (FIN | RESET):
+            way.is_ended = True
         return made_of(number, time, way, sequence, acknowledged, flags, frame[begin:end], end - begin)
 
     def way(self, key):
@@ -109,8 +112,10 @@ class Reader:
         return there
 
     def begun(self, way, sequence, flags):
-        """The direction of a first segment: a new one if the ports are used again."""
-        if way.first is None and not way.is_begun or way.first == sequence:
+        """The direction of a first segment: a new one if the ports are used again. (tshark counts one with the same number as the same
+        stream; a tap that can't be read again counts by itself.)"""
+        is_again = self.is_live and not flags & ACK and way.is_ended
+        if way.first is None and not way.is_begun or way.first == sequence and not is_again:
             way.first = sequence
             return way
         if not self.is_live and (way.first is None or flags & ACK):

@@ -3,10 +3,10 @@ import json
 import os
 import sys
 
-from ladders import drawing, judged, script, tapped, verdicts
+from ladders import drawing, judged, tapped, verdicts
 from ladders.program import Progress
 
-from . import listing, middle, outcome, reports, texts, tshark
+from . import damage, listing, middle, outcome, reports, streams, texts, tshark
 from .asking import PORT, Words, found_by, named, shown as name_shown, status_of, viewed, why_not, write_all, local
 from .streams import SIDES
 from .tshark import BadInput
@@ -98,34 +98,23 @@ class Judged:
         gap = stream.gap() if hasattr(stream, "gap") else None
         self.limit = f"judged up to {gap}" if gap else None
         self.gap = gap
-        self.verdict = verdicts.printed(self.asked(judge))
+        self.verdict = verdicts.printed(judge(Parts(self.parts)))
+        if self.verdict.first and hasattr(stream, "path"):
+            self.leave_damaged(damage.damaged(stream.path), judge)
+
+    def leave_damaged(self, numbers, judge):
+        """Judges only what passed before the first frame that was damaged, if there is one among these."""
+        place = next((place for place, (_, piece) in enumerate(self.parts) if piece.frame in numbers), None)
+        if place is not None:
+            side, piece = self.parts[place]
+            self.parts, self.gap = self.parts[:place], streams.Damage(side, piece.frame)
+            self.limit = f"judged up to {self.gap}"
+            self.verdict = verdicts.printed(judge(Parts(self.parts)))
 
     @property
     def pieces(self):
         """The pieces that are judged, as the ladders have them."""
         return [tapped.Piece(side, piece.octets, piece.frame, piece.time) for side, piece in self.parts]
-
-    def asked(self, judge):
-        """What `osi judge` prints; of a stream that is longer than it reads, of as much as it reads."""
-        try:
-            return judge(Parts(self.parts))
-        except BadInput:
-            if sum(2 * len(piece.octets) + 2 for _, piece in self.parts) <= script.LONGEST:
-                raise
-        self.shorten(script.LONGEST)
-        return judge(Parts(self.parts))
-
-    def shorten(self, longest):
-        """Leaves out the pieces that don't fit into a text of so many characters."""
-        length = kept = 0
-        for side, piece in self.parts:
-            length += 2 * len(piece.octets) + 2
-            if length > longest:
-                break
-            kept += 1
-        frame = self.parts[kept][1].frame
-        self.limit = f"judged up to frame {frame}: osi judge reads at most {longest:,} characters of digits"
-        self.parts, self.gap = self.parts[:kept], None
 
     def octets(self, side):
         """What a side sent, as far as it is judged."""
@@ -203,6 +192,26 @@ class Report:
         self.name = name_of(stream) if is_one else f"{name_shown(name)}: {name_of(stream)}"
         self.why, self.rows, self.judged, self.ended, self.drawn, self.status = None, [], None, [], None, PARTLY
 
+    @staticmethod
+    def attempt(job):
+        """Does a job; why it can't be done, or None. Without the program nothing can."""
+        try:
+            job()
+        except BadInput as error:
+            if "can't be run" in str(error):
+                raise
+            return str(error)
+        return None
+
+    def judge(self, osi, progress):
+        """Judges the stream."""
+        self.judged = Judged(self.stream, judged.runner(osi, progress.running))
+        self.status = self.judged.status()
+
+    def draw(self, title, osi, progress):
+        """Draws the ladder."""
+        self.drawn = self.judged.picture(title, osi, progress)
+
     def lines(self):
         """What is printed."""
         if self.why:
@@ -219,19 +228,16 @@ def told(stream, asked, osi, progress, name):
     made = Report(stream, name, len(asked.files) == 1)
     view = viewed(stream)
     upper = tshark.upper(stream.path, stream.number) if asked.upper and hasattr(stream, "path") else {}
-    try:
-        made.why = why_not(stream)
-        if asked.show:
-            made.rows = list(shown(view, osi, upper))
-        if not made.why:
-            made.judged = Judged(stream, judged.runner(osi, progress.running))
-            made.status = made.judged.status()
-            if asked.pictures:
-                made.drawn = made.judged.picture(f"{os.path.basename(name_shown(name))}, {name_of(stream)}", osi, progress)
-    except BadInput as error:
-        if "can't be run" in str(error):
-            raise
-        made.why = made.why or str(error)
+    made.why = why_not(stream)
+    if not made.why:
+        made.why = made.attempt(lambda: made.judge(osi, progress))
+    if asked.show:
+        why = made.attempt(lambda: made.rows.extend(shown(view, osi, upper)))
+        made.rows += [f"not listed: {why}"] if why else []
+    if asked.pictures and made.judged:
+        title = f"{os.path.basename(name_shown(name))}, {name_of(stream)}"
+        why = made.attempt(lambda: made.draw(title, osi, progress))
+        made.rows += [f"not drawn: {why}"] if why else []
     made.ended = outcome.all_of(stream, made.judged.parts if made.judged else list(view.by_side()) if is_of_session(made.why) else [])
     name_upper(made.ended, upper)
     return made

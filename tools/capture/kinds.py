@@ -1,8 +1,8 @@
 """Other protocols in TPKT packets, or at the port of TPKT, which carry no session: how each is known by its first octets."""
 from .streams import CODES, SIDES, is_packet, packets
 
-# The units of X.225 by their SI (sections 8.3.1 and following), of all functional units.
-SESSION = {1, 2, 5, 7, 8, 9, 10, 11, 12, 13, 14, 15, 16, 21, 22, 25, 26, 29, 33, 34, 41, 42, 45, 48, 49, 50, 53, 57, 58, 61, 62}
+# The units of X.225 by their SI with which a session begins: CN or AB of the caller; RF, AC, OA or AB of the other side.
+CALLS, ANSWERS = {13, 25}, {12, 14, 16, 25}
 # What the first TSDU of an application begins with that has no session below it.
 BEGINS = ((b"\x32", "S7comm"), (b"\x72", "S7comm-plus"), (b"\x7f\x65", "RDP (T.125)"), (b"\x21\x80", "RDP (T.125)"),
            (b"\x16\x03", "TLS"))
@@ -14,6 +14,8 @@ def of(stream):
     """The name of the protocol of a stream from its beginning, if it is none with sessions; or None."""
     fronts = fronts_of(stream)
     left, right = (fronts[side] for side in SIDES)
+    if not any(octets[:1] == b"\3" for octets in (left, right)):
+        return "no TPKT" if left or right else None
     return below_transport(left, right) or of_requests(left, right) or of_first_data(left, right)
 
 
@@ -62,11 +64,12 @@ def is_negotiation(octets):
 
 
 def of_first_data(left, right):
-    """The protocol by the first octets above transport of both sides."""
+    """The protocol by the first octets above transport of both sides. A session is one that begins as a session does: data of another
+    protocol may begin as any other unit of X.225."""
     begins = [first_data(octets) for octets in (left, right)]
     first = next(filter(None, begins), b"")
     known = next((name for begin, name in BEGINS if first.startswith(begin)), None)
-    if known or not first or any(begin and begin[0] in SESSION for begin in begins):
+    if known or not first or any(begin and begin[0] in opening for begin, opening in zip(begins, (CALLS, ANSWERS))):
         return known
     return f"a protocol whose data begins with {first[:2].hex()}"
 

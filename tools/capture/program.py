@@ -15,7 +15,7 @@ TEXT = """\
                                         file of hexadecimal digits, or of NAME, of which split wrote files
   osi-capture judge FILE ..             which side of each stream first broke the protocol, if one did; FILE as for show
   osi-capture annotate FILE -o OUT      a pcapng with the verdicts as comments of their frames, for Wireshark
-  osi-capture watch -i eth0 | -r FILE   the same while it passes
+  osi-capture watch -i eth0 | FILE      the same while it passes
   osi-capture split FILE -o NAME        NAME.left and NAME.right, what each side sent, and NAME.follow, both in their order
   osi-capture join NAME -o FILE         the way back: a pcap with a TCP segment for each TPKT packet
 

@@ -5,7 +5,7 @@ out of order the later octets wait, also those of the other direction that the c
 once. Octets that the capture doesn't have leave a gap: then that direction ends before it, and the other one before what acknowledges
 any of them.
 """
-from .directions import MOST_WAITING, Direction
+from .directions import MOST_WAITING, NEAR, Direction, Piece
 
 SIDES = ("left", "right")
 CONNECT_REQUEST, CONNECT_CONFIRM, DISCONNECT_REQUEST, ERROR = 0xE0, 0xD0, 0x80, 0x70
@@ -13,19 +13,8 @@ CONNECT_REQUEST, CONNECT_CONFIRM, DISCONNECT_REQUEST, ERROR = 0xE0, 0xD0, 0x80, 
 CODES = (0x10, 0x20, 0x50, 0x60, 0x70, 0x80, 0xC0, 0xD0, 0xE0, 0xF0)
 # How many segments are looked at together, if those that begin the connection aren't among them.
 EARLY = 32
-# How far the first segments may be from the beginning of their direction, in octets.
-NEAR = 16_777_216
 # A direction in which nothing was sent counts as one that begins with a packet.
 FRONT = b"\3\0\0\7"
-
-
-class Piece:
-    """Octets of one direction that passed together: the frame and the time at which they did, and their place in the direction."""
-
-    __slots__ = ("frame", "time", "start", "octets")
-
-    def __init__(self, frame, time, start, octets):
-        self.frame, self.time, self.start, self.octets = frame, time, start, octets
 
 
 class Gap:
@@ -46,14 +35,38 @@ class Gap:
 
 class Doubt(Gap):
     """Octets that were sent again as others, so that it isn't known which of them arrived: their side, the frame that had them first,
-    and that which had them again."""
+    and that which had them again. The first frame is None if its octets were forgotten, though nobody had acknowledged them."""
+
+    def __init__(self, side, frame, again):
+        super().__init__(side, None, frame or again, None)
+        self.again, self.is_kept = again, frame is not None
+
+    def __str__(self):
+        if not self.is_kept:
+            return f"frame {self.again}, in which {self.side} sent octets again that are kept no longer"
+        return f"frame {self.frame}, whose octets {self.side} sent again as others in frame {self.again}"
+
+
+class Damage(Gap):
+    """A frame that was damaged on its way, so that its octets aren't those that arrived: its side, and the frame."""
+
+    def __init__(self, side, frame):
+        super().__init__(side, None, frame, None)
+
+    def __str__(self):
+        return f"frame {self.frame}, which was damaged on its way from {self.side} (its TCP checksum is wrong)"
+
+
+class Order(Gap):
+    """Octets of both sides that acknowledge each other, so that some were sent again, and the capture lacks their first copy: their side,
+    the frame up to which the order is known, and that which had them again."""
 
     def __init__(self, side, frame, again):
         super().__init__(side, None, frame, None)
         self.again = again
 
     def __str__(self):
-        return f"frame {self.frame}, whose octets {self.side} sent again as others in frame {self.again}"
+        return f"frame {self.frame}, which acknowledges octets that are here only as {self.side} sent them again, in frame {self.again}"
 
 
 class Stream:
@@ -61,7 +74,7 @@ class Stream:
     that begin the connection (SYN) may be late."""
 
     def __init__(self, number, ends):
-        self.number, self.ends, self.pieces, self.opener = number, ends, [], None
+        self.number, self.ends, self.pieces, self.opener, self.requester = number, ends, [], None, None
         self.directions = {end: Direction() for end in ends}
         self.is_over = self.is_other = False
         self.last, self.early = None, []
@@ -90,7 +103,7 @@ class Stream:
             if not self.directions[end].has_first:
                 sent = [segment.sequence for segment in early if segment.source == end and segment.octets]
                 heard = [segment.acknowledged for segment in early if segment.source == far and segment.acknowledged is not None]
-                self.directions[end].presume(sent + heard if self.directions[far].has_first else sent or heard)
+                self.directions[end].presume(sent, heard, self.directions[far].has_first)
         for segment in early:
             own = self.directions[segment.source]
             # What an end sends of the connection before this one (on the same ports) is not of this one.
@@ -101,7 +114,7 @@ class Stream:
         """Takes a segment, now that it is known where both directions begin."""
         own.note(segment)
         if segment.acknowledged is not None:
-            far.hear(segment.acknowledged, segment.frame)
+            far.acknowledge(segment.acknowledged, segment.frame, segment.time)
         if self.is_over or self.is_other:
             return
         # A reset may have a text, which is no part of what was sent (RFC 1122, 4.2.2.12).
@@ -114,16 +127,18 @@ class Stream:
 
     def take_octets(self, segment, own, far):
         """Lets the octets of a segment pass if they are the next ones and nothing is missing; else keeps them."""
-        if own.waiting or segment.sequence != own.next or segment.is_first or not far.has_passed(segment.acknowledged):
+        if own.waiting or segment.sequence != own.next or segment.is_first or not far.has_passed(segment.acknowledged) or \
+                own.is_keepalive(own.count, segment):
             own.keep(segment)
             return
-        self.pieces.append((segment.source, Piece(segment.frame, segment.time, own.count, segment.octets)))
-        own.go_on(segment.octets, segment.frame)
+        piece = Piece(segment.frame, segment.time, own.count, segment.octets)
+        self.pieces.append((segment.source, piece))
+        own.go_on(piece)
 
     def pass_on(self):
         """Lets octets pass as long as there are some that may."""
         first, second = self.ends
-        while self.may_pass(first, second) or self.may_pass(second, first) or self.is_released():
+        while self.may_pass(first, second) or self.may_pass(second, first):
             pass
 
     def may_pass(self, end, far):
@@ -132,35 +147,20 @@ class Stream:
         chunk = direction.head() if direction.waiting else None
         if chunk is None or not self.directions[far].has_passed(chunk.acknowledged):
             return False
-        self.let_pass(end, chunk)
-        return True
-
-    def let_pass(self, end, chunk):
-        """Lets the next octets of an end pass."""
-        direction = self.directions[end]
-        self.pieces.append((end, Piece(chunk.frame, chunk.time, direction.count, direction.let_pass())))
-
-    def is_released(self):
-        """If the next octets of both ends acknowledge each other, one of them was sent again: the later one, which had passed before.
-        Lets it pass; whether there was one."""
-        heads = [(self.directions[end].head(), end) for end in self.ends]
-        if any(chunk is None for chunk, _ in heads):
-            return False
-        chunk, end = max(heads, key=lambda each: each[0].frame)
-        self.let_pass(end, chunk)
+        self.pieces.append((end, direction.let_pass()))
         return True
 
     def finish(self):
-        """After the last segment: lets pass what waited for the end of the other direction alone."""
+        """After the last segment: nothing more passes."""
         if self.early is not None:
             self.settle()
-        for end, far in (self.ends, self.ends[::-1]):
-            chunk, other = self.directions[end].head(), self.directions[far]
-            if chunk and other.last is None and not other.waiting and other.needed(chunk.acknowledged) == other.count + 1:
-                other.last = other.count
-                self.pass_on()
         self.is_over = True
         self.leave_doubt()
+
+    def forget(self):
+        """Forgets what passed and won't be sent again."""
+        for direction in self.directions.values():
+            direction.forget()
 
     def leave_doubt(self):
         """Leaves out what passed from the first octet on that was sent again as another one."""
@@ -192,9 +192,9 @@ class Stream:
 
     def caller(self):
         """The end that opened the connection, or else the one whose first packet is a CR, or None."""
-        if self.opener is not None:
-            return self.opener
-        return next((end for end in self.ends if is_connect_request(self.front(end))), None)
+        if self.opener is None and self.requester is None:
+            self.requester = next((end for end in self.ends if is_connect_request(self.front(end))), None)
+        return self.opener or self.requester
 
     def left(self):
         """The end that is left: the caller. If it isn't known, the one with the higher port."""
@@ -210,13 +210,30 @@ class Stream:
 
     def gap(self):
         """The first gap, or None: octets that are lost, or of which it isn't known what they were."""
-        found = [doubt for doubt in [self.doubt()] if doubt]
+        found = [each for each in (self.doubt(), self.order()) if each]
         for side, end in self.by_end().items():
-            direction = self.directions[end]
-            lost = direction.lost()
+            lost = self.lost(end)
             if lost:
-                found.append(Gap(side, lost, direction.first_after(), direction.cut))
+                found.append(Gap(side, lost, self.directions[end].first_after(), self.directions[end].cut))
         return min(found, key=lambda gap: gap.frame, default=None)
+
+    def lost(self, end):
+        """How many octets of an end are missing: before others of its own, or before what the other end sent when it had received them."""
+        direction, far = self.directions[end], self.directions[self.ends[end == self.ends[0]]]
+        chunk = None if direction.lost() or direction.head() else far.head()
+        return direction.needed(chunk.acknowledged) - direction.count if chunk else direction.lost()
+
+    def order(self):
+        """Where the next octets of both sides acknowledge each other, or None."""
+        heads = [(direction.head(), side) for side, direction in ((side, self.directions[end]) for side, end in self.by_end().items())]
+        if any(chunk is None for chunk, _ in heads):
+            return None
+        (first, _), (again, side) = sorted(heads, key=lambda head: head[0].frame)
+        return Order(side, first.frame, again.frame)
+
+    def is_stuck(self):
+        """Whether octets are missing, or some wait for others."""
+        return any(map(self.lost, self.ends)) or any(direction.waiting for direction in self.directions.values())
 
     def is_alone(self):
         """Whether only one direction is here: of the other one there is no segment."""
@@ -227,6 +244,8 @@ class Stream:
         if self.opener is not None:
             return all(self.directions[end].has_first or is_packet(self.front(end) or FRONT) for end in self.ends)
         caller = self.caller()
+        if any(direction.has_more for direction in self.directions.values()):
+            return False
         return caller is not None and all(is_packet(self.front(end) or FRONT) for end in self.ends) and \
             all(is_answer(self.front(end)) for end in self.ends if end != caller)
 

@@ -8,13 +8,13 @@ import tempfile
 import unittest
 from unittest import mock
 
-from ladders import script, tapped, test_judged, transcript, verdicts
+from ladders import rules, script, tapped, test_judged, test_rules, transcript, verdicts
 
-from . import judging, listing, program, streams, tshark
+from . import judging, listing, program, reports, streams, texts, tshark
 
 DISPUTES = test_judged.DISPUTES
 LAST = ("frame 16, 0.005600 seconds: left broke the protocol first, in its packet at octet 143. It sent data (DT); it did not hold the "
-        "data token (X.225, 7.11 and 5.8).")
+        'data token (X.225, 7.11 "DATA TRANSFER SPDU" and "Tokens").')
 ENDED = "ended: right aborted by its session layer, protocol error: AB 17=05 (frame 17, 0.005810 seconds)"
 CURED = "ended: released: left asked for it (FN), right agreed (DN) (frame 22, 0.009100 seconds)"
 with open(os.path.join(script.TOP, "docs", "judge.schema.json"), encoding="utf-8") as schema_file:
@@ -141,6 +141,27 @@ class Texts(Room):
             file.write("0300000e09e00000000100c0010a\n")
         for name in ("run", "run.left.hex"):
             self.assertEqual(call(self.path(name)), (2, "text not judged: only one direction is here\n", ""))
+
+    def test_osi_judge_may_say_that_one_direction_is_here(self):
+        """It says so of a text; what it says is told as it is, and blames nobody."""
+        said = "left packets 1 octets 14 rest 0\nright packets 0 octets 0 rest 0\nleft 1 unanswered\n" \
+               "not judged: only one direction is here\n"
+        found = judging.Judged(texts.read(self.follow()), lambda parts: said)
+        self.assertEqual((found.status(), found.sentence(), found.lines()), (judging.PARTLY, None, said.splitlines()))
+        self.assertEqual((reports.verdict_of(found), reports.breaks_of(found)), ("none", []))
+        self.assertEqual(verdicts.sentence(found.verdict), "Not judged: only one direction is here.")
+
+    def test_a_break_is_a_break_in_every_form(self):
+        """Of every rule of the library: in words, in JSON and in the status; and what leaves the profile is none."""
+        for rule in sorted(test_rules.rules_of_the_library()):
+            does, last, wanted = ("leaves", "leaves the profile", "left") if rule == "Outside" else ("broke", "broke the protocol", "broke")
+            what = "TSDU" if rule in rules.OF_TSDUS else "Data" if rule in rules.OF_SESSIONS else "DT"
+            said = f"left 1 {does} packet 143 {what} {rule}\nleft {last} first, packet 143: {what} {rule}\n"
+            found = judging.Judged(texts.read(self.follow()), lambda parts, said=said: said)
+            self.assertEqual(reports.verdict_of(found), wanted, rule)
+            self.assertEqual(found.status(), judging.BROKE if wanted == "broke" else judging.PARTLY, rule)
+            self.assertEqual("broke the protocol" in found.sentence(), wanted == "broke", rule)
+            self.assertIn(reports.break_of(found, "left")["clause"] or "the limit of this product", found.sentence(), rule)
 
     def test_what_is_told_in_json_is_what_the_schema_says(self):
         for name, status, verdict in (("restart", 1, "broke"), ("restart_cured", 0, "kept")):

@@ -3,12 +3,13 @@ import contextlib
 import io
 import os
 import random
+import tempfile
 import unittest
 from unittest import mock
 
 from ladders import script, tapped
 
-from . import asking, judging, kinds, middle, outcome, program, streams, tshark
+from . import asking, judging, kinds, listing, middle, outcome, program, streams, tshark
 from .tshark import BadInput
 from .test_frames import (AA, AB, AC, ACK, CC, CN, CR, DT, FIN, FIRST, FN, MIP, PUSH, RESET, SYN, TOKENS, Frames, data, packet,
                           segment_of, stream_of, whole)
@@ -74,8 +75,9 @@ class Order(unittest.TestCase):
             wanted = passed(stream_of(frames))
             self.assertEqual(passed(stream_of(mixed)), wanted)
 
-    def test_a_segment_that_is_sent_again_had_passed_before_what_acknowledges_it(self):
-        """The first copy of the CC is not in the file; the second one acknowledges the CN, which acknowledges it."""
+    def test_octets_that_acknowledge_each_other(self):
+        """The first copy of the CC is not in the file; the second one acknowledges the CN, which acknowledges it. If the first copy of
+        both may be missing, nobody knows which came first."""
         made = Frames().begin().send("left", CR)
         answer = made.next["right"]
         made.next["right"] += len(CC)
@@ -84,15 +86,16 @@ class Order(unittest.TestCase):
         made.next["right"] = answer + len(CC)
         made.send("right", AC)
         stream = stream_of(made.frames)
-        self.assertEqual(passed(stream), [("left", CR), ("right", CC), ("left", CN), ("right", AC)])
-        self.assertIsNone(stream.gap())
+        self.assertEqual(passed(stream), [("left", CR)])
+        said = "frame 5, which acknowledges octets that are here only as right sent them again, in frame 6"
+        self.assertEqual(str(stream.gap()), said)
 
     def test_the_end_of_a_direction_is_acknowledged_too(self):
         made = Frames().open().put("right", flags=FIN | ACK).send("left", DT).put("left", flags=FIN | ACK)
         self.assertEqual(passed(stream_of(made.frames))[-1], ("left", DT))
         without = [frame for frame in made.frames if frame != made.frames[7]]
         stream = stream_of(without)
-        self.assertEqual((passed(stream)[-1], stream.gap()), (("left", DT), None))
+        self.assertEqual((passed(stream)[-1], str(stream.gap())), (("right", AC), "frame 8, where right lost 1 octet"))
 
     def test_what_a_reset_acknowledges_need_not_have_been_sent(self):
         made = Frames().open().put("left", flags=RESET | ACK, acknowledged=99_999)
@@ -159,6 +162,12 @@ class Gaps(unittest.TestCase):
             frames = [frame for frame in whole()[0] if (frame[12:16] == bytes((192, 0, 2, 1))) == left]
             report = judged(frames)
             self.assertEqual(report.why, "only one direction is here")
+
+    def test_a_side_that_sent_nothing_is_named(self):
+        """Both directions are here, so it isn't said that only one is."""
+        for made, side in ((Frames().begin().send("left", CR).put("right", flags=RESET | ACK), "right"),
+                           (Frames().begin().send("right", CC).put("left"), "left")):
+            self.assertEqual(asking.why_not(stream_of(made.frames)), f"{side} sent nothing")
 
     @needs_osi
     def test_a_stream_whose_answers_are_all_lost_is_not_judged(self):
@@ -445,16 +454,10 @@ class Status(unittest.TestCase):
             self.assertEqual(call(frames, "judge")[0], wanted)
 
     @needs_osi
-    def test_a_stream_that_is_too_long_is_judged_as_far_as_it_is_read(self):
-        kept, run = Frames().open().talk(8).close().frames, script.run
-
-        def limited(program, word, text, tick):
-            if word == "judge" and len("".join(text)) > 240:
-                raise BadInput("osi judge printed nothing")
-            return run(program, word, text, tick)
-        with mock.patch.object(script, "LONGEST", 240), mock.patch.object(script, "run", limited):
-            status, out, _ = call([kept, whole()[0]], "judge")
-        self.assertEqual((status, out.count("both kept the protocol"), out.count("judged up to frame ")), (3, 2, 2))
+    def test_a_stream_that_is_too_long_to_be_listed_is_judged(self):
+        with mock.patch.object(listing, "MOST_OCTETS", 40), tempfile.TemporaryDirectory() as room:
+            status, out, _ = call(whole()[0], "judge", "--show", "--pictures", room)
+        self.assertEqual((status, "both kept the protocol" in out, out.count("osi show lists at most 40")), (0, True, 2), out)
 
     @needs_osi
     def test_streams_and_hosts_are_chosen(self):

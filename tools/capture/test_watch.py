@@ -5,14 +5,15 @@ import io
 import os
 import shutil
 import tempfile
+import time
 import types
 import unittest
 from unittest import mock
 
 from ladders import script, tapped, test_judged, transcript
 
-from . import frames, program, streams, tshark, watching as watch
-from .test_frames import ACK, DT, PUSH, RESET, SYN, Frames, data, pcap_of
+from . import directions, frames, processes, program, streams, tshark, watching as watch
+from .test_frames import ACK, CC, CR, DT, PUSH, RESET, SYN, Frames, data, pcap_of
 from .test_judging import CURED, DISPUTES, ENDED, LAST
 
 # The package for Python over the library that `make lib` built, if it did.
@@ -84,13 +85,12 @@ class Watching(unittest.TestCase):
         """Lets `osi judge` say of everything that both sides kept the protocol."""
         return mock.patch.object(self.watching, "judge", lambda text: "both kept the protocol\n")
 
-    def test_a_break_is_told_as_soon_as_it_has_passed_and_once(self):
+    def test_a_break_is_told_at_the_end_and_once(self):
         rows = Rows().of("restart")
-        self.assertEqual(self.printed(*rows[:12]), "")
-        told = self.printed(rows[12])
+        self.assertEqual(self.printed(*rows), "")
+        told = self.printed(is_end=True)
         self.assertTrue(told.startswith(f"{NAME}: frame 13, 1.500000 seconds: left broke the protocol first"), told)
         self.assertEqual(told.count("\n"), 1)
-        self.assertEqual(self.printed(*rows[13:], is_end=True), "")
         self.assertIn("right aborted by its session layer, protocol error: AB 17=05 (frame 14, 1.625000 seconds)", self.ended[0])
         self.assertEqual((self.watching.status(), self.watching.watched, self.watching.ending), (1, {}, {}))
 
@@ -239,7 +239,7 @@ class Months(unittest.TestCase):
         out = self.fed(Frames().open().talk().close().frames)
         self.assertRegex(out, r"^stream 0 \S+ \S+: both kept the protocol\nstream 0 .*: ended: released")
         wrong = Frames(ports={"left": 41_000, "right": 102}).open().send("left", data(b"\1\0\1\0wrong"))
-        out = self.fed(wrong.frames)
+        out = self.fed(wrong.put("right").frames)
         self.assertRegex(out, r"^stream 1 .*: frame \d+, 0.00\d+ seconds: left broke the protocol first, in its packet at octet 70\.")
         with contextlib.redirect_stdout(io.StringIO()):
             self.watching.look(is_end=True)
@@ -292,15 +292,16 @@ class Months(unittest.TestCase):
         self.assertIn("judged up to frame 8, whose octets left sent again as others in frame 9", self.fed(made.frames))
         made = Frames(ports={"left": 41_000, "right": 102}).open()
         start = made.next["left"]
-        made.put("left", data(b"\1\0\1\0wrong"), PUSH | ACK).put("left", data(b"\1\0\1\0right"), PUSH | ACK, sequence=start)
-        said = "sent again as others in frame 18, so what was said of later frames is not certain"
+        made.put("left", data(b"\1\0\1\0wrong"), PUSH | ACK).put("right")
+        made.put("left", data(b"\1\0\1\0right"), PUSH | ACK, sequence=start)
+        said = "sent again as others in frame 19, so what was said of later frames is not certain"
         self.assertRegex(self.fed(made.frames), f"left broke .*\n.* {said}")
         self.assertEqual(self.watching.status(), 3)
 
     def test_memory_stays_flat(self):
         """bench/watch.py does the same with 100,000 streams and 1,000,000 TSDUs."""
         steady, counts = self.steady(), []
-        with mock.patch.object(watch, "REMEMBERED", 50):
+        with mock.patch.object(watch, "REMEMBERED", 50), mock.patch.object(directions, "SPARE_SEGMENTS", 10):
             for _ in range(2):
                 self.memory(150, steady)
                 gc.collect()
@@ -323,6 +324,134 @@ class Months(unittest.TestCase):
             self.fed(steady.talk(5).frames)
         with open("/proc/self/statm", encoding="ascii") as file:
             return int(file.read().split()[1]) * os.sysconf("SC_PAGE_SIZE")
+
+
+# A program that takes any data with the word `wrong` for a break, and says so at once if it knows `--live`.
+STUB = """#!/usr/bin/env python3
+import sys
+at, wrong = {"left": 0, "right": 0}, []
+if sys.argv[1:] != ["judge", "--live"]:
+    sys.exit("osi: Words")
+for line in sys.stdin:
+    side, octets = ("right" if line.startswith(chr(9)) else "left"), bytes.fromhex(line)
+    if b"wrong" in octets:
+        wrong.append(f"{side} 1 broke packet {at[side]} Data TokenNotHeld")
+        print(wrong[-1], flush=True)
+    at[side] += len(octets)
+if not any(at.values()):
+    print("left packets 0 octets 0 rest 0", "right packets 0 octets 0 rest 0", "not judged: no octets", sep=chr(10))
+    sys.exit(1)
+print(f"left packets 1 octets {at['left']} rest 0", f"right packets 1 octets {at['right']} rest 0", *wrong, sep=chr(10))
+if wrong:
+    print(wrong[0].replace(" 1 broke packet ", " broke the protocol first, packet ").replace(" Data", ": Data"))
+else:
+    print("both kept the protocol")
+"""
+
+
+class ByProgram(unittest.TestCase):
+    """A program for each stream, which tests make up."""
+
+    def setUp(self):
+        self.room = tempfile.TemporaryDirectory()
+        self.addCleanup(self.room.cleanup)
+        self.programs = processes.Programs(self.program(STUB))
+        self.addCleanup(lambda: [self.programs.end(each) for each in list(self.programs.running)])
+        self.reader = frames.Reader(True, 102)
+        self.asked = []
+        self.watching = watch.Watching(102, self.judge, forget=self.reader.forget, programs=self.programs)
+        list(self.reader.feed(pcap_of([])))
+
+    def program(self, text):
+        """The path of a program with this text."""
+        path = os.path.join(self.room.name, "osi")
+        with open(path, "w", encoding="ascii") as file:
+            file.write(text)
+        os.chmod(path, 0o755)
+        return path
+
+    def judge(self, text):
+        """What a program says of a stream at its end."""
+        self.asked.append(str(text))
+        return "left packets 1 octets 1 rest 0\nright packets 1 octets 1 rest 0\nboth kept the protocol\n"
+
+    def fed(self, made, is_end=False, wanted=None):
+        """What is printed while frames pass; a program may say some text a while later."""
+        until = time.monotonic() + 20
+        with contextlib.redirect_stdout(io.StringIO()) as out:
+            watch.follow(self.watching, self.reader.feed(pcap_of(made)[24:]), 0)
+            while wanted and wanted not in out.getvalue() and time.monotonic() < until:
+                time.sleep(0.02)
+                self.watching.look()
+            self.watching.look(is_end=is_end)
+        return out.getvalue()
+
+    def test_a_break_is_told_while_the_stream_passes_and_once(self):
+        wrong = Frames().open().send("left", data(b"\1\0\1\0wrong")).put("right")
+        out = self.fed(wrong.frames, wanted="broke")
+        said = r"frame 8, 0.004000 seconds: left broke the protocol first, in its packet at octet 35\. It sent"
+        self.assertRegex(out, rf"^stream 0 \S+ \S+: {said}")
+        wrong.frames.clear()
+        wrong.send("right", data(b"\1\0\1\0wrong")).put("left").close()
+        out = self.fed(wrong.frames, wanted="ended")
+        said = r"frame \d+, -?0.0\d+ seconds: right 1 broke packet 35 Data TokenNotHeld"
+        self.assertRegex(out, rf"^stream 0 \S+ \S+: {said}\nstream 0 .*: ended: ")
+        self.assertEqual((self.watching.status(), self.programs.running, self.watching.watched), (1, set(), {}))
+
+    def test_both_kept_the_protocol_is_told_at_the_end(self):
+        self.assertRegex(self.fed(Frames().open().talk(50).close().frames), r"^stream 0 \S+ \S+: both kept the protocol\n.*released")
+        self.assertEqual((self.watching.status(), self.programs.running), (0, set()))
+
+    def test_no_octet_is_kept(self):
+        self.fed(Frames().open().talk(50).frames)
+        self.assertEqual(self.watching.watched[0].stream.pieces, [])
+
+    def test_streams_beyond_the_bound_are_judged_when_they_are_over(self):
+        with mock.patch.object(processes, "MOST_PROGRAMS", 2):
+            made = [Frames(ports={"left": 20_000 + place, "right": 102}).open() for place in range(4)]
+            for each in made:
+                self.fed(each.frames)
+            self.assertEqual((len(self.programs.running), len(self.asked)), (2, 0))
+            for each in made:
+                each.frames.clear()
+                self.assertIn("both kept the protocol", self.fed(each.talk().close().frames))
+        self.assertEqual((self.programs.running, len(self.asked)), (set(), 2))
+
+    def test_streams_without_octets_take_no_program(self):
+        for place in range(5):
+            self.fed(Frames(ports={"left": 20_000 + place, "right": 102}).begin().frames)
+        self.assertEqual(self.programs.running, set())
+
+    def test_a_program_that_does_not_know_live_judges_when_a_stream_is_over(self):
+        self.assertIsNone(processes.Programs(self.program("#!/bin/sh\nexit 2\n")).start())
+        self.assertIsNone(processes.Programs("/nowhere/osi").start())
+
+    def test_a_program_that_ends_by_itself_gives_no_verdict(self):
+        self.programs.program = self.program("#!/bin/sh\nexit 2\n")
+        self.assertIn("not judged: osi judge ended without a verdict", self.fed(Frames().open().talk(3).close().frames))
+
+    def test_a_program_that_is_slow_is_waited_for(self):
+        with mock.patch.object(processes, "MOST_UNWRITTEN", 1_000):
+            self.assertIn("both kept", self.fed(Frames().open().talk(200).close().frames))
+
+    def test_another_protocol_is_named(self):
+        made = Frames().begin().send("left", CR).send("right", CC).send("left", data(b"\x32\1wrong")).send("right", data(b"\x32\3"))
+        self.assertIn("not judged: S7comm, not a session", self.fed(made.frames, wanted="S7comm"))
+
+    def test_octets_that_are_sent_again_as_others_blame_nobody(self):
+        made = Frames().open()
+        start = made.next["left"]
+        made.put("left", data(b"\1\0\1\0wrong"), PUSH | ACK).put("left", data(b"\1\0\1\0right"), PUSH | ACK, sequence=start)
+        out = self.fed(made.frames, is_end=True)
+        self.assertIn("both kept the protocol, judged up to frame 8, whose octets left sent again as others in frame 9", out)
+        self.assertEqual(self.watching.status(), 3)
+
+    def test_packets_are_found_by_their_place(self):
+        found, octets = processes.Places(), CR + DT + b"garbage"
+        for at in range(0, len(octets), 5):
+            found.take(streams.Piece(at, at / 10, at, octets[at:at + 5]))
+        self.assertEqual((found.of(0), found.of(len(CR))), ((14, 10, 1.0), (29, 25, 2.5)))
+        self.assertEqual((found.of(29), found.of(7)), ((30, 25, 2.5), None))
 
 
 @unittest.skipUnless(watch.library(), "the package osi_session or its library is not there")
@@ -427,8 +556,8 @@ class Captures(unittest.TestCase):
             for name, status, said, ended in (("restart", 1, LAST, ENDED), ("restart_cured", 0, "both kept the protocol", CURED)):
                 pcap = os.path.join(room, f"{name}.pcap")
                 self.assertEqual(program.main(["join", os.path.join(DISPUTES, name), "-o", pcap]), 0)
-                for every in ("0", "60"):
-                    found, out, err = self.call("-r", pcap, "--every", every, "--by", "program")
+                for words in (("-r", pcap, "--every", "0"), (pcap, "--every", "60")):
+                    found, out, err = self.call(*words, "--by", "program")
                     self.assertEqual((found, out.partition(still)[0], err), (status, f"{named}{said}\n{named}{ended}", ""))
 
     def test_a_missing_file_has_status_2(self):

@@ -3,14 +3,15 @@
     osi-capture watch -i eth0        a live tap: dumpcap captures, which needs the right to do so
     osi-capture watch -r run.pcap    a capture, read as if it passed now; - is standard input
 
-A break stays a break whatever passes later, so it is printed at once. That both sides kept the protocol is printed when TCP has closed
-the stream, when it was idle for long, or at the end, and then also how it ended. There are two ways:
+A break stays a break whatever passes later, so it is printed as soon as the other end has acknowledged its octets. That both sides kept
+the protocol is printed when TCP has closed the stream, when it was idle for long, or at the end, and then also how it ended. There are
+two ways:
 
     --by library    (if the package osi_session is there) each octet is fed once to a judge of the library, which judges every connection
                     of a stream; a break is printed with the segment that shows it, and the stream is watched on. The memory for each
                     connection has a bound.
-    --by program    (else) `osi judge` judges everything that has passed of a stream, at most once in --every seconds, and less
-                    often if that takes long. It is judged up to 8,000,000 octets, which are kept.
+    --by program    (else) an `osi judge --live` reads each stream, and says a break as soon as it is certain. That is for 64 streams
+                    at once. Any other is judged when it is over, up to 8,000,000 octets, which are kept until then.
 
 A stream is judged up to the first octets that the capture lost. It isn't judged if it begins in the middle, or if it is one of another
 protocol. A stream is forgotten when it is over, when nothing passed for --idle seconds, or, of more than 10,000, if it was idle longest:
@@ -30,7 +31,7 @@ from collections import OrderedDict
 
 from ladders import script, transcript, verdicts
 
-from . import asking, judging, kinds, live, outcome, streams
+from . import asking, judging, kinds, listing, live, outcome, processes, streams
 from .tshark import BadInput
 
 BINDINGS = os.path.join(script.TOP, "bindings", "python", "src")
@@ -57,7 +58,9 @@ def one_judge():
 
 
 class Watched:
-    """A stream that is judged again and again by a function, and how it ends."""
+    """A stream that is kept, and judged by a function when it is over; and how it ends."""
+
+    is_live, is_new = False, True
 
     def __init__(self, stream):
         self.stream, self.octets, self.is_fresh, self.limit, self.why_not = stream, 0, False, None, None
@@ -77,14 +80,9 @@ class Watched:
 
     def is_late(self, now):
         """Whether octets are missing for so long that they won't come."""
-        lost = self.lost()
-        self.missing = None if not lost else self.missing or now
+        self.missing = (self.missing or now) if self.stream.is_stuck() else None
         held = sum(direction.held for direction in self.stream.directions.values())
-        return lost > 0 and (held > MOST_WAITING or now - self.missing > PATIENCE)
-
-    def lost(self):
-        """How many octets at least are missing, for which others wait."""
-        return sum(direction.lost() for direction in self.stream.directions.values())
+        return self.missing is not None and (held > MOST_WAITING or now - self.missing > PATIENCE)
 
     def look_for_limit(self):
         """Notes that the stream is judged no further, if so."""
@@ -107,7 +105,7 @@ class Watched:
 
     def is_over(self):
         """Whether nothing more will pass."""
-        return any(each.reset for each in self.stream.directions.values()) or self.is_closed() and not self.lost()
+        return any(each.reset for each in self.stream.directions.values()) or self.is_closed() and not self.stream.is_stuck()
 
     def is_closed(self):
         """Whether both directions were ended, though octets of them may still be missing."""
@@ -122,16 +120,16 @@ class Watched:
         why = self.why_not or asking.why_not(self.stream)
         if why:
             return (f"not judged: {why}", None) if is_end or self.why_not else None
+        if not (is_end or self.limit):
+            return None
         if not self.stream.pieces:
-            return ("not judged: nothing passed", None) if is_end else None
+            return "not judged: nothing passed", None
         try:
             found = judging.Judged(self.stream, judge)
         except transcript.BadInput as error:
             return f"not judged: {error}", None
-        if found.verdict.first or is_end or self.limit:
-            status = found.status()
-            return self.line(found), judging.PARTLY if self.limit and status == judging.KEPT else status
-        return None
+        status = found.status()
+        return self.line(found), judging.PARTLY if self.limit and status == judging.KEPT else status
 
     def line(self, found):
         """The line of a verdict."""
@@ -155,6 +153,8 @@ class Fed(Watched):
     def __init__(self, stream):
         super().__init__(stream)
         self.judge, self.heard, self.found, self.lines, self.statuses = None, set(), None, [], []
+        # What is found of octets that nobody acknowledged yet: the side, the place after them, the status, the frame and the line.
+        self.waiting = []
         self.head, self.is_told = {side: [] for side in streams.SIDES}, False
 
     def look_for_limit(self):
@@ -164,7 +164,7 @@ class Fed(Watched):
     def follow(self):
         for source, piece in self.stream.pieces:
             if self.left is None:
-                self.left, self.begin, self.judge = self.stream.left(), piece.time, one_judge()()
+                self.left, self.begin, self.judge = self.stream.left(), piece.time, self.made()
             side = streams.SIDES[source != self.left]
             self.follower.take(side, piece)
             if sum(len(each.octets) for each in self.head[side]) < ENOUGH:
@@ -172,6 +172,12 @@ class Fed(Watched):
             if not (self.found or self.is_told):
                 self.feed(source, piece)
         self.stream.pieces.clear()
+        self.stream.forget()
+
+    @staticmethod
+    def made():
+        """A judge of the stream."""
+        return one_judge()()
 
     def by_side(self):
         """The first pieces of each side."""
@@ -179,20 +185,26 @@ class Fed(Watched):
             for piece in pieces:
                 yield side, piece
 
-    def feed(self, source, piece):
-        """Feeds octets that have passed."""
+    def is_begun(self, source, piece):
+        """Whether a direction begins with its first octets."""
         if source not in self.heard:
             self.heard.add(source)
             direction = self.stream.directions[source]
             if not (direction.has_first or self.may_begin(source, piece.octets)):
                 self.found = "not judged: begins in the middle", None
-                return
+                return False
+        return True
+
+    def feed(self, source, piece):
+        """Feeds octets that have passed."""
+        if not self.is_begun(source, piece):
+            return
         for told in self.judge.feed(osi_session.TapSide(source != self.left), piece.octets):
             kind = kinds.of(self)
             if kind:
                 self.found = f"not judged: {kind}, not a session", None
                 return
-            self.certain(told, piece)
+            self.certain(told, source, piece)
 
     def may_begin(self, source, octets):
         """Whether the first octets of a side without its first segment may be those of a connection."""
@@ -200,21 +212,34 @@ class Fed(Watched):
             return streams.is_packet(octets)
         return streams.is_connect_request(octets) if source == self.left else streams.is_packet(octets) and streams.is_answer(octets)
 
-    def certain(self, told, piece):
-        """Notes a verdict that became certain with these octets."""
+    def certain(self, told, source, piece):
+        """Notes a verdict that became certain with these octets, if they are those that arrived."""
         rule, kind = told.rule.name, told.kind.name
         if rule == "NO_OPENING":
             self.found = "not judged: the capture begins in the middle of a connection", None
         elif rule == "LIMIT":
             self.limit = self.limit or "not judged further: more passed than a judge of the library keeps"
-        elif kind in ("BROKE", "LEAVES"):
-            self.lines.append(f"frame {piece.frame}, {piece.time - self.begin:.6f} seconds: {self.line_of(told)}")
-        is_break = kind == "BROKE" and rule != "TSDU_TOO_LONG"
-        self.statuses.append((judging.BROKE if is_break else judging.PARTLY, piece.frame))
+        line = None
+        if kind in ("BROKE", "LEAVES"):
+            line = f"frame {piece.frame}, {piece.time - self.begin:.6f} seconds: {self.line_of(told)}"
+        status = judging.BROKE if kind == "BROKE" else judging.PARTLY
+        self.waiting.append((source, piece.start + len(piece.octets), status, piece.frame, line))
+
+    def tell(self, is_end):
+        """Tells what is found of octets that are acknowledged, or at the end of all; not of those that were sent again as others."""
+        doubt, directions = self.stream.doubt(), self.stream.directions
+        while self.waiting and len(self.heard) == 2:
+            source, end, status, frame, line = self.waiting[0]
+            if not (is_end or doubt or directions[source].heard >= end):
+                return
+            self.waiting.pop(0)
+            if doubt is None or frame < doubt.frame:
+                self.statuses.append((status, frame))
+                self.lines += [line] if line else []
 
     def line_of(self, told):
         """What is said of a verdict: of the first one a sentence, of others the words of `osi judge`."""
-        if not self.statuses and hasattr(self.judge, "text"):
+        if not (self.statuses or self.waiting) and hasattr(self.judge, "text"):
             said = verdicts.printed(self.judge.text())
             if said.first:
                 return f"{verdicts.sentence(said)} {verdicts.reason(said, said.first)}"
@@ -232,6 +257,8 @@ class Fed(Watched):
             return f"not judged: {asking.ALONE if self.stream.is_alone() else begun}", None
         if self.stream.is_alone():
             return f"not judged: {asking.ALONE}", None
+        if len(self.heard) < 2:
+            return f"not judged: {streams.SIDES[self.left in self.heard]} sent nothing", None
         if self.statuses:
             return self.after_verdicts()
         said = verdicts.printed(self.judge.text()) if hasattr(self.judge, "text") else None
@@ -239,6 +266,13 @@ class Fed(Watched):
             return f"not judged: {said.last['why']}" + (f", {self.limit}" if self.limit else ""), None
         limit, status = (f", {self.limit}", judging.PARTLY) if self.limit else ("", judging.KEPT)
         return "both kept the protocol" + limit, status
+
+    def look_for_news(self, is_end):
+        """Nothing is said later than the octets that it is about."""
+
+    def close(self):
+        """Frees the judge."""
+        self.judge.close()
 
     def after_verdicts(self):
         """What is said at last of a stream of which something was told; a break of octets that were sent again as others is none."""
@@ -253,30 +287,104 @@ class Fed(Watched):
             self.stream.finish()
             self.look_for_limit()
             self.follow()
+        self.look_for_news(is_end or self.limit is not None)
+        self.tell(is_end or self.limit is not None)
         found = self.found or (self.at_the_end() if is_end or self.limit else None)
-        kind = kinds.of(self) if found else None
+        kind = kinds.of(self) if found and found is not self.found else None
         if kind:
             self.lines.clear()
             found = f"not judged: {kind}, not a session", None
         if found and self.judge is not None:
-            self.judge.close()
+            self.close()
         # What passes after its verdict says only how the stream ends.
         self.is_told = self.is_told or bool(found)
         return found
 
 
+class Piped(Fed):
+    """A stream that a program judges while it passes. What the program says comes later than the octets that it is about."""
+
+    is_live, is_new = True, False
+
+    def __init__(self, stream, programs, process):
+        super().__init__(stream)
+        self.programs, self.process = programs, process
+        self.places = {side: processes.Places() for side in streams.SIDES}
+
+    def made(self):
+        return self.process
+
+    def feed(self, source, piece):
+        """Writes octets that have passed to the program."""
+        side = streams.SIDES[source != self.left]
+        self.places[side].take(piece)
+        if self.is_begun(source, piece):
+            self.process.write(source != self.left, piece.octets)
+
+    def look_for_news(self, is_end):
+        """Notes what the program says; at the end it says all."""
+        if self.judge is None or self.found or self.is_told:
+            return
+        report = verdicts.printed(self.process.text()) if is_end else None
+        for row in self.process.news():
+            self.note(row)
+        if report and report.first and not (self.found or self.statuses or self.waiting):
+            self.note_break(report, report.last, self.end_of(report.first))
+
+    def end_of(self, side):
+        """The end that is a side."""
+        return self.left if side == streams.SIDES[0] else next(end for end in self.stream.ends if end != self.left)
+
+    def note(self, row):
+        """Notes a line of the program."""
+        try:
+            name, fields = verdicts.line_of(row)
+        except transcript.BadInput:
+            return
+        source = self.end_of(fields["side"])
+        if name in ("without", "halted"):
+            self.waiting.append((source, 0, judging.PARTLY, 0, None))
+        elif name in ("broke", "leaves", "stopped"):
+            said = None if self.statuses or self.waiting else of_line(fields)
+            self.note_break(said, fields, source, row)
+
+    def note_break(self, said, fields, source, row=None):
+        """Notes a break, or that a side left the profile: the first one in a sentence, others in the words of the program."""
+        kind = kinds.of(self)
+        if kind:
+            self.found = f"not judged: {kind}, not a session", None
+            return
+        side = streams.SIDES[source != self.left]
+        end, frame, when = self.places[side].of(int(fields["offset"])) or (0, 0, None)
+        where = "" if when is None else f"frame {frame}, {when - self.begin:.6f} seconds: "
+        line = f"{verdicts.sentence(said)} {verdicts.reason(said, said.first)}" if said else row
+        status = judging.BROKE if verdicts.is_broken(fields) else judging.PARTLY
+        self.waiting.append((source, end, status, frame, where + line))
+
+    def close(self):
+        """Ends the program."""
+        self.programs.end(self.process)
+
+
+def of_line(fields):
+    """The verdict of which a line tells the first break."""
+    did = "broke the protocol" if fields["did"] == "broke" else "leaves the profile"
+    return verdicts.printed(f"{fields['side']} {did} first, packet {fields['offset']}: {fields['what']} {fields['rule']}\n")
+
+
 class Watching:
     """All streams at the port; each is forgotten once its verdict and its end are printed. Without a function that judges a text, the
-    library judges. `forget` is told the key and the number of a stream that is forgotten."""
+    library judges; with one, the programs do, and it judges the streams for which there is none. `forget` is told the key and the number
+    of a stream that is forgotten."""
 
-    def __init__(self, port, judge=None, hosts=(), numbers=(), is_json=False, idle=IDLE, forget=lambda key, number: None):
+    def __init__(self, port, judge=None, hosts=(), numbers=(), is_json=False, idle=IDLE, forget=lambda key, number: None, programs=None):
         self.port, self.judge, self.hosts, self.numbers, self.is_json, self.idle = port, judge, hosts, numbers, is_json, idle
         # Those that are watched, and those whose verdict is printed while TCP is open: by the time of their last segment.
         self.watched, self.ending = OrderedDict(), OrderedDict()
         # Those of which TCP is closed while octets are missing, with the time since then.
         self.closing = OrderedDict()
         self.over, self.statuses, self.forget = OrderedDict(), set(), forget
-        self.kind = Watched if judge else Fed
+        self.kind, self.programs = Watched if judge else Fed, programs
 
     def take(self, segment):
         """Takes a segment."""
@@ -292,8 +400,22 @@ class Watching:
             self.watched[number] = self.kind(streams.Stream(number, ends))
         else:
             self.watched.move_to_end(number)
-        self.watched[number].take(segment)
+        watched = self.watched[number]
+        watched.take(segment)
+        if self.programs and watched.is_new and watched.stream.pieces:
+            self.watched[number] = self.with_program(watched)
         self.drop_idle(segment.time)
+
+    def with_program(self, watched):
+        """A stream of which the first octets have passed, with a program if there is one for it."""
+        watched.is_new = False
+        process = self.programs.start()
+        if process is None:
+            return watched
+        made = Piped(watched.stream, self.programs, process)
+        made.key, made.is_fresh = watched.key, True
+        made.follow()
+        return made
 
     def end(self, segment):
         """Takes a segment of a stream whose verdict is printed; if TCP is closed with it, how the stream ended is printed."""
@@ -301,6 +423,7 @@ class Watching:
         watched.stream.take(segment)
         watched.follow()
         watched.stream.pieces.clear()
+        watched.stream.forget()
         watched.seen = 0
         if watched.is_over():
             self.tell_end(self.ending.pop(segment.stream))
@@ -330,7 +453,7 @@ class Watching:
     def look(self, is_end=False):
         """Judges the streams on which something passed since the last look, or all at the end; prints what is certain."""
         for number, watched in list(self.watched.items()):
-            if watched.is_fresh or is_end:
+            if watched.is_fresh or watched.is_live or is_end:
                 self.look_at(number, watched, is_end)
         for number in list(self.ending) if is_end else ():
             self.tell_end(self.ending.pop(number))
@@ -377,20 +500,16 @@ class Watching:
 
 
 def follow(watching, segments, seconds):
-    """Takes segments. If the library judges, the stream of each is looked at; else all streams at most once in so many seconds, also if
-    nothing passes, and if a look takes long, the next one waits four times as long."""
-    looked, pause = time.monotonic(), seconds
+    """Takes segments. The stream of each is looked at, and all streams each time that so many seconds are over, also if nothing passes."""
+    looked = time.monotonic()
     for segment in segments:
         if segment is not None:
             watching.take(segment)
-        if watching.judge is None:
-            if segment is not None and segment.stream in watching.watched:
+            if segment.stream in watching.watched:
                 watching.look_at(segment.stream, watching.watched[segment.stream], False)
-        elif time.monotonic() - looked >= pause:
-            began = time.monotonic()
+        if watching.judge is not None and time.monotonic() - looked >= seconds:
             watching.look()
             looked = time.monotonic()
-            pause = max(seconds, 4 * (looked - began))
 
 
 def library():
@@ -406,10 +525,11 @@ def add_words(made):
     source = made.add_mutually_exclusive_group(required=True)
     source.add_argument("-i", "--interface", help="the interface to capture on")
     source.add_argument("-r", "--file", help="a pcap or pcapng, or - for standard input")
+    source.add_argument("named", metavar="FILE", nargs="?", help="the same")
     judging.add_streams(made)
     made.add_argument("--json", action="store_true", help="an object for each line")
     made.add_argument("--by", choices=("library", "program"), help="who judges (the library, if the package osi_session is there)")
-    made.add_argument("--every", type=float, default=1.0, metavar="SECONDS", help="how often the program judges a stream at most (1)")
+    made.add_argument("--every", type=float, default=1.0, metavar="SECONDS", help="how often it is looked at what the programs say (1)")
     made.add_argument("--idle", type=float, default=IDLE, metavar="SECONDS",
                       help=f"forget a stream on which nothing passed for so long ({IDLE}, a day)")
     made.add_argument("--osi", help="the program osi")
@@ -419,10 +539,12 @@ def watch(asked):
     """Watches what is asked for until it ends. An interrupt ends what captures, and what had passed is still judged."""
     if asked.by == "library" and not library():
         raise BadInput("there is no package osi_session, or no library for it")
+    asked.file = asked.file or asked.named
     by_program = asked.by == "program" or asked.osi or not library()
     judge = (lambda text: script.run(asked.osi, "judge", text)) if by_program else None
+    programs = processes.Programs(listing.program(asked.osi)) if by_program else None
     source = live.Source(asked)
-    watching = Watching(asked.port, judge, asked.host, asked.stream or (), asked.json, asked.idle, source.forget)
+    watching = Watching(asked.port, judge, asked.host, asked.stream or (), asked.json, asked.idle, source.forget, programs)
     before = {each: signal.signal(each, source.stop) for each in (signal.SIGINT, signal.SIGTERM)}
     try:
         follow(watching, source.segments(), asked.every)
@@ -431,4 +553,6 @@ def watch(asked):
         for each, handler in before.items():
             signal.signal(each, handler)
         source.close()
+        for process in list(programs.running) if programs else ():
+            programs.end(process)
     return watching.status()

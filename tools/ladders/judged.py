@@ -133,7 +133,7 @@ def add_rows(made, steps, verdict, times, upper=None):
         made.rows.append(row)
         row.pause = choosing.pause(steps[place - 1] if place else None, step)
         if is_wrong:
-            row.note = "this broke the protocol" if made_wrong(verdict, step.side) else "this left the profile"
+            row.note = "this broke the protocol" if verdicts.is_broken(verdict.break_of(step.side)) else "this left the profile"
             over.add(step.side)
         for side in (step.side, other(step.side)):
             state = step.verdict and side not in over and step.verdict.state(side)
@@ -150,11 +150,6 @@ def add_rows(made, steps, verdict, times, upper=None):
         if step.packet.octets:
             made.arrows.append(arrow_of(step, index, made.rows[-1].index, times[place], 1))
             made.arrows[-1].wrong = is_wrong
-
-
-def made_wrong(verdict, side):
-    """Whether a side broke the protocol, and didn't only leave the profile."""
-    return verdict.fields(side, "broke", "stopped") is not None
 
 
 def states(steps, side):

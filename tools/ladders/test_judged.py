@@ -15,26 +15,29 @@ OPENED = "left 1 broke packet 41 {0}\nleft 1 knew 1 of 1 phase {1}\nleft broke t
 # What `osi judge` prints of a break, and the sentence for it.
 SENTENCES = (
     ("Data TokenNotHeld", "Ready held 54 next 1 below 1 lowest 1",
-     "It sent data (DT); it did not hold the data token (X.225, 7.11 and 5.8)."),
+     'It sent data (DT); it did not hold the data token (X.225, 7.11 "DATA TRANSFER SPDU" and "Tokens").'),
     ("Minor TokenNotHeld", "Ready held 00 next 1 below 1 lowest 1",
-     "It sent a minor synchronization point (MIP); it did not hold the tokens for that (X.225, 7.20 and 5.8)."),
+     'It sent a minor synchronization point (MIP); it did not hold the tokens for that '
+     '(X.225, 7.20 "MINOR SYNC POINT SPDU" and "Tokens").'),
     ("Minor TokenNotHeld", "Ready held 01 next 1 below 1 lowest 1",
-     "It sent a minor synchronization point (MIP); it did not hold the minor token (X.225, 7.20 and 5.8)."),
+     'It sent a minor synchronization point (MIP); it did not hold the minor token (X.225, 7.20 "MINOR SYNC POINT SPDU" and "Tokens").'),
     ("Give TokenNotHeld", "Ready held 54 next 1 below 1 lowest 1",
-     "It sent tokens (GT); it did not hold the tokens for that (X.225, 7.16 and 5.8)."),
+     'It sent tokens (GT); it did not hold the tokens for that (X.225, 7.16 "GIVE TOKENS SPDU" and "Tokens").'),
     ("Data BadState", "MajorAsked held 55 next 2 below 1 lowest 1",
-     "It sent data (DT); a session may not send that in the phase MajorAsked (X.225, 7.11 and Annex A)."),
+     'It sent data (DT); a session may not send that in the phase MajorAsked '
+     '(X.225, 7.11 "DATA TRANSFER SPDU" and Annex A "State tables").'),
     ("MinorConfirm BadNumber", "Ready held 00 next 4 below 3 lowest 1",
      "It sent the confirmation of a minor point (MIA); its number is not one that is allowed: the next number was 4, all below 3 were "
-     "confirmed, and a restart may go back to 1 (X.225, 7.21 and 5.9)."),
+     'confirmed, and a restart may go back to 1 (X.225, 7.21 "MINOR SYNC ACK SPDU" and "Local variables").'),
     ("Accept BadTokens", "Answering held 00 next 0 below 0 lowest 0",
-     "It sent an acceptance (AC); it puts tokens on a side that was not asked for (X.225, 7.4 and 5.8)."),
+     'It sent an acceptance (AC); it puts tokens on a side that was not asked for (X.225, 7.4 "ACCEPT SPDU" and "Tokens").'),
     ("Abort NoFault", "Ready held 55 next 4 below 2 lowest 1",
-     "It sent an abort (AB); it reports a protocol error, and there had been none (X.225, 7.9)."),
+     'It sent an abort (AB); it reports a protocol error, and there had been none (X.225, 7.9 "ABORT SPDU").'),
     ("TSDU UnknownSi", "Ready held 55 next 1 below 1 lowest 1",
-     "It sent a TSDU; it has a unit with an SI that isn't known, or of a functional unit that isn't selected (X.225, 8.2)."),
+     'It sent a TSDU; it has a unit with an SI that isn\'t known, or of a functional unit that isn\'t selected '
+     '(X.225, 8.2 "SPDU structure").'),
     ("AbortAccept NothingToAnswer", "Ready held 55 next 1 below 1 lowest 1",
-     "It sent the answer to an abort (AA); there was no abort to answer (X.225, 7.10)."))
+     'It sent the answer to an abort (AA); there was no abort to answer (X.225, 7.10 "ABORT ACCEPT SPDU").'))
 
 
 def stored(name):
@@ -103,7 +106,8 @@ class Pictures(unittest.TestCase):
     def test_the_box_has_the_verdict_in_a_sentence(self):
         self.assertEqual(list(drawn("restart").verdict), [
             "Left broke the protocol first, in its packet at octet 143.",
-            "It sent data (DT); the data token was with right since left's packet at octet 126 (X.225, 7.11 and 5.8).",
+            'It sent data (DT); the data token was with right since left\'s packet at octet 126 '
+            '(X.225, 7.11 "DATA TRANSFER SPDU" and "Tokens").',
             "The session that comes nearest had taken 3 of the 3 TSDUs of right that had passed, and was in the phase Ready.",
             "osi judge: left broke the protocol first, packet 143: Data TokenNotHeld"])
         self.assertEqual(list(drawn("restart_cured").verdict), ["Both sides kept the protocol.", "osi judge: both kept the protocol"])
@@ -176,7 +180,8 @@ class Pictures(unittest.TestCase):
                              "left broke the protocol first, packet 14: TPKT BadVersion\n")
         made = judged.picture_of(tapped.read(text), listings, "", told=told)
         self.assertEqual([row.text for row in made.rows if row.mark == "refused"], ["fault 14 BadVersion"])
-        self.assertEqual(made.verdict[1], "No packet begins there: its first octet (hexadecimal 04) is not 3 (RFC 1006, section 6).")
+        self.assertEqual(made.verdict[1], "No packet begins there: its first octet (hexadecimal 04) is not 3 "
+                         "(RFC 1006, 6 \"Packet Format\").")
 
 
 class Reading(unittest.TestCase):

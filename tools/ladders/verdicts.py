@@ -11,11 +11,11 @@ PLACE = r"packet (?P<offset>\d+) (?P<what>\w+) (?P<rule>\w+)"
 LINES = {name: re.compile(text) for name, text in (
     ("read", r"(?P<side>left|right) packets (?P<packets>\d+) octets (?P<octets>\d+) rest (?P<rest>\d+)"),
     ("kept", OWN + r"kept (?P<count>\d+) " + STATE + r"(?: owes (?P<owes>\w+))?"),
-    ("broke", OWN + "broke " + PLACE),
+    ("broke", OWN + r"(?P<did>broke) " + PLACE),
     ("knew", OWN + r"knew (?P<taken>\d+) of (?P<passed>\d+) " + STATE),
     ("fault", OWN + r"fault (?P<at>\d+) (?P<fault>\w+)(?: (?P<code>\d+))?"),
-    ("leaves", OWN + "leaves " + PLACE),
-    ("stopped", r"(?P<side>left|right) (?:broke|leaves) " + PLACE),
+    ("leaves", OWN + r"(?P<did>leaves) " + PLACE),
+    ("stopped", r"(?P<side>left|right) (?P<did>broke|leaves) " + PLACE),
     ("halted", r"(?P<side>left|right) not judged after (?:left|right) " + PLACE),
     ("without", OWN + r"(?P<why>refused|unanswered|too many)"))}
 LAST = re.compile(r"both kept the protocol|not judged: (?P<why>.+)"
@@ -115,8 +115,13 @@ def sentence(verdict):
 
 
 def is_broken(found):
-    """Whether a break is one of the standards, and not of what this product leaves out."""
-    return found["rule"] not in rules.OF_PRODUCT
+    """Whether a side broke the protocol, and didn't only leave the profile: as `osi judge` says."""
+    return found["did"].startswith("broke")
+
+
+def did_too(found):
+    """What a side did after the other one."""
+    return "broke the protocol too" if is_broken(found) else "left the profile too"
 
 
 def place_of(found):
@@ -190,6 +195,6 @@ def box(verdict, packet=None, octets=None):
     for side in SIDES:
         later = verdict.break_of(side)
         if later and verdict.first not in (None, side):
-            rows.append(f"Later {side} broke the protocol too, {place_of(later)}: {later['what']} {later['rule']}.")
+            rows.append(f"Later {side} {did_too(later)}, {place_of(later)}: {later['what']} {later['rule']}.")
     rows[0] = rows[0][0].upper() + rows[0][1:]
     return rows + [f"osi judge: {verdict.rows[-1]}"]
