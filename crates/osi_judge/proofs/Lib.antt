@@ -3,6 +3,6 @@ mod Vocabulary
 pub mod walked
 pub mod told
 pub mod outlined
-pub mod captured
+pub mod a_capture_goes_on
 pub mod honest
 pub mod kept

@@ -1,35 +1,18 @@
 -- What the proofs of this crate take from the library, from the crates below and from its own definitions.
 pub use Rattle.std.proofs.Common.{Bool, Err, IfNone, IfOk, IfSome, List, MatchBool, None, Ok, OnOk, Option, Result, Some, [], ap, ap₂}
-pub use Rattle.std.proofs.Common.{arith, cond, drop, eqb, false, get_or, if◌then◌else◌, inl, inr, is_none, is_some, leb, length, map, min}
-pub use Rattle.std.proofs.Common.{nat_eq, nat_le, nat_lt, not, option_map, refl, replicate, rules, subst, suc, sym, take, true, unwrap_or}
-pub use Rattle.std.proofs.Common.{zero, ℕ, ◌&&◌, ◌++◌, ◌+◌, ◌-◌, ◌<◌, ◌==◌, ◌||◌, ◌↔◌, ◌∙◌, ◌∷◌, ◌≡◌, ◌≢◌, ◌≤◌, ◌⊎◌}
-pub use Rattle.std.proofs.Math.Seq.{take-append_seam}
-pub use Rattle.std.proofs.lemmas.Bool.{and_from, and_parts, cases_Bool, cases_lt, eq-eqb, eqb-true, le-leb, leb-true, lt-leb, lt-ltb}
-pub use Rattle.std.proofs.lemmas.Bool.{ltb-true}
-pub use Rattle.std.proofs.lemmas.Bool.Decides.{leb_tells, nat_tests}
-pub use Rattle.std.proofs.lemmas.List.{append-nil, append_assoc, append_cancel_left, get_or-append_right, get_or-replicate}
-pub use Rattle.std.proofs.lemmas.List.{get_or_append_left, length-append, length-replicate, length-take-le, map-append, replicate_more}
-pub use Rattle.std.proofs.lemmas.List.{take-append-drop, take-append-le}
+pub use Rattle.std.proofs.Common.{arith, drop, eqb, false, get_or, if◌then◌else◌, inl, inr, is_none, is_some, length, map, nat_le, nat_lt}
+pub use Rattle.std.proofs.Common.{not, option_map, refl, replicate, subst, suc, sym, take, true, unwrap_or, zero, ℕ, ◌&&◌, ◌++◌, ◌+◌, ◌-◌}
+pub use Rattle.std.proofs.Common.{◌<◌, ◌==◌, ◌||◌, ◌↔◌, ◌∙◌, ◌∷◌, ◌≡◌, ◌≢◌, ◌≤◌, ◌⊎◌}
+pub use Rattle.std.proofs.lemmas.Bool.{and_from, and_parts, cases_Bool, eq-eqb, eqb-true, le-leb, leb-true, lt-ltb, ltb-true}
+pub use Rattle.std.proofs.lemmas.Bool.Decides.{nat_tests}
+pub use Rattle.std.proofs.lemmas.List.{append-nil, append_assoc, get_or-append_right, get_or-replicate, get_or_append_left, length-append}
+pub use Rattle.std.proofs.lemmas.List.{length-replicate, replicate_more, take-append-drop}
 pub use Rattle.std.proofs.lemmas.List.Concat.{flat_map-append}
-pub use Rattle.std.proofs.lemmas.List.Elements.{filter-append}
 pub use Rattle.std.proofs.lemmas.List.Sums.{fold-append}
 pub use Rattle.std.proofs.lemmas.Nat.{and_assoc}
 pub use Rattle.std.specs.Borrow.{Bor}
 pub use Rattle.std.specs.Int.RustNames.{bit_and}
-pub use Rattle.std.specs.List.{AllByRecursion, filter, flat_map, fold, list_any, slice_get}
-pub use Rattle.osi_tpkt.proofs.a_prefix_of_a_packet.{empty_partial, partial_front, partial_not_whole}
-pub use Rattle.osi_tpkt.proofs.a_stream_is_cut_in_one_way.{end_no_packet, one_cut}
-pub use Rattle.osi_unit.proofs.lists_of_octets_stay_octets.{octets_right}
-pub use Rattle.osi_tpkt.proofs.no_packet_is_a_prefix_of_another.{one_packet, packet_front, stated_length-append}
-pub use Rattle.osi_unit.specs.Octets.{IsOctets}
-pub use Rattle.osi_tpkt.specs.Packet.{IsFaultOf, IsPacket, IsPartial, stated_length}
-pub use Rattle.osi_tpkt.specs.Stream.{ArePackets, Cuts, Ending, offset_of}
-pub use Rattle.osi_tpkt.specs.Stream.Ending.{Faulty, Rest}
-pub use Rattle.osi_tpkt.specs.declared.faults.TpktFault.{TpktFault}
-pub use Rattle.osi_tpkt.specs.declared.faults.TpktFault.TheVariants.{BadLength, BadVersion, OutOfMemory}
-pub use Rattle.osi_tpdu.specs.Packet.{AreUnits}
-pub use Rattle.osi_tpdu.specs.Value.{Value}
-pub use Rattle.osi_tpdu.specs.declared.faults.TpduFault.{TpduFault}
+pub use Rattle.std.specs.List.{AllByRecursion, flat_map, fold, list_any, slice_get}
 pub use Rattle.osi_spdu.proofs.basics.digits_of_numbers.{numeral_digits}
 pub use Rattle.osi_spdu.proofs.form.few_octets_fit.{few_fit}
 pub use Rattle.osi_spdu.proofs.form.the_form_spells_its_unit.{units_written}
@@ -142,24 +125,18 @@ pub use Rattle.osi_session.specs.declared.state.State.{State}
 pub use Rattle.osi_judge.specs.Between.{confirmed_to, seen_to}
 pub use Rattle.osi_judge.specs.Breaking.{BreaksAs, BreaksAt, BreaksIn, BreaksWith, Leads, LeavesBehind, here, in_effect, last, later}
 pub use Rattle.osi_judge.specs.Breaking.{selection_of}
-pub use Rattle.osi_judge.specs.Captures.{Capture, Passed, of, other, passed_before, piece, stream}
+pub use Rattle.osi_judge.specs.Captures.{Capture, other, piece, stream}
 pub use Rattle.osi_judge.specs.Explaining.{Explains, IsExplained, Remark, Told, answers, done, read_as, remark, remarks, remarks_of, takes}
-pub use Rattle.osi_judge.specs.Feeding.{Feeds, IsWithin, Lined, Passes, Settles, TakesPacket, TakesUnit, Tapped, Tells, faulty, front}
-pub use Rattle.osi_judge.specs.Feeding.{goes_on, handshake_in, has_broken, hears, ignored, last_behind, last_place, lined, looked_at}
-pub use Rattle.osi_judge.specs.Feeding.{met_in, met_of, named, named_behind, reading_of, since_at, since_in, since_of, stage_in, stopped_by}
-pub use Rattle.osi_judge.specs.Feeding.{stopped_of, tapped, whole, with_octets}
-pub use Rattle.osi_judge.specs.Following.{BeginBefore, BrokeFirst, EndBy, FirstIs, Follows, IsRest, IsSince, Judged, Taps, both}
-pub use Rattle.osi_judge.specs.Following.{first_after, first_in, half_of, judged, kept_of, shown}
+pub use Rattle.osi_judge.specs.Findings.{broke_session, is_judged, place_of}
 pub use Rattle.osi_judge.specs.Foremost.{FollowsNone, IsForemost, PrecedesAll, before_of, foremost, is_before}
-pub use Rattle.osi_judge.specs.Judging.{AreAll, AreKept, BrokeBy, BrokeFor, CrowdedFor, FoundNext, HasRoom, IsAstray, IsCrowd, IsFew}
-pub use Rattle.osi_judge.specs.Judging.{IsFound, IsKept, Keeps, LeftBy, LeftFor, StandsBefore, Watched, Watches, WatchesBy, is_empty, up_to}
-pub use Rattle.osi_judge.specs.Keeping.{is_same, kept_in, once, once_behind, room_in}
+pub use Rattle.osi_judge.specs.Judging.{AreAll, AreKept, BrokeBy, BrokeFor, CrowdedFor, HasRoom, IsAstray, IsCrowd, IsFew, IsFound, IsKept}
+pub use Rattle.osi_judge.specs.Judging.{Keeps, LeftBy, LeftFor, StandsBefore, Watched, Watches, WatchesBy, is_empty}
+pub use Rattle.osi_judge.specs.Keeping.{is_same, once, once_behind, room_in}
 pub use Rattle.osi_judge.specs.Kept.{Halt, StepsAs, Way, added, after_read, after_tsdu, after_word, after_words, an_abort, anew, answer_by}
 pub use Rattle.osi_judge.specs.Kept.{answering, askers, askers_from, asks, both_of, first_sender, follows, if_answer, is_among, is_between}
 pub use Rattle.osi_judge.specs.Kept.{is_covered, is_still, joined, kept, latest, listed, member, places_of, quiet_after, quietly, remain}
 pub use Rattle.osi_judge.specs.Kept.{restart_at, restarters, same_count, same_member, same_seen, senders, senders_from, sends, stepped}
 pub use Rattle.osi_judge.specs.Kept.{waited, way_of, way_to}
-pub use Rattle.osi_judge.specs.KeptIn.{AreKeptIn, HasRoomIn, IsKeptStanding, IsRuledIn}
 pub use Rattle.osi_judge.specs.Members.{Extends, IsBehind, SomeExplains}
 pub use Rattle.osi_judge.specs.Nearest.{Unsaid, a_unit, becomes, break_of, count_at, far, goes_to, is_nearer, next_of, quiet_by, reached}
 pub use Rattle.osi_judge.specs.Nearest.{rule_for, tried, tried_by, unread, unsaid}
@@ -167,19 +144,9 @@ pub use Rattle.osi_judge.specs.Onward.{Comes, GoesOn, IsAmong, IsAtEnd, IsNeares
 pub use Rattle.osi_judge.specs.Onward.{standing_of, stays}
 pub use Rattle.osi_judge.specs.Outlines.{AreAlike, bare, no_data, outline, outline_as, outline_behind, outline_by, outlines}
 pub use Rattle.osi_judge.specs.Profiles.{accepted_in, in_first, is_outside, leaves, offered_in, selects_outside}
-pub use Rattle.osi_judge.specs.Running.{IsHonest, IsHonestIn, IsSentFrom, Pass, Runs}
+pub use Rattle.osi_judge.specs.Running.{IsHonest, IsSentFrom, Pass, Runs}
 pub use Rattle.osi_judge.specs.Runs.{AreApart, AreFrom, HasPlace, IsOther, begin_at, begin_in, last_from, last_in, room_of, spread}
-pub use Rattle.osi_judge.specs.Sides.{EndsAt, ended_at, watched}
-pub use Rattle.osi_judge.specs.Stops.{breaks, broke_session, is_judged, place_of}
-pub use Rattle.osi_judge.specs.Tapping.{FirstBreak, IsCountIn, IsFirstIn, IsFoundIn, IsPlace, IsPlaceIn, IsReadIn, IsReferenceIn}
-pub use Rattle.osi_judge.specs.Tapping.{IsStandingIn, IsStoppedIn, StandIn, StandsIn, begin_of, had_passed, heard, octets_of, or_hasty}
-pub use Rattle.osi_judge.specs.Tapping.{stop_in, told}
-pub use Rattle.osi_judge.specs.Transport.{ArePacketsOf, Handshake, IsSent, Move, Sent, Stage, adds, answering_step, asking, asking_step}
-pub use Rattle.osi_judge.specs.Transport.{begun, between, brought, closing_step, complete_in, ended, first_of, first_step, first_unit}
-pub use Rattle.osi_judge.specs.Transport.{given_by, handshake_from, has_asked, hasty_behind, hasty_from, hasty_step, hurries, ignores}
-pub use Rattle.osi_judge.specs.Transport.{last_packet, later_step, met_before, moved, next_step, noted, opening, packet_length}
-pub use Rattle.osi_judge.specs.Transport.{packets_length, reference_in, refused, refused_step, refuses, sent_by, sent_from, shaken, silent}
-pub use Rattle.osi_judge.specs.Transport.{stage_behind, stage_from, step, step_of, stopped, stops, unit_step, within}
+pub use Rattle.osi_judge.specs.Sides.{EndsAt, begin_of, ended_at, watched}
 pub use Rattle.osi_judge.specs.Waiting.{AreAsked, AskerIsAsked, Known, MayBeAsked, Restarted, StillOpen, Waits, aborted, is_abort_word}
 pub use Rattle.osi_judge.specs.Walking.{Answers, Ever, HearsTo, MayFollow, MovesTo, OneExplains, Open, SaidHere, SaysIt, SaysTo, StepsTo}
 pub use Rattle.osi_judge.specs.Walking.{Turns, Walked, WalkerCovers, remarked, the_remark}
@@ -188,9 +155,7 @@ pub use Rattle.osi_judge.specs.declared.directions.Direction.TheVariants.{Left, 
 pub use Rattle.osi_judge.specs.declared.findings.Finding.{Finding}
 pub use Rattle.osi_judge.specs.declared.findings.Finding.TheVariants.{Broke, Kept, TooMany}
 pub use Rattle.osi_judge.specs.declared.heard.Run.{Run}
-pub use Rattle.osi_judge.specs.declared.judge.Reading.{Reading}
 pub use Rattle.osi_judge.specs.declared.members.Member.{Member}
-pub use Rattle.osi_judge.specs.declared.progress.Progress.{Progress}
 pub use Rattle.osi_judge.specs.declared.restarts.Asked.{Asked}
 pub use Rattle.osi_judge.specs.declared.restarts.Asker.{Asker}
 pub use Rattle.osi_judge.specs.declared.rules.Behind.{Behind}
@@ -200,8 +165,5 @@ pub use Rattle.osi_judge.specs.declared.rules.Rule.{Rule}
 pub use Rattle.osi_judge.specs.declared.standings.Stands.{Stands}
 pub use Rattle.osi_judge.specs.declared.standings.Turn.{Turn}
 pub use Rattle.osi_judge.specs.declared.standings.Turn.TheVariants.{Goes, Stops}
-pub use Rattle.osi_judge.specs.declared.stops.Stop.{Stop}
-pub use Rattle.osi_judge.specs.declared.stops.Stop.TheVariants.{NoOpening, OtherClass, TsduTooLong}
-pub use Rattle.osi_judge.specs.declared.stops.Stopped.{Stopped}
 pub use Rattle.osi_judge.specs.declared.walks.Walker.{Walker}
 pub use lib.Pointwise.{pointwise}

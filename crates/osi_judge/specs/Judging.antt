@@ -9,7 +9,7 @@ use Rattle.osi_judge.specs.declared.rules.Break.{Break}
 use Rattle.osi_judge.specs.Breaking.{BreaksAt, selection_of}
 use Rattle.osi_judge.specs.Kept.{kept}
 use Rattle.osi_judge.specs.Profiles.{selects_outside, leaves}
-use Rattle.osi_judge.specs.Stops.{place_of}
+use Rattle.osi_judge.specs.Findings.{place_of}
 use Rattle.osi_judge.specs.Members.{SomeExplains, Extends}
 use Rattle.osi_judge.specs.Walking.{Ever}
 pub use Rattle.osi_judge.specs.Members.{is_empty}

@@ -1,6 +1,5 @@
 pub mod Captures
-pub mod Stops
-pub mod Transport
+pub mod Findings
 pub mod Explaining
 pub mod Outlines
 pub mod Keeping
@@ -14,11 +13,7 @@ pub mod Walking
 pub mod Breaking
 pub mod Judging
 pub mod Sides
-pub mod Tapping
-pub mod KeptIn
 pub mod Running
-pub mod Feeding
 pub mod Onward
-pub mod Following
 pub mod Between
 pub mod Waiting

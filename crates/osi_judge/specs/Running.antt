@@ -9,9 +9,6 @@ use Rattle.osi_session.specs.Sessions.{awaits, opens, refusal_of}
 use Rattle.osi_session.specs.Sizes.{limit_of}
 use Rattle.osi_judge.specs.declared.directions.Direction.{Direction}
 use Rattle.osi_judge.specs.declared.directions.Direction.TheVariants.{Left, Right}
-use Rattle.osi_judge.specs.Captures.{Capture, other}
-use Rattle.osi_judge.specs.Transport.{Sent, IsSent}
-use Rattle.osi_judge.specs.Tapping.{heard, told}
 use Rattle.osi_judge.specs.Explaining.{Told}
 
 -- the TSDUs that an input makes a session send
@@ -54,11 +51,3 @@ pub record IsSentFrom (begin : Listener) (us : List (List ℕ)) (told : List Tol
 abbrev pub IsHonest : Direction → List (List ℕ) → List Told → Type 0
 IsHonest Left us told = (o : Opening) × (refusal_of o ≡ None) × IsSentFrom (opens o) us told
 IsHonest Right us told = IsSentFrom awaits us told
-
--- a side of a capture with such a session
-pub record IsHonestIn (d : Direction) (capture : Capture) : Type 0 where
-  pub mine : List Sent
-  pub others : List Sent
-  pub is_mine : IsSent d capture mine
-  pub is_others : IsSent (other d) capture others
-  pub sent : IsHonest d (heard others) (told d capture mine others)

@@ -1,11 +1,20 @@
 -- A side in memory, by what is known of it.
-use Rattle.std.specs.Prelude.{◌≡◌, ℕ, Bool, true, false, List}
+use Rattle.std.specs.Prelude.{◌≡◌, ◌≤◌, ℕ, Bool, true, false, List, [], ◌∷◌, ◌++◌}
+use Rattle.osi_session.specs.Standing.{Seen, seen_calling, seen_called}
+use Rattle.osi_judge.specs.declared.directions.Direction.{Direction}
+use Rattle.osi_judge.specs.declared.directions.Direction.TheVariants.{Left as left, Right as right}
 use Rattle.osi_judge.specs.declared.sides.Side.{Side}
 use Rattle.osi_judge.specs.declared.findings.Finding.{Finding}
 use Rattle.osi_judge.specs.declared.findings.Finding.TheVariants.{Broke, Left}
 use Rattle.osi_judge.specs.Breaking.{BreaksAt}
-use Rattle.osi_judge.specs.Judging.{Watched}
+use Rattle.osi_judge.specs.Explaining.{Told}
+use Rattle.osi_judge.specs.Judging.{Watched, Watches, FoundNext}
 use Rattle.osi_judge.specs.Profiles.{leaves}
+
+-- the session that a side begins with: left calls
+abbrev pub begin_of : Direction → Seen
+begin_of left = seen_calling
+begin_of right = seen_called
 
 abbrev pub watched : Side → Watched
 watched s = record {
@@ -22,6 +31,14 @@ watched s = record {
 abbrev pub ended_at : (leaves : Bool) → ℕ → Finding
 ended_at true i = Left i
 ended_at false i = Broke i
+
+-- A side is told one of its TSDUs, before which so many of the other side's had passed.
+pub record Tells (tsdu : List ℕ) (before : ℕ) (old new : Watched) : Type 0 where
+  pub begin : new.begin ≡ old.begin
+  pub heard : new.heard ≡ old.heard
+  pub no_later : new.before ≤ before
+  pub finding : FoundNext old.finding old.told new.finding
+  pub watches : (told : List Told) → Watches old told → Watches new (told ++ record { octets = tsdu; before = before } ∷ [])
 
 -- The side broke the protocol at this TSDU, or left the profile: by the break of the sessions that explain it.
 pub record EndsAt (tsdu : List ℕ) (before : ℕ) (w n : Watched) : Type 0 where

@@ -1,7 +1,7 @@
 -- Sessions that wait for the answer to a restart that they sent.
 use Rattle.std.specs.Prelude.{◌≡◌, ◌⊎◌, ◌∷◌, ℕ, Bool, true, false, List, Option, Some, None}
-use Rattle.osi_message.specs.Meanings.{Meaning, AB}
-use Rattle.osi_message.specs.Words.{Word, says, part}
+use Rattle.osi_message.specs.Meanings.{AB}
+use Rattle.osi_message.specs.Words.{Word, says}
 use Rattle.osi_session.specs.declared.phases.Phase.TheVariants.{Aborting}
 use Rattle.osi_session.specs.Phases.{is_restarting}
 use Rattle.osi_session.specs.Standing.{Seen, CanSay, goes}

@@ -1,9 +1,8 @@
 //! The TSDUs of the other side of a connection, in order, without their user data.
 
-ghost use Rattle.std.specs.Prelude.{◌≡◌, ◌<◌, ◌≤◌, ◌+◌, ◌++◌, ◌∷◌, ◌-◌, ◌≢◌, [], true, MatchBool, IfSome, OnOk, OnErr};
-ghost use Rattle.std.specs.Prelude.{get_or, length, take};
+ghost use Rattle.std.specs.Prelude.{◌≡◌, ◌<◌, ◌+◌, ◌++◌, ◌∷◌, [], true, IfSome, OnOk, OnErr, get_or, length};
 ghost use Rattle.osi_judge.specs.Keeping.{is_same, once, room_in};
-ghost use Rattle.osi_judge.specs.Runs.{AreFrom, HasPlace, last_from, last_in};
+ghost use Rattle.osi_judge.specs.Runs.{AreFrom, HasPlace, last_in};
 
 use osi_message::Octets;
 use std::alloc::{AllocError, Global};
@@ -69,22 +68,6 @@ fn ends_with(runs: &[Run], tsdu: &[u8]) -> bool
         return false;
     }
     runs[runs.len() - 1].tsdu.as_slice() == tsdu
-}
-
-/// Whether the last run begins at this place.
-fn last_begins_at(runs: &[Run], place: usize) -> bool
-    requires { 0 < length runs.now }
-    ensures { MatchBool result (last_from runs.now ≡ place) (last_from runs.now ≢ place) }
-{
-    runs[runs.len() - 1].from == place
-}
-
-/// The room that the TSDU of the last run takes.
-fn last_room(runs: &[Run]) -> usize
-    requires { 0 < length runs.now }
-    ensures { result ≡ length (last_in runs.now) + 48 }
-{
-    runs[runs.len() - 1].tsdu.as_slice().len() + OF_EACH
 }
 
 /// The room with one TSDU more, if it can be counted.
@@ -157,21 +140,5 @@ impl Heard {
         self.count = from + 1;
         self.room = room;
         Ok(())
-    }
-
-    /// Takes the last TSDU back.
-    pub(crate) fn take_back(&mut self)
-        requires { 0 < length self.old }
-        ensures { self.new ≡ take (length self.old - 1) self.old }
-    {
-        let count = self.count - 1;
-        if !last_begins_at(&self.runs, count) {
-            self.count = count;
-            return;
-        }
-        let room = self.room - last_room(&self.runs);
-        self.runs.pop();
-        self.count = count;
-        self.room = room;
     }
 }

@@ -1,6 +1,6 @@
-//! Laws of captures. Each function does nothing: its contract is the law.
+//! Laws of a side. Each function does nothing: its contract is the law.
 
-ghost use Rattle.std.specs.Prelude.{◌≡◌, ◌≤◌, ◌+◌, ◌++◌, ◌∷◌, ◌⊎◌, [], ℕ, Bool, List, Option, None, Ok, Some, true, false, length};
+ghost use Rattle.std.specs.Prelude.{◌≡◌, ◌≤◌, ◌+◌, ◌∷◌, ◌⊎◌, [], ℕ, List, None, Ok, Some, true, false, length};
 ghost use Rattle.std.specs.Prelude.{replicate};
 ghost use Rattle.osi_message.specs.declared.places.Place.{Place};
 ghost use Rattle.osi_message.specs.Meanings.{Meaning, DT};
@@ -14,61 +14,30 @@ ghost use Rattle.osi_session.specs.Standing.{Seen, seen_called, seen_calling};
 ghost use Rattle.osi_judge.specs.declared.directions.Direction.{Direction};
 ghost use Rattle.osi_judge.specs.declared.findings.Finding.{Finding};
 ghost use Rattle.osi_judge.specs.Between.{seen_to};
-ghost use Rattle.osi_judge.specs.Captures.{Capture, piece, stream};
+ghost use Rattle.osi_judge.specs.Breaking.{BreaksWith};
+ghost use Rattle.osi_judge.specs.declared.rules.Break.{Break};
+ghost use Rattle.osi_judge.specs.Sides.{begin_of};
 ghost use Rattle.std.specs.List.{flat_map};
 ghost use Rattle.osi_judge.specs.declared.members.Member.{Member};
 ghost use Rattle.osi_judge.specs.declared.standings.Stands.{Stands};
 ghost use Rattle.osi_judge.specs.Explaining.{Remark, Told, Explains, IsExplained};
 ghost use Rattle.osi_judge.specs.Foremost.{foremost, IsForemost};
-ghost use Rattle.osi_judge.specs.KeptIn.{AreKeptIn, HasRoomIn};
+ghost use Rattle.osi_judge.specs.Judging.{HasRoom, IsFound};
 ghost use Rattle.osi_judge.specs.Members.{is_empty};
 ghost use Rattle.osi_judge.specs.Nearest.{Unsaid, reached, far, nearest};
 ghost use Rattle.osi_judge.specs.Onward.{IsNearest, StandsBehind};
-ghost use Rattle.osi_judge.specs.Following.{Judged, Taps, half_of, kept_of};
-ghost use Rattle.osi_judge.specs.Outlines.{AreAlike, bare, outline};
-ghost use Rattle.osi_judge.specs.Stops.{broke_session, is_judged, place_of};
-ghost use Rattle.osi_judge.specs.Running.{IsSentFrom, IsHonestIn};
-ghost use Rattle.osi_judge.specs.Tapping.{IsFirstIn, IsFoundIn, StandsIn};
-ghost use Rattle.osi_judge.specs.Transport.{Sent, IsSent};
+ghost use Rattle.osi_judge.specs.Outlines.{AreAlike, bare, outline, outlines};
+ghost use Rattle.osi_judge.specs.Findings.{broke_session, is_judged, place_of};
+ghost use Rattle.osi_judge.specs.Running.{IsSentFrom, IsHonest};
 
-/// A side of a capture has one list of TSDUs. Pieces of a side that pass one after the other are one piece: the pieces
-/// in which a capture is fed don't matter, as long as its octets keep their order.
-pub fn a_capture_has_one_reading()
-    ensures one { (d : Direction) (capture : Capture) (some others : List Sent) → IsSent d capture some → IsSent d capture others →
-        some ≡ others }
-    ensures pieces { (d : Direction) (octets more : List ℕ) → piece d (octets ++ more) ≡ piece d octets ++ piece d more }
-{}
-
-/// Of a side of a capture one thing is found: that it kept the protocol, or at which of its TSDUs it broke
-/// the protocol or left the profile. So of a side that kept the protocol it is never found that it left the
-/// profile. It is assumed that there were not too many sessions that explain it.
+/// Of a side one thing is found: that it kept the protocol, or at which of its TSDUs it broke the protocol or left the
+/// profile (`place`). So of a side that kept the protocol it is never found that it left the profile. And it is either
+/// found that too many sessions explain it, or one of the other findings (`judged`).
 pub fn a_side_is_found_in_one_way()
-    ensures { (d : Direction) (capture : Capture) (f g : Finding) → is_judged f ≡ true → is_judged g ≡ true
-        → IsFoundIn d capture f → IsFoundIn d capture g → place_of f ≡ place_of g }
-{
-    a_capture_has_one_reading();
-}
-
-/// Which of the sessions that explain a side of a capture are kept, and in which order, depends on the capture alone: those
-/// that explain all that it sent, or what it sent before one of its TSDUs. And of the side it is either found that they
-/// became too many, or one of the other findings.
-pub fn a_side_has_one_list_of_sessions()
-    ensures sessions { (d : Direction) (capture : Capture) (place : Option ℕ) (some others : List Member)
-        → AreKeptIn d capture place some → AreKeptIn d capture place others → some ≡ others }
-    ensures judged { (d : Direction) (capture : Capture) (f g : Finding) → IsFoundIn d capture f → IsFoundIn d capture g
-        → HasRoomIn d capture f → HasRoomIn d capture g → is_judged f ≡ is_judged g }
-{
-    a_capture_has_one_reading();
-}
-
-/// What a side of a capture broke when a prefix had passed, it has still broken in the whole. So a capture has one first break:
-/// one side whose break passed first, or neither broke the protocol.
-pub fn a_capture_has_one_first_break()
-    ensures stays { (d : Direction) (front back : Capture) (has_broken : Bool) → StandsIn d front true →
-        StandsIn d (front ++ back) has_broken
-        → has_broken ≡ true }
-    ensures first { (capture : Capture) (first second : Option Direction) → IsFirstIn capture first → IsFirstIn capture second
-        → first ≡ second }
+    ensures place { (begin : Seen) (us : List (List ℕ)) (told : List Told) (f g : Finding) → is_judged f ≡ true → is_judged g ≡ true
+        → IsFound begin us told f → IsFound begin us told g → place_of f ≡ place_of g }
+    ensures judged { (begin : Seen) (us : List (List ℕ)) (told : List Told) (f g : Finding) → IsFound begin us told f → IsFound begin us told g
+        → HasRoom begin us told f → HasRoom begin us told g → is_judged f ≡ is_judged g }
 {}
 
 /// Of a side that kept the protocol the foremost of the sessions that explain it is told: no other comes before it. Of a side
@@ -80,17 +49,6 @@ pub fn a_side_is_told_by_one_session()
         → IsNearest u (flat_map (reached us before) members) (far members) (nearest u us before members) }
     ensures stands { (us : List (List ℕ)) (m : Member) (s t : Stands) → StandsBehind us m s → StandsBehind us m t → s ≡ t }
 {}
-
-/// What is kept of the TSDUs of a side is no more than what passed of it: of each TSDU its outline, of equal
-/// outlines in a row only one, even if each counts for seven octets more than it has. And of a side that kept
-/// the protocol at most 4,096 sessions are kept that explain it.
-pub fn no_more_is_kept_than_passed()
-    ensures sessions { (d : Direction) (capture : Capture) (j : Judged) → Taps j capture → (half_of d j).side.finding ≡ Finding.Kept
-        → length (half_of d j).side.members ≤ 4096 }
-    ensures octets { (d : Direction) (capture : Capture) (j : Judged) → Taps j capture → kept_of d j ≤ length (stream d capture) }
-{
-    osi_tpdu::laws::whole_packet();
-}
 
 /// The outline of a TSDU has the same effect on every session as the TSDU itself, but for what is shown to its
 /// user. The user data of a message is not in it: the outline has at most as many octets as the message without
@@ -110,6 +68,14 @@ pub fn an_outline_has_no_user_data()
         → has_no_effect item ≡ true → 7 + length octets ≤ length tsdu → outline tsdu ≡ part_octets place (replicate (length octets) 0) }
 {}
 
+/// So the outlines of the TSDUs of the other side are enough to tell how a session of a side stands (`stands`), and by which
+/// rule the side broke the protocol (`rule`): what is told by them is told by the TSDUs themselves.
+pub fn outlines_tell_what_the_tsdus_do()
+    ensures stands { (us : List (List ℕ)) (m : Member) (s : Stands) → StandsBehind (outlines us) m s → StandsBehind us m s }
+    ensures rule { (us : List (List ℕ)) (tsdu : List ℕ) (before : ℕ) (members at : List Member) (by : Break)
+        → BreaksWith (outlines us) tsdu before members at by → BreaksWith us tsdu before members at by }
+{}
+
 /// An honest session is explained, whatever the other side sends and its own user calls, at whatever times: any
 /// octets and any calls, refusals, and a transport connection that is refused or lost at any time. It is explained
 /// up to each TSDU that it sent, by what it took of the other side until then.
@@ -126,13 +92,12 @@ pub fn an_honest_session_is_explained()
 /// So an honest side is never blamed: it is never found to have broken the protocol or to have left the profile,
 /// whatever the other side sent.
 pub fn an_honest_side_is_not_blamed()
-    ensures { (d : Direction) (capture : Capture) (finding : Finding) → IsHonestIn d capture → IsFoundIn d capture finding →
-        broke_session finding ≡ false }
+    ensures { (d : Direction) (us : List (List ℕ)) (told : List Told) (finding : Finding) → IsHonest d us told
+        → IsFound (begin_of d) us told finding → broke_session finding ≡ false }
 {
     osi_message::laws::what_is_sent_is_read();
     osi_message::laws::what_a_part_says();
     osi_message::laws::what_leaves_in_parts();
-    a_capture_has_one_reading();
     an_honest_session_is_explained();
 }
 

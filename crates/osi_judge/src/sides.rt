@@ -1,7 +1,6 @@
 //! One side of a connection, judged by what it sent and by what it may have taken.
 
 ghost use Rattle.std.specs.Prelude.{◌≡◌, ◌<◌, ◌≤◌, ◌⊎◌, ◌++◌, ◌∷◌, ◌+◌, [], false, Err, IfOk, OnOk, OnErr, MatchBool, List, ℕ, length};
-ghost use Rattle.std.specs.Prelude.{take, ◌-◌};
 ghost use Rattle.osi_session.specs.Standing.{seen_called, seen_calling};
 ghost use Rattle.osi_judge.specs.Explaining.{Told};
 ghost use Rattle.osi_judge.specs.Breaking.{selection_of};
@@ -39,7 +38,7 @@ pub enum TellError {
     OutOfMemory,
 }
 
-/// One side of a connection of class 0 (X.225). You tell it its TSDUs while they pass, between those of the other
+/// One side of a session (X.225). You tell it its TSDUs while they pass, between those of the other
 /// side. It keeps the sessions that explain all that the side sent so far, each with the number of the other side's
 /// TSDUs that it has taken.
 #[derive(Drop)]
@@ -122,15 +121,6 @@ impl Side {
         let kept = outline(self.alloc, tsdu)?;
         self.heard.push(kept)?;
         Ok(())
-    }
-
-    /// Takes the last TSDU of the other side back.
-    pub(crate) fn unhear(&mut self)
-        requires { 0 < length (watched self.old).heard }
-        ensures { watched self.new
-            ≡ record (watched self.old) { heard = take (length (watched self.old).heard - 1) (watched self.old).heard } }
-    {
-        self.heard.take_back();
     }
 
     /// A TSDU of this side; `before` TSDUs of the other side had passed completely before its first octet: at least as

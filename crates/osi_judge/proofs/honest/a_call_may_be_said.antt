@@ -1,7 +1,7 @@
 -- What an accepted call sends may be sent: an observer takes it for that call, and arrives at the state that the call
 -- leaves.
 -- For the law that an honest session is explained.
-use Rattle.osi_judge.proofs.Vocabulary.{◌≡◌, ◌∙◌, refl, sym, ap, subst, ℕ, ◌-◌, ◌==◌, Bool, true, not, if◌then◌else◌, nat_le, List, [], ◌∷◌}
+use Rattle.osi_judge.proofs.Vocabulary.{◌≡◌, ◌∙◌, refl, sym, ap, subst, ℕ, ◌==◌, Bool, true, not, if◌then◌else◌, nat_le, List, [], ◌∷◌}
 use Rattle.osi_judge.proofs.Vocabulary.{length, Some, None, unwrap_or, Ok, arith, and_from, and_parts, eq-eqb, TsduMaximumSize, Side}
 use Rattle.osi_judge.proofs.Vocabulary.{TokenSetting, Wish, wish_of, are_sizes, Ready, FunctionalUnits, Sides, State, AllHold, Answer, Test}
 use Rattle.osi_judge.proofs.Vocabulary.{after, base_for, first_error, may_call, most_of, needs, opened_with, serial_for, Call, HasSerial}

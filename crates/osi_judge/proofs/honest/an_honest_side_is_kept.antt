@@ -1,10 +1,9 @@
--- What was found of an honest side of a capture is no break, nor that it left the profile.
+-- What was found of an honest side is no break, nor that it left the profile.
 -- For the law that an honest side is not blamed.
 use Rattle.std.proofs.Common.{arith}
-use Rattle.osi_judge.proofs.Vocabulary.{◌≡◌, ℕ, ◌+◌, true, false, List, take, drop, None, take-append-drop, Opening, awaits, opens}
-use Rattle.osi_judge.proofs.Vocabulary.{refusal_of, Seen, seen_called, seen_calling, Direction, Finding, Capture, other, Told, IsExplained}
-use Rattle.osi_judge.proofs.Vocabulary.{IsSentFrom, IsHonest, IsHonestIn, selects_outside, broke_session, IsFoundIn, begin_of, told, Sent}
-use Rattle.osi_judge.proofs.Vocabulary.{IsSent}
+use Rattle.osi_judge.proofs.Vocabulary.{◌≡◌, ℕ, ◌+◌, true, false, List, take, None, take-append-drop, Opening, awaits, opens}
+use Rattle.osi_judge.proofs.Vocabulary.{refusal_of, Seen, seen_called, seen_calling, Direction, Finding, Told, IsExplained, IsSentFrom, IsHonest, IsFound}
+use Rattle.osi_judge.proofs.Vocabulary.{selects_outside, broke_session, begin_of}
 use Rattle.osi_judge.specs.declared.directions.Direction.TheVariants.{Left as left, Right as right}
 use Rattle.osi_judge.proofs.honest.a_call_is_explained.{AsSent}
 use Rattle.osi_judge.proofs.honest.a_caller_is_explained.{front_told}
@@ -17,9 +16,6 @@ CallerLaw = (o : Opening) (us : List (List ℕ)) (told : List Told) → refusal_
 
 abbrev pub CalledLaw : Type 0
 CalledLaw = (us : List (List ℕ)) (told : List Told) → IsSentFrom awaits us told → IsExplained seen_called us told
-
-abbrev pub OneReading : Type 0
-OneReading = (d : Direction) (capture : Capture) (some others : List Sent) → IsSent d capture some → IsSent d capture others → some ≡ others
 
 honest_explained : CallerLaw → CalledLaw → (d : Direction) (us : List (List ℕ)) (told : List Told) → IsHonest d us told →
     IsExplained (begin_of d) us told
@@ -35,9 +31,6 @@ not_broken : (begin : Seen) (us : List (List ℕ)) (told : List Told) (i : ℕ) 
     (IsExplained begin us (take (i + 1) told) → ⊥) → ⊥
 not_broken begin us told i e n = grind (arith, front_told, take-append-drop (i + 1) told)
 
-pub not_blamed : AsSent → AsParts → CallerLaw → CalledLaw → OneReading → (d : Direction) (capture : Capture) (finding : Finding) →
-    IsHonestIn d capture → IsFoundIn d capture finding → broke_session finding ≡ false
-not_blamed known parts caller called one d capture finding h f =
-    let mine = one d capture h.mine f.mine h.is_mine f.is_mine in
-    let others = one (other d) capture h.others f.others h.is_others f.is_others in
-    grind (arith, honest_explained, honest_inside, not_broken, front_outside)
+pub not_blamed : AsSent → AsParts → CallerLaw → CalledLaw → (d : Direction) (us : List (List ℕ)) (told : List Told) (finding : Finding)
+    → IsHonest d us told → IsFound (begin_of d) us told finding → broke_session finding ≡ false
+not_blamed known parts caller called d us told finding h f = grind (arith, honest_explained, honest_inside, not_broken, front_outside)

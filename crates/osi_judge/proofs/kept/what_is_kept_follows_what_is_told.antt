@@ -1,5 +1,5 @@
 -- The sessions that are kept of a side follow what it tells, and how many they are: for what is known of a side.
-use Rattle.osi_judge.proofs.Vocabulary.{◌≡◌, ◌∙◌, refl, ap, ℕ, suc, zero, ◌+◌, ◌<◌, ◌≤◌, List, [], ◌∷◌, ◌++◌, length, take, arith}
+use Rattle.osi_judge.proofs.Vocabulary.{◌≡◌, ◌∙◌, refl, ap, ℕ, suc, zero, ◌<◌, ◌≤◌, List, [], ◌∷◌, ◌++◌, length, take, arith}
 use Rattle.osi_judge.proofs.Vocabulary.{length-append, fold-append, Seen, Member, Told, AreKept, IsFew, IsCrowd, member, after_tsdu}
 use Rattle.osi_judge.specs.Kept.{kept}
 use Rattle.osi_judge.proofs.kept.what_is_kept_is_of_what_had_passed.{tsdu_alike}

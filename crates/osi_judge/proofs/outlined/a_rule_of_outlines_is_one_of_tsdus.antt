@@ -1,14 +1,12 @@
 -- Which sessions explain a side, and which of them came nearest to what it sent: the same where outlines were heard as where the
--- TSDUs themselves were. For the judge, which keeps outlines, and tells the rule by which a side of a capture broke the protocol.
-use Rattle.osi_judge.proofs.Vocabulary.{◌≡◌, ◌∙◌, refl, ap, ℕ, ◌+◌, ◌-◌, ◌↔◌, inl, inr, List, [], ◌∷◌, ◌++◌, replicate, length, take, Some}
-use Rattle.osi_judge.proofs.Vocabulary.{option_map, Result, Ok, Err, arith, fold, flat_map, SpduFault, Units, tsdu_at, Seen, Member, Break}
-use Rattle.osi_judge.proofs.Vocabulary.{BreaksIn, here, last, later, BreaksAs, BreaksWith, in_effect, Told, Remark, remarks, Explains}
-use Rattle.osi_judge.proofs.Vocabulary.{Finding, Kept, Broke, TooMany, AreAll, HasRoom, kept, SomeExplains, Unsaid, a_unit, unread, becomes}
-use Rattle.osi_judge.proofs.Vocabulary.{reached, far, tried, break_of, Stands, StandsBehind, outlines}
+-- TSDUs themselves were. For a side, which keeps outlines, and tells the rule by which it broke the protocol.
+use Rattle.osi_judge.proofs.Vocabulary.{◌≡◌, ◌∙◌, refl, ap, ℕ, ◌+◌, ◌-◌, List, [], ◌∷◌, replicate, length, take, Some, option_map, Result}
+use Rattle.osi_judge.proofs.Vocabulary.{Ok, Err, arith, fold, flat_map, SpduFault, Units, tsdu_at, Seen, Member, Break, BreaksIn, here}
+use Rattle.osi_judge.proofs.Vocabulary.{last, later, BreaksAs, BreaksWith, in_effect, Told, Finding, Kept, Broke, TooMany, HasRoom, kept}
+use Rattle.osi_judge.proofs.Vocabulary.{Unsaid, a_unit, unread, becomes, reached, far, tried, break_of, Stands, StandsBehind, outlines}
 use Rattle.osi_judge.specs.declared.findings.Finding.TheVariants.{Left}
 use Rattle.osi_judge.specs.Nearest.{count_at, nearest}
-use Rattle.osi_judge.proofs.outlined.alike_tsdus_explain_the_same.{Alike, back, explains_as, outlines_alike, extends_as, length_outlines}
-use Rattle.osi_judge.proofs.outlined.alike_tsdus_explain_the_same.{stands_of_tsdus}
+use Rattle.osi_judge.proofs.outlined.alike_tsdus_explain_the_same.{Alike, outlines_alike, length_outlines, stands_of_tsdus}
 use Rattle.osi_judge.proofs.outlined.alike_tsdus_explain_the_same.{kept_of_tsdus as protocol_of_tsdus}
 use Rattle.osi_judge.proofs.kept.what_is_kept_is_of_what_had_passed.{ActAlike, becomes_alike, word_alike, kept_alike}
 
@@ -39,25 +37,6 @@ stands_of_outlines us m s h =
     stands_of_tsdus us m s h (grind (arith, length_outlines))
 
 -- ---- what the sessions explain
-
-some_as : (us vs : List (List ℕ)) → Alike us vs → (members : List Member) (ms : List Remark) → SomeExplains us members ms
-    → SomeExplains vs members ms
-some_as us vs h [] ms k = elim k [ ]
-some_as us vs h (m ∷ members) ms (inl k) = inl (explains_as us vs h ms m.taken m.standing k)
-some_as us vs h (m ∷ members) ms (inr k) = inr (some_as us vs h members ms k)
-
-of_outlines : (us : List (List ℕ)) (members : List Member) (ms : List Remark) →
-    SomeExplains (outlines us) members ms ↔ SomeExplains us members ms
-of_outlines us members ms = grind (arith, some_as, outlines_alike, back)
-
-pub explained_of_outlines : (us : List (List ℕ)) (ms : List Remark) (taken : ℕ) (s : Seen)
-    → Explains (outlines us) ms taken s ↔ Explains us ms taken s
-explained_of_outlines us ms taken s = grind (arith, explains_as, outlines_alike, back)
-
-pub all_of_tsdus : (begin : Seen) (heard : List (List ℕ)) (before : ℕ) (members : List Member) (told : List Told)
-    → AreAll begin (outlines heard) before members told → AreAll begin heard before members told
-all_of_tsdus begin heard before members told h = λ us later x b.
-    grind (arith, extends_as us heard x, explained_of_outlines us (remarks told ++ later) 0 begin, of_outlines us members later)
 
 -- the sessions that are kept
 pub kept_of_tsdus : (heard : List (List ℕ)) (begin : Seen) (told : List Told) → kept begin (outlines heard) told ≡ kept begin heard told

@@ -1,11 +1,11 @@
 -- What is explained, found and taken where outlines were heard is so where the TSDUs themselves were.
--- For the judge, which keeps outlines, and says what holds of the TSDUs of a capture.
-use Rattle.osi_judge.proofs.Vocabulary.{◌≡◌, ◌∙◌, refl, sym, ap, subst, ℕ, zero, suc, ◌+◌, Bool, true, false, List, [], ◌∷◌, ◌++◌, length}
-use Rattle.osi_judge.proofs.Vocabulary.{take, get_or, Option, None, Result, Ok, IfSome, if◌then◌else◌, arith, SpduFault, Meaning, Word}
-use Rattle.osi_judge.proofs.Vocabulary.{Words, says, is_second, written, Reply, has_no_effect, Seen, Count, Takes, Finding, Kept, Broke}
-use Rattle.osi_judge.proofs.Vocabulary.{TooMany, Member, Stands, Explains, Remark, Told, done, takes, answers, IsAstray, IsFound, IsKept}
-use Rattle.osi_judge.proofs.Vocabulary.{Extends, Comes, StandsBehind, StopsBy, standing_of, stays, goes_to, AreAlike, bare, outline_as}
-use Rattle.osi_judge.proofs.Vocabulary.{outline_behind, outlines, in_first, offered_in, selects_outside, Ever}
+-- For a side, which keeps outlines, and says what holds of the TSDUs.
+use Rattle.osi_judge.proofs.Vocabulary.{◌≡◌, ◌∙◌, refl, sym, ap, subst, ℕ, zero, suc, ◌+◌, Bool, true, false, List, [], ◌∷◌, length, take}
+use Rattle.osi_judge.proofs.Vocabulary.{get_or, Option, None, Result, Ok, IfSome, if◌then◌else◌, arith, SpduFault, Meaning, Word, Words}
+use Rattle.osi_judge.proofs.Vocabulary.{says, is_second, written, Reply, has_no_effect, Seen, Count, Takes, Finding, Kept, Broke, TooMany}
+use Rattle.osi_judge.proofs.Vocabulary.{Member, Stands, Explains, Remark, Told, done, takes, answers, IsAstray, IsFound, IsKept, Comes}
+use Rattle.osi_judge.proofs.Vocabulary.{StandsBehind, StopsBy, standing_of, stays, goes_to, AreAlike, bare, outline_as, outline_behind}
+use Rattle.osi_judge.proofs.Vocabulary.{outlines, in_first, offered_in, selects_outside}
 use Rattle.osi_spdu.specs.Reading.{tsdu_at, unit_at}
 use Rattle.osi_message.specs.Reading.{said_at}
 use Rattle.osi_judge.specs.declared.findings.Finding.TheVariants.{Left}
@@ -116,15 +116,6 @@ found_of_tsdus begin us told (Left i) h = (h.0, kept_of_tsdus begin us (take i t
 found_of_tsdus begin us told TooMany (i, l, h) = (i, l, kept_of_tsdus begin us (take (i + 1) told) h)
 
 -- ---- how a session stands
-
-pub extends_as : (us heard : List (List ℕ)) → Extends us heard → Extends (outlines us) (outlines heard)
-extends_as us heard h = grind (arith, length_outlines, outlines_at)
-
-pub said_of_tsdus : (heard : List (List ℕ)) (before taken : ℕ) (s : Seen) (said : List Remark) (begin : Seen)
-    → Ever (outlines heard) before (λ us later. Explains us later taken s → Explains us (said ++ later) 0 begin)
-    → Ever heard before (λ us later. Explains us later taken s → Explains us (said ++ later) 0 begin)
-said_of_tsdus heard before taken s said begin h = λ us later x b k.
-    search (arith, explains_as, outlines_alike us, extends_as us heard x, back (outlines us) us (outlines_alike us))
 
 comes_as : (us vs : List (List ℕ)) → Alike us vs → (m n : Member) → Comes us m n → Comes vs m n
 comes_as us vs h m n (stays x) = stays x

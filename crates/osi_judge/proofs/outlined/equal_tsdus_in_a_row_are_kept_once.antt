@@ -1,11 +1,10 @@
 -- TSDUs of which equal ones in a row are kept once: how many there are, which one has a place, one more, and one fewer.
 -- For the value Heard.
-use Rattle.osi_judge.proofs.Vocabulary.{◌≡◌, ◌∙◌, refl, sym, ap, ℕ, zero, suc, ◌+◌, ◌-◌, ◌<◌, ◌≤◌, ◌≢◌, List, [], ◌∷◌, ◌++◌, length, get_or}
-use Rattle.osi_judge.proofs.Vocabulary.{take, arith, Bool, true, false, ◌&&◌, ◌==◌, if◌then◌else◌, MatchBool, nat_eq, rules, replicate}
-use Rattle.osi_judge.proofs.Vocabulary.{get_or_append_left, get_or-append_right, get_or-replicate, length-append, length-replicate}
-use Rattle.osi_judge.proofs.Vocabulary.{append-nil, replicate_more, take-append_seam, eq-eqb, eqb-true, eqb, pointwise, Run, is_same, once}
-use Rattle.osi_judge.proofs.Vocabulary.{once_behind, room_in, AreApart, AreFrom, HasPlace, IsOther, begin_at, begin_in, last_from, last_in}
-use Rattle.osi_judge.proofs.Vocabulary.{room_of, spread}
+use Rattle.osi_judge.proofs.Vocabulary.{◌≡◌, ◌∙◌, refl, sym, ap, ℕ, zero, suc, ◌+◌, ◌-◌, ◌<◌, ◌≤◌, List, [], ◌∷◌, ◌++◌, length, get_or}
+use Rattle.osi_judge.proofs.Vocabulary.{arith, Bool, true, false, ◌&&◌, ◌==◌, replicate, get_or_append_left}
+use Rattle.osi_judge.proofs.Vocabulary.{get_or-append_right, get_or-replicate, length-append, length-replicate, append-nil, replicate_more}
+use Rattle.osi_judge.proofs.Vocabulary.{eq-eqb, eqb-true, eqb, pointwise, Run, is_same, once, once_behind, room_in, AreApart, AreFrom}
+use Rattle.osi_judge.proofs.Vocabulary.{HasPlace, IsOther, begin_at, begin_in, last_from, last_in, room_of, spread}
 use Rattle.std.proofs.Common.{append_assoc}
 use Rattle.osi_judge.specs.Runs.{tsdu_at}
 
@@ -18,10 +17,6 @@ spread_length at (r ∷ runs) count h = grind (arith, length-append, length-repl
 pub counted_in : (runs : List Run) (count : ℕ) (value : List (List ℕ)) → AreFrom 0 runs count → spread runs count ≡ value
     → count ≡ length value
 counted_in runs count value h v = (grind (arith, spread_length)) ∙ ap (λ (x : List (List ℕ)). length x) v
-
-pub some_runs : (runs : List Run) (count : ℕ) → AreFrom 0 runs count → 0 < count → 0 < length runs
-some_runs [] count h l = absurd (omega (arith, h, l))
-some_runs (r ∷ runs) count h l = omega arith
 
 -- ---- which one has a place
 
@@ -79,27 +74,6 @@ pub a_run_begins : (at : ℕ) (runs : List Run) (x : Run) (count : ℕ) → AreF
 a_run_begins at [] x count h e = (e ∙ sym h, omega (arith, h), refl)
 a_run_begins at (r ∷ runs) x count h e = grind (arith, a_run_begins (begin_in runs count) runs x count h.2 e)
 
--- ---- one fewer
-
-pub last_stays : (at : ℕ) (runs : List Run) (count : ℕ) → AreFrom at runs (count + 1) → 0 < length runs → last_from runs ≢ count
-    → AreFrom at runs count
-last_stays at [] count h l n = absurd (omega (arith, l))
-last_stays at (r ∷ []) count h l n = (h.0, omega (arith, h.0, h.1, n), refl)
-last_stays at (r ∷ s ∷ runs) count h l n = (h.0, h.1, last_stays s.from (s ∷ runs) count h.2 (omega arith) n)
-
-last_of : (runs : List Run) (x : Run) → last_from (runs ++ x ∷ []) ≡ x.from
-last_of [] x = refl
-last_of (r ∷ []) x = refl
-last_of (r ∷ s ∷ runs) x = last_of (s ∷ runs) x
-
-pub a_run_ends : (at : ℕ) (runs : List Run) (x : Run) (count : ℕ) → AreFrom at (runs ++ x ∷ []) count → AreFrom at runs x.from
-a_run_ends at [] x count h = sym h.0
-a_run_ends at (r ∷ []) x count h = (h.0, h.1, refl)
-a_run_ends at (r ∷ s ∷ runs) x count h = (h.0, h.1, a_run_ends s.from (s ∷ runs) x count h.2)
-
-pub all_but_last : (old new : List (List ℕ)) (t : List ℕ) → old ≡ new ++ t ∷ [] → new ≡ take (length old - 1) old
-all_but_last old new t e = grind (arith, length-append new (t ∷ []), take-append_seam new (t ∷ []))
-
 -- ---- equal ones in a row
 
 pub same_as_itself : (t : List ℕ) → is_same t t ≡ true
@@ -129,11 +103,6 @@ pub apart_more : (runs : List Run) (x : Run) → AreApart runs → (0 < length r
 apart_more [] x h n = (tt, tt)
 apart_more (r ∷ []) x h n = (n (omega arith), (tt, tt))
 apart_more (r ∷ s ∷ runs) x h n = (h.0, apart_more (s ∷ runs) x h.1 (λ l. n (omega arith)))
-
-pub apart_fewer : (runs : List Run) (x : Run) → AreApart (runs ++ x ∷ []) → AreApart runs
-apart_fewer [] x h = tt
-apart_fewer (r ∷ []) x h = (tt, tt)
-apart_fewer (r ∷ s ∷ runs) x h = (h.0, apart_fewer (s ∷ runs) x h.1)
 
 skipped : (n : ℕ) (t : List ℕ) (rest : List (List ℕ)) → once_behind t (replicate n t ++ rest) ≡ once_behind t rest
 skipped zero t rest = refl
@@ -168,11 +137,6 @@ pub room_more : (runs : List Run) (x : Run) → room_of (runs ++ x ∷ []) ≡ r
 room_more [] x = omega arith
 room_more (r ∷ runs) x = let e = room_more runs x in omega (arith, e)
 
-last_added : (runs : List Run) (x : Run) → last_in (runs ++ x ∷ []) ≡ x.tsdu
-last_added [] x = refl
-last_added (r ∷ []) x = refl
-last_added (r ∷ s ∷ runs) x = last_added (s ∷ runs) x
-
 -- ---- the steps of the value
 
 pub halves_begin : (runs : List Run) (count place : ℕ) → AreFrom 0 runs count → place < count
@@ -191,9 +155,6 @@ last_read (x ∷ y ∷ runs) r l e =
 pub last_tsdu : (runs : List Run) (r : Run) → 0 < length runs → r ≡ get_or runs (length runs - 1) r → r.tsdu ≡ last_in runs
 last_tsdu runs r l e = (last_read runs r l e).0
 
-pub last_begin : (runs : List Run) (r : Run) → 0 < length runs → r ≡ get_or runs (length runs - 1) r → r.from ≡ last_from runs
-last_begin runs r l e = (last_read runs r l e).1
-
 pub once_more : (runs : List Run) (count : ℕ) (value : List (List ℕ)) (tsdu : List ℕ) → AreFrom 0 runs count → 0 < length runs
     → is_same (last_in runs) tsdu ≡ true
     → spread runs count ≡ value → spread runs (count + 1) ≡ value ++ tsdu ∷ []
@@ -208,45 +169,7 @@ pub added_in : (runs new : List Run) (x : Run) (count : ℕ) (value : List (List
     → spread new (count + 1) ≡ value ++ x.tsdu ∷ []
 added_in runs new x count value f e v = grind (arith, one_added)
 
-pub stays_shorter : (runs : List Run) (count : ℕ) → AreFrom 0 runs count → 0 < count → last_from runs ≢ count - 1
-    → AreFrom 0 runs (count - 1)
-stays_shorter runs count h l n = grind (arith, last_stays, some_runs)
-
-pub one_fewer : (runs : List Run) (count : ℕ) (value : List (List ℕ)) → AreFrom 0 runs count → 0 < count → last_from runs ≢ count - 1
-    → spread runs count ≡ value
-    → spread runs (count - 1) ≡ take (length value - 1) value
-one_fewer runs count value h l n v = grind (arith, all_but_last, more_of_last, stays_shorter, some_runs)
-
-split_last : (runs : List Run) → 0 < length runs → (x : Run) × (runs ≡ take (length runs - 1) runs ++ x ∷ [])
-split_last [] l = absurd (omega (arith, l))
-split_last (r ∷ []) l = (r, refl)
-split_last (r ∷ s ∷ runs) l =
-    let p = split_last (s ∷ runs) (omega arith) in
-    let i : length (r ∷ s ∷ runs) - 1 ≡ suc (length (s ∷ runs) - 1) = omega arith in
-    (p.0, ap (λ (y : List Run). r ∷ y) p.1 ∙ ap (λ (k : ℕ). take k (r ∷ s ∷ runs) ++ p.0 ∷ []) (sym i))
-
--- what is left once the last run is taken off
-pub record Popped (new : List Run) (count : ℕ) (value : List (List ℕ)) : Type 0 where
-  pub from : AreFrom 0 new (count - 1)
-  pub apart : AreApart new
-  pub rest : spread new (count - 1) ≡ take (length value - 1) value
-
-pub popped : (runs new : List Run) (count : ℕ) (value : List (List ℕ)) → AreFrom 0 runs count → AreApart runs → 0 < count
-    → last_from runs ≡ count - 1
-    → new ≡ take (length runs - 1) runs → spread runs count ≡ value → Popped new count value
-popped runs new count value h a l f n v = grind (arith, split_last, some_runs, last_of, a_run_ends, apart_fewer, all_but_last, one_added)
-
 pub place_in : (runs same : List Run) (count place i : ℕ) (r : Run) (value : List (List ℕ)) → AreFrom 0 runs count → same ≡ runs
     → HasPlace same count place i
     → r ≡ get_or same i r → spread runs count ≡ value → r.tsdu ≡ get_or value place []
 place_in runs same count place i r value h e p g v = grind (arith, tsdu_read, found_from)
-
-pub is_or_not : (a b n : ℕ) → a ≡ b → MatchBool (nat_eq a n) (b ≡ n) (b ≢ n)
-is_or_not a b n e = grind (arith, nat_eq, rules)
-
-pub room_fewer : (runs new : List Run) → 0 < length runs → new ≡ take (length runs - 1) runs
-    → room_of runs ≡ room_of new + (length (last_in runs) + 48)
-room_fewer runs new l n = grind (arith, split_last, room_more, last_added)
-
-pub room_at_least : (runs : List Run) → 0 < length runs → length (last_in runs) + 48 ≤ room_of runs
-room_at_least runs l = let e = room_fewer runs (take (length runs - 1) runs) l refl in omega (arith, e)

@@ -1,12 +1,10 @@
 -- A side keeps the protocol, or strays from it at one TSDU: those before it are kept, and no more.
 -- For the law that a side is found in one way.
-use Rattle.osi_judge.proofs.Vocabulary.{◌≡◌, ◌∙◌, refl, sym, ap, subst, ℕ, suc, zero, ◌+◌, ◌<◌, ◌≤◌, ◌⊎◌, inl, inr, Bool, true, List, []}
-use Rattle.osi_judge.proofs.Vocabulary.{◌∷◌, take, drop, Option, arith, take-append-drop, Seen, Direction, Finding, Kept, Broke, TooMany}
-use Rattle.osi_judge.proofs.Vocabulary.{Capture, other, Told, Member, IsKept, IsAstray, IsFound, IsFew, HasRoom, up_to, kept, AreKeptIn}
-use Rattle.osi_judge.proofs.Vocabulary.{HasRoomIn, is_judged, place_of, IsFoundIn, begin_of, heard, told, Sent, IsSent}
+use Rattle.osi_judge.proofs.Vocabulary.{◌≡◌, refl, ap, ℕ, suc, zero, ◌+◌, ◌<◌, ◌≤◌, ◌⊎◌, inl, inr, Bool, true, List, [], ◌∷◌, take}
+use Rattle.osi_judge.proofs.Vocabulary.{arith, take-append-drop, Seen, Finding, Kept, Broke, TooMany, Told, IsKept, IsAstray, IsFound}
+use Rattle.osi_judge.proofs.Vocabulary.{IsFew, HasRoom, is_judged, place_of, Some}
 use Rattle.osi_judge.specs.declared.findings.Finding.TheVariants.{Left}
 use Rattle.osi_judge.proofs.honest.a_caller_is_explained.{front_told}
-use Rattle.osi_judge.proofs.honest.an_honest_side_is_kept.{OneReading}
 
 -- ---- the front part of what is kept is kept
 
@@ -62,12 +60,23 @@ says begin us said f j k = grind arith
 pub never_strays : (begin : Seen) (us : List (List ℕ)) (said : List Told) (i : ℕ) → IsKept begin us said → Strays begin us said i → ⊥
 never_strays begin us said i k s = kept_or_astray begin us (take (i + 1) said) (front_kept begin us said (i + 1) k) s.astray
 
-pub one_way : OneReading → (d : Direction) (capture : Capture) (f g : Finding) → is_judged f ≡ true → is_judged g ≡ true
-    → IsFoundIn d capture f → IsFoundIn d capture g → place_of f ≡ place_of g
-one_way one d capture f g a b k h =
-    let mine = one d capture h.mine k.mine h.is_mine k.is_mine in
-    let others = one (other d) capture h.others k.others h.is_others k.is_others in
-    grind (arith, never_strays, one_place, says)
+same_place : (begin : Seen) (us : List (List ℕ)) (said : List Told) (f g : Finding) → Says begin us said f → Says begin us said g
+    → place_of f ≡ place_of g
+same_place begin us said Kept Kept k h = refl
+same_place begin us said Kept (Broke j) k h = absurd (never_strays begin us said j k h)
+same_place begin us said Kept (Left j) k h = absurd (never_strays begin us said j k h)
+same_place begin us said (Broke i) Kept k h = absurd (never_strays begin us said i h k)
+same_place begin us said (Broke i) (Broke j) k h = ap (λ (n : ℕ). Some n) (one_place begin us said i j k h)
+same_place begin us said (Broke i) (Left j) k h = ap (λ (n : ℕ). Some n) (one_place begin us said i j k h)
+same_place begin us said (Left i) Kept k h = absurd (never_strays begin us said i h k)
+same_place begin us said (Left i) (Broke j) k h = ap (λ (n : ℕ). Some n) (one_place begin us said i j k h)
+same_place begin us said (Left i) (Left j) k h = ap (λ (n : ℕ). Some n) (one_place begin us said i j k h)
+same_place begin us said TooMany g k h = absurd k
+same_place begin us said f TooMany k h = absurd h
+
+pub one_way : (begin : Seen) (us : List (List ℕ)) (said : List Told) (f g : Finding) → is_judged f ≡ true → is_judged g ≡ true
+    → IsFound begin us said f → IsFound begin us said g → place_of f ≡ place_of g
+one_way begin us said f g a b k h = same_place begin us said f g (says begin us said f a k) (says begin us said g b h)
 
 -- ---- whether there were too many sessions
 
@@ -86,30 +95,6 @@ one_room : (begin : Seen) (us : List (List ℕ)) (said : List Told) (f g : Findi
     → IsFound begin us said f → IsFound begin us said g → HasRoom begin us said f → HasRoom begin us said g → a ≡ b
 one_room begin us said f g a b a2 b2 k h r s = grind (arith, too_many, no_crowd, says)
 
--- what is said of the lists of TSDUs of both sides is said of any others
-pub same_lists : OneReading → (d : Direction) (capture : Capture) (mine others yours theirs : List Sent)
-    → IsSent d capture mine → IsSent (other d) capture others → IsSent d capture yours → IsSent (other d) capture theirs
-    → (P : List Sent → List Sent → Type 0) → P yours theirs → P mine others
-same_lists one d capture mine others yours theirs m o y t P h =
-    let a = one d capture yours mine y m in
-    let b = one (other d) capture theirs others t o in
-    subst (λ (z : List Sent × List Sent). P z.0 z.1) (λ i. (a i, b i)) h
-
-pub one_judged : OneReading → (d : Direction) (capture : Capture) (f g : Finding) → IsFoundIn d capture f → IsFoundIn d capture g
-    → HasRoomIn d capture f → HasRoomIn d capture g → is_judged f ≡ is_judged g
-one_judged one d capture f g k h r s =
-    one_room (begin_of d) (heard k.others) (told d capture k.mine k.others) f g (is_judged f) (is_judged g) refl refl k.found
-    (same_lists one d capture k.mine k.others h.mine h.others k.is_mine k.is_others h.is_mine h.is_others
-    (λ m o. IsFound (begin_of d) (heard o) (told d capture m o) g) h.found)
-    (same_lists one d capture k.mine k.others r.mine r.others k.is_mine k.is_others r.is_mine r.is_others
-    (λ m o. HasRoom (begin_of d) (heard o) (told d capture m o) f) r.room)
-    (same_lists one d capture k.mine k.others s.mine s.others k.is_mine k.is_others s.is_mine s.is_others
-    (λ m o. HasRoom (begin_of d) (heard o) (told d capture m o) g) s.room)
-
--- ---- the sessions that are kept
-
-pub one_list : OneReading → (d : Direction) (capture : Capture) (place : Option ℕ) (members others : List Member)
-    → AreKeptIn d capture place members → AreKeptIn d capture place others → members ≡ others
-one_list one d capture place members others k h =
-    k.kept ∙ sym (same_lists one d capture k.mine k.others h.mine h.others k.is_mine k.is_others h.is_mine h.is_others
-    (λ m o. others ≡ kept (begin_of d) (heard o) (up_to place (told d capture m o))) h.kept)
+pub one_judged : (begin : Seen) (us : List (List ℕ)) (said : List Told) (f g : Finding) → IsFound begin us said f → IsFound begin us said g
+    → HasRoom begin us said f → HasRoom begin us said g → is_judged f ≡ is_judged g
+one_judged begin us said f g k h r s = one_room begin us said f g (is_judged f) (is_judged g) refl refl k h r s

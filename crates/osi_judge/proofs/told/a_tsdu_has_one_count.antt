@@ -2,7 +2,7 @@
 -- many.
 -- For the law that an honest session is explained: a session that takes a TSDU takes it as an observer counts it.
 use Rattle.std.proofs.Common.{arith}
-use Rattle.osi_judge.proofs.Vocabulary.{◌≡◌, ◌∙◌, sym, ap, ℕ, ◌+◌, Bool, false, is_none, List, [], ◌∷◌, ◌++◌, length, Option, None}
+use Rattle.osi_judge.proofs.Vocabulary.{◌≡◌, ◌∙◌, sym, ap, ℕ, Bool, false, is_none, List, [], ◌∷◌, ◌++◌, length, Option, None}
 use Rattle.osi_judge.proofs.Vocabulary.{option_map, Result, if◌then◌else◌, length-append, SpduFault, Place, Word, Words, as_message, State}
 use Rattle.osi_judge.proofs.Vocabulary.{count_by, taker_with, CountsCame, Taker, Hearing, enacted_word, heard_then, is_in_place}
 use Rattle.osi_judge.proofs.Vocabulary.{joined_octets, respond_came, Outcome, Verdict, bad, dropped, enacted, fine, nothing, over, counted}

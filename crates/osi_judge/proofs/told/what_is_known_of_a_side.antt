@@ -6,7 +6,7 @@ use Rattle.osi_judge.proofs.Vocabulary.{TooMany, Remark, remark, Told, remarks_o
 use Rattle.osi_judge.proofs.Vocabulary.{Extends, IsBehind, Ever, Break, BreaksAt, selection_of, ended_at, EndsAt, offered_in, accepted_in}
 use Rattle.osi_judge.proofs.Vocabulary.{in_first, is_outside, selects_outside, leaves, Watched, is_empty, StandsBefore, BrokeBy, LeftBy}
 use Rattle.osi_judge.proofs.Vocabulary.{IsKept, IsAstray, BrokeFor, LeftFor, CrowdedFor, AreAll, Keeps, WatchesBy, Watches, IsFound}
-use Rattle.osi_judge.proofs.Vocabulary.{HasRoom, after_tsdu, kept}
+use Rattle.osi_judge.proofs.Vocabulary.{HasRoom, after_tsdu}
 use Rattle.osi_judge.specs.declared.findings.Finding.TheVariants.{Left}
 use Rattle.osi_judge.proofs.told.a_break_stays_the_break.{extends_front, breaks_heard}
 use Rattle.osi_judge.proofs.kept.what_is_kept_follows_what_is_told.{take_front, take_whole, kept_more, kept_begins, few_begins, few_more}
@@ -345,3 +345,8 @@ pub gives_as : (w : Watched) (x : Told) (new : List Member) (heard : List (List 
     (λ (us : List (List ℕ)) (later : List Remark). SomeExplains us members (remarks_of x ++ later) ↔ SomeExplains us new later) →
     Gives w x new
 gives_as w x new heard members h m g = grind arith
+
+-- ---- how many TSDUs it told
+
+pub count_kept : (w : Watched) (said : List Told) → Watches w said → w.finding ≡ Kept → w.told ≡ length said
+count_kept w said k e = grind arith

@@ -1,5 +1,5 @@
 -- Two sessions that restarted at one number, and would be equal if they had restarted at V(R), differ in V(A) alone. For `join`.
-use Rattle.osi_judge.proofs.Vocabulary.{◌≡◌, ◌∙◌, sym, subst, ℕ, ◌≤◌, ◌||◌, true, is_none, if◌then◌else◌, List, None, arith, and_parts}
+use Rattle.osi_judge.proofs.Vocabulary.{◌≡◌, ◌∙◌, sym, subst, ℕ, ◌≤◌, ◌||◌, true, is_none, List, None, arith, and_parts}
 use Rattle.osi_judge.proofs.Vocabulary.{leb-true, ResyncType, TokenSetting, RS, Word, says, Restarting, Restart, is_restart_word, lower}
 use Rattle.osi_judge.proofs.Vocabulary.{is_restart, offered, Seen, CanSay, calling, goes, where_is, without_tokens, if_seen, if_state}
 use Rattle.osi_judge.proofs.Vocabulary.{call_leaves, mapped, seen_to, Restarted}

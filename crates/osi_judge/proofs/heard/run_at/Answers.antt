@@ -1,4 +1,4 @@
-use Rattle.osi_judge.proofs.Vocabulary.{◌-◌, arith}
+use Rattle.osi_judge.proofs.Vocabulary.{arith}
 use Rattle.osi_judge.proofs.outlined.equal_tsdus_in_a_row_are_kept_once.{begin_read, halves_begin}
 use Rattle.osi_judge.proofs.heard.run_at.Goals as goal
 

@@ -1,5 +1,4 @@
 use Rattle.std.proofs.Common.{arith}
-use Rattle.osi_judge.proofs.Vocabulary.{◌-◌, is_among}
 use Rattle.osi_judge.proofs.walked.one_more_session.{added}
 use Rattle.osi_judge.proofs.kept.a_session_is_sought_among_the_last.{added_not, added_one}
 use Rattle.osi_judge.proofs.members.add.Goals as goal

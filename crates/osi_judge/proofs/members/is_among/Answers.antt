@@ -1,4 +1,4 @@
-use Rattle.std.proofs.Common.{◌-◌, arith}
+use Rattle.std.proofs.Common.{arith}
 use Rattle.osi_judge.proofs.kept.a_session_is_sought_among_the_last.{here, nowhere, not_here, at_end}
 use Rattle.osi_judge.proofs.walked.one_more_session.{some_at}
 use Rattle.osi_judge.proofs.members.is_among.Goals as goal

@@ -1,4 +1,4 @@
-use Rattle.osi_judge.proofs.Vocabulary.{◌≡◌, ◌∙◌, ap, false, subst, List, ℕ, refl, Member, foremost, is_empty, IsAmong, watched}
+use Rattle.osi_judge.proofs.Vocabulary.{◌≡◌, ◌∙◌, ap, false, subst, List, refl, Member, foremost, is_empty, IsAmong, watched}
 use Rattle.osi_judge.proofs.told.how_a_session_comes_on.{stands_ok}
 use Rattle.osi_judge.proofs.sides.Side.stands.Goals as goal
 

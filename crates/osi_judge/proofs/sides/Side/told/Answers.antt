@@ -1,5 +1,5 @@
 use Rattle.osi_judge.specs.Sides.{watched}
-use Rattle.osi_judge.proofs.captured.what_is_told_beside_is_of_the_capture.{count_kept}
+use Rattle.osi_judge.proofs.told.what_is_known_of_a_side.{count_kept}
 use Rattle.osi_judge.proofs.sides.Side.told.Goals as goal
 
 pub returns-clause-kept : goal.returns-clause-kept
