@@ -6,7 +6,7 @@ use Rattle.osi_judge.specs.declared.directions.Direction.TheVariants.{Left, Righ
 use Rattle.osi_judge.specs.declared.findings.Finding.{Finding}
 use Rattle.osi_judge.specs.Captures.{Capture, other}
 use Rattle.osi_judge.specs.Judging.{IsFound}
-use Rattle.osi_judge.specs.Tapping.{begin_of}
+use Rattle.osi_judge.specs.Sides.{begin_of}
 use Rattle.osi_tap.specs.declared.rooms.Room.{Room}
 use Rattle.osi_tap.specs.Connections.{Joined, numbered, spoken}
 use Rattle.osi_tap.specs.Lines.{heard, told}

@@ -33,13 +33,11 @@ pub use Rattle.osi_judge.proofs.told.a_side_strays_at_one_place.{Strays, never_s
 pub use Rattle.osi_judge.proofs.told.what_is_known_of_a_side.{few_by, found_as, hears, room_as}
 pub use Rattle.osi_judge.specs.Captures.{Capture, of, other, piece}
 pub use Rattle.osi_judge.specs.Explaining.{done}
-pub use Rattle.osi_judge.specs.Feeding.{Tells, last_place}
 pub use Rattle.osi_judge.specs.Judging.{FoundNext, HasRoom, IsFew, IsFound, Watched, Watches}
 pub use Rattle.osi_judge.specs.Keeping.{is_same, kept_in, once, once_behind, room_in}
 pub use Rattle.osi_judge.specs.Outlines.{outline, outlines}
-pub use Rattle.osi_judge.specs.Sides.{watched}
-pub use Rattle.osi_judge.specs.Stops.{broke_session}
-pub use Rattle.osi_judge.specs.Tapping.{begin_of}
+pub use Rattle.osi_judge.specs.Sides.{Tells, begin_of, watched}
+pub use Rattle.osi_judge.specs.Findings.{broke_session}
 pub use Rattle.osi_judge.specs.declared.directions.Direction.{Direction}
 pub use Rattle.osi_judge.specs.declared.directions.Direction.TheVariants.{Left, Right}
 pub use Rattle.osi_judge.specs.declared.findings.Finding.{Finding}
@@ -55,8 +53,8 @@ pub use Rattle.osi_tap.specs.Courses.{Course, Moment, applied, breaks, cause_of,
 pub use Rattle.osi_tap.specs.Courses.{is_break, marked, marks_of, moment_of, moved, noted_by, number_at, number_of, packet_by, reached}
 pub use Rattle.osi_tap.specs.Courses.{unit_passes, units_pass, unread, unread_mark, unread_moment, way_of}
 pub use Rattle.osi_tap.specs.Holding.{AreHeard, FoundHeard, HoldAll, Holds, HoldsBoth, HoldsCourse, HoldsFound, HoldsJoined, HoldsPassed}
-pub use Rattle.osi_tap.specs.Holding.{IsDue, IsFirst, IsHeard, IsPlace, Lined, begun_in, is_unheard, line_in, lined, streamed, unheard}
-pub use Rattle.osi_tap.specs.Holding.{unheard_at, unit_due}
+pub use Rattle.osi_tap.specs.Holding.{IsDue, IsFirst, IsHeard, IsPlace, Lined, begun_in, is_unheard, last_place, line_in, lined, streamed}
+pub use Rattle.osi_tap.specs.Holding.{unheard, unheard_at, unit_due}
 pub use Rattle.osi_tap.specs.Lines.{Said, Spoken, added, before, begun_before, begun_octets, heard, kept_of, place_in, told, told_of}
 pub use Rattle.osi_tap.specs.Owing.{Comes, HoldsAll, OwesLast, OwesUnits}
 pub use Rattle.osi_tap.specs.Rooms.{fits, is_over}

@@ -5,8 +5,8 @@ use Rattle.osi_judge.specs.declared.directions.Direction.TheVariants.{Left, Righ
 use Rattle.osi_judge.specs.declared.findings.Finding.{Finding}
 use Rattle.osi_judge.specs.Captures.{other}
 use Rattle.osi_judge.specs.Judging.{IsFound, HasRoom}
-use Rattle.osi_judge.specs.Stops.{broke_session}
-use Rattle.osi_judge.specs.Tapping.{begin_of}
+use Rattle.osi_judge.specs.Findings.{broke_session}
+use Rattle.osi_judge.specs.Sides.{begin_of}
 use Rattle.osi_tap.specs.declared.marks.First.{First}
 use Rattle.osi_tap.specs.declared.marks.Layer.TheVariants.{Session}
 use Rattle.osi_tap.specs.declared.marks.Mark.{Mark}

@@ -47,6 +47,11 @@ lined l = record {
   last = l.last;
 }
 
+-- the packet that ended the TSDU at which a session broke the protocol; the last one while it keeps the protocol
+abbrev pub last_place : Finding → (at last : ℕ) → ℕ
+last_place finding.Kept at last = at
+last_place found at last = last
+
 -- the TSDU that the other session has still to be given
 abbrev pub unheard_at : Stage → List ℕ → List (List ℕ)
 unheard_at Between octets = []

@@ -4,7 +4,7 @@ use Rattle.osi_judge.specs.declared.directions.Direction.{Direction}
 use Rattle.osi_judge.specs.Captures.{other}
 use Rattle.osi_judge.specs.Judging.{Watched, Watches}
 use Rattle.osi_judge.specs.Outlines.{outlines}
-use Rattle.osi_judge.specs.Tapping.{begin_of}
+use Rattle.osi_judge.specs.Sides.{begin_of}
 use Rattle.osi_tap.specs.Connections.{Joined, spoken}
 use Rattle.osi_tap.specs.Lines.{told, heard}
 

@@ -3,7 +3,7 @@ use Rattle.std.specs.Prelude.{ℕ, ◌+◌, ◌-◌, ◌*◌, ◌==◌, nat_lt, 
 use Rattle.std.specs.Prelude.{List, [], ◌∷◌, ◌++◌, length, take}
 use Rattle.osi_tpkt.specs.Packet.{stated_length}
 use Rattle.osi_tpkt.specs.Stream.{offset_of}
-use Rattle.osi_judge.specs.declared.judge.Reading.{Reading}
+use Rattle.osi_judge.specs.declared.readings.Reading.{Reading}
 use Rattle.osi_tpkt.specs.declared.faults.TpktFault.{TpktFault}
 use Rattle.osi_tpkt.specs.declared.faults.TpktFault.TheVariants.{BadVersion, BadLength}
 

@@ -4,11 +4,10 @@ ghost use Rattle.std.specs.Prelude.{◌≡◌, ◌≤◌, ◌+◌, ◌++◌, [],
 ghost use Rattle.std.specs.Vec.{vec_capacity};
 ghost use Rattle.osi_session.specs.Standing.{Seen};
 ghost use Rattle.osi_tpkt.specs.Stream.{offset_of};
-ghost use Rattle.osi_judge.specs.Feeding.{Tells, last_place};
 ghost use Rattle.osi_judge.specs.Keeping.{once, room_in};
-ghost use Rattle.osi_judge.specs.Sides.{watched};
+ghost use Rattle.osi_judge.specs.Sides.{watched, Tells};
 ghost use Rattle.osi_tap.specs.Lines.{Spoken, added, begun_before};
-ghost use Rattle.osi_tap.specs.Holding.{lined, unheard, begun_in, is_unheard, Lined, HoldsBoth};
+ghost use Rattle.osi_tap.specs.Holding.{lined, unheard, begun_in, is_unheard, last_place, Lined, HoldsBoth};
 
 use osi_judge::{Finding, Side};
 use std::alloc::{AllocError, Global};
