@@ -3,7 +3,7 @@
 //!
 //! It joins two crates that know nothing of each other: `osi_rules`, which says of each transport unit that passes a tap
 //! whether its sender was right to send it, and `osi_carrier`, which is the transport of an end. `osi_honest` has the like for
-//! class 0 and sessions.
+//! sessions.
 //!
 //! The difficulty is time. An end acts on what it has taken, and the rules judge it by what has passed. A tap is anywhere between
 //! the two ends, so a unit of the end passes later than the end put it, and a unit of the other side passes earlier than the end

@@ -1,16 +1,12 @@
 -- The map of these proofs, in reading order. `Vocabulary` has the names that come from elsewhere.
 mod Vocabulary
--- What an end puts whose connection is open in class 0.
-pub mod class_0
+-- What holds of an end at any time: what its sessions send fits, and an end that is over does nothing.
+pub mod ends
 -- What stays true of an end over each turn.
 pub mod keeping
--- How an end comes to its connection of class 0, or to none.
-pub mod opening
--- What the judge reads of what an end puts and takes.
+-- The packets of a stream, and that what an end puts is read again.
 pub mod reading
--- The session of an end is not blamed.
+-- What a session took and sent is a run of it.
 pub mod sessions
--- The transport of an end is not blamed, and so the end is not.
-pub mod transport
 -- What happens at one connection of an end, in either class and among others.
 pub mod courses

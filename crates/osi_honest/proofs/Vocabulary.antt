@@ -1,56 +1,49 @@
 -- What the proofs of this crate take from the library, from the crates below and from its own definitions.
 pub use Rattle.std.proofs.Common.{Bool, Err, IfOk, IfSome, IsSome, IsTrue, List, None, Ok, Option, Result, Some, [], ap, append_assoc}
-pub use Rattle.std.proofs.Common.{arith, cond, drop, false, get_or, if◌then◌else◌, inl, inr, is_some, leb, length, length-drop, map, min}
-pub use Rattle.std.proofs.Common.{nat_le, nat_lt, not, option_map, refl, subst, suc, sym, take, true, zero, ℕ, ◌%◌, ◌&&◌, ◌*◌, ◌++◌, ◌+◌}
-pub use Rattle.std.proofs.Common.{◌-◌, ◌/◌, ◌<◌, ◌==◌, ◌||◌, ◌∙◌, ◌∷◌, ◌≡◌, ◌≢◌, ◌≤◌, ◌⊎◌}
-pub use Rattle.std.proofs.Math.Pow.{pow_mono}
-pub use Rattle.std.proofs.lemmas.Bool.{eq-eqb, eqb-true, le-leb, leb-true, ltb-false, ltb-true, not-false}
-pub use Rattle.std.proofs.lemmas.Bool.Decides.{leb_tells, nat_tests}
+pub use Rattle.std.proofs.Common.{arith, drop, false, get_or, if◌then◌else◌, inl, inr, is_some, length, map, min, nat_le, nat_lt, not}
+pub use Rattle.std.proofs.Common.{option_map, refl, subst, suc, sym, take, true, zero, ℕ, ◌&&◌, ◌++◌, ◌+◌, ◌-◌, ◌/◌, ◌<◌, ◌==◌, ◌||◌, ◌∙◌}
+pub use Rattle.std.proofs.Common.{◌∷◌, ◌≡◌, ◌≢◌, ◌≤◌, ◌⊎◌}
+pub use Rattle.std.proofs.lemmas.Bool.{eq-eqb, eqb-true, leb-true, ltb-false, not-false}
+pub use Rattle.std.proofs.lemmas.Bool.Decides.{nat_tests}
 pub use Rattle.std.proofs.lemmas.Grind.{flat_map-append}
-pub use Rattle.std.proofs.lemmas.List.{append-nil, append_cancel_left, get_or_append_left, length-append, length-take, map-append}
-pub use Rattle.std.proofs.lemmas.List.{take-append-drop, take_all}
-pub use Rattle.std.specs.List.{AllByRecursion, filter, flat_map}
+pub use Rattle.std.proofs.lemmas.List.{append-nil, append_cancel_left, length-append, length-take, map-append, take-append-drop, take_all}
+pub use Rattle.std.specs.List.{AllByRecursion, flat_map}
 pub use Rattle.osi_tpkt.proofs.a_prefix_of_a_packet.{empty_partial}
 pub use Rattle.osi_tpkt.proofs.a_stream_is_cut_in_one_way.{end_no_packet}
 pub use Rattle.osi_unit.proofs.lists_of_octets_stay_octets.{octets_left, octets_nil, octets_right}
 pub use Rattle.osi_tpkt.proofs.no_packet_is_a_prefix_of_another.{one_packet}
 pub use Rattle.osi_tpkt.specs.Held.{Held}
 pub use Rattle.osi_unit.specs.Octets.{IsOctets}
-pub use Rattle.osi_tpkt.specs.Packet.{IsBadLength, IsBadVersion, IsFaultOf, IsPacket, IsPartial, packet_of}
-pub use Rattle.osi_tpkt.specs.Stream.{ArePackets, Cuts, Ending, EndsAt, offset_of}
+pub use Rattle.osi_tpkt.specs.Packet.{IsPacket, IsPartial, packet_of}
+pub use Rattle.osi_tpkt.specs.Stream.{ArePackets, Ending, EndsAt, offset_of}
 pub use Rattle.osi_tpkt.specs.Stream.Ending.{Faulty, Rest}
 pub use Rattle.osi_tpkt.specs.declared.cutting.Fed.{Fed}
-pub use Rattle.osi_tpkt.specs.declared.faults.TpktFault.{TpktFault}
-pub use Rattle.osi_tpdu.proofs.one_unit_is_read.{header_again}
 pub use Rattle.osi_tpdu.proofs.the_units_of_a_packet.{units_fit, units_found, units_only}
 pub use Rattle.osi_tpdu.proofs.the_written_form_spells_its_value.{written_spells}
 pub use Rattle.osi_tpdu.specs.Limits.{size_code, tsap_octets}
 pub use Rattle.osi_tpdu.specs.Packet.{AreUnits, units_of}
-pub use Rattle.osi_tpdu.specs.Spelling.{Item, Spells, connect_part, item_octets, single}
+pub use Rattle.osi_tpdu.specs.Spelling.{Item, connect_part, item_octets, single}
 pub use Rattle.osi_tpdu.specs.Value.{AreParameters, Connect, HasFieldsInRange, IsConnect, Value, acknowledge, confirm, data0, data2}
 pub use Rattle.osi_tpdu.specs.Value.{disconnect, disconnected, error, may_be_followed, request}
 pub use Rattle.osi_tpdu.specs.Writing.{Fits, HasRoom, items_of, written, written_items}
 pub use Rattle.osi_tpdu.specs.declared.faults.TpduFault.{TpduFault}
 pub use Rattle.osi_tpdu.specs.declared.tsaps.Tsap.{Tsap}
 pub use Rattle.osi_class.proofs.between.parts_stay_in_order.{at_ok, choose_ok, choose_some}
-pub use Rattle.osi_class.proofs.bounds.every_link_keeps_its_bounds.{move_same}
 pub use Rattle.osi_class.proofs.bounds.what_calls_take.{all as all_taken}
-pub use Rattle.osi_class.proofs.giving.a_link_gives_finitely_many_units.{drained_leaves, drained_moves, drained_none, drained_some}
+pub use Rattle.osi_class.proofs.giving.a_link_gives_finitely_many_units.{drained_leaves, drained_moves}
 pub use Rattle.osi_class.proofs.giving.what_calls_send.{all as all_sent}
 pub use Rattle.osi_class.specs.Between.{given_by}
 pub use Rattle.osi_class.specs.Ends.{Ends}
 pub use Rattle.osi_class.specs.Flow.{Flow}
-pub use Rattle.osi_class.specs.Giving.{Drained, all_given, drained, drained_by, drained_within, left_to_give}
-pub use Rattle.osi_class.specs.Joining.{Joining, joining, with_part}
+pub use Rattle.osi_class.specs.Giving.{Drained, all_given, drained_by, drained_within, left_to_give}
+pub use Rattle.osi_class.specs.Joining.{Joining}
 pub use Rattle.osi_class.specs.Limits.{longest_tsdu}
-pub use Rattle.osi_class.specs.Link.{Given, Standing, ack, given_part, next, next_by, part0, part2, taken, taken_by, unit_of, with_joined}
-pub use Rattle.osi_class.specs.Link.{with_tsdu, zero_standing}
-pub use Rattle.osi_class.specs.Negotiation.{Selection, accept, proposes, refuse, selected_by}
+pub use Rattle.osi_class.specs.Link.{Given, Standing, ack, given_part, next, next_by, part0, part2, taken, taken_by, unit_of, with_tsdu}
+pub use Rattle.osi_class.specs.Negotiation.{Selection, accept, refuse, selected_by}
 pub use Rattle.osi_class.specs.Runs.{Move, MovesAlong, give_out, hand_in, hand_out, parts_in, parts_out, take_in, tsdu_out, tsdus_in}
 pub use Rattle.osi_class.specs.Runs.{tsdus_out}
-pub use Rattle.osi_class.specs.Tsdus.{Part, tsdus, tsdus_after, uncut}
+pub use Rattle.osi_class.specs.Tsdus.{Part, tsdus, uncut}
 pub use Rattle.osi_class.specs.declared.faults.LinkFault.{LinkFault}
-pub use Rattle.osi_class.specs.declared.faults.LinkFault.TheVariants.{TsduTooLong}
 pub use Rattle.osi_class.specs.declared.terms.Class.{Class}
 pub use Rattle.osi_class.specs.declared.terms.Class.TheVariants.{Two, Zero}
 pub use Rattle.osi_class.specs.declared.terms.Local.{Local}
@@ -60,18 +53,17 @@ pub use Rattle.osi_carrier.proofs.effects.units_one_after_the_other.{react_over,
 pub use Rattle.osi_carrier.proofs.references.rows_after_a_change.{push_other, put_other}
 pub use Rattle.osi_carrier.proofs.references.what_a_change_leaves_there.{absent, beyond, push_here, put_here, without_here}
 pub use Rattle.osi_carrier.proofs.stream.a_piece_is_read_packet_by_packet.{acts_cases, packets_more}
-pub use Rattle.osi_carrier.specs.Calls.{asks, class_error, closed_on, closed_with, closes, link_of, may_connect, open_link, or_else}
-pub use Rattle.osi_carrier.specs.Calls.{room_error, send_all_error, sent, sent_all, sent_on}
+pub use Rattle.osi_carrier.specs.Calls.{class_error, closed_on, closed_with, closes, link_of, may_connect, open_link, or_else, room_error}
+pub use Rattle.osi_carrier.specs.Calls.{send_all_error, sent, sent_all, sent_on}
 pub use Rattle.osi_carrier.specs.Happenings.{Happening, opened as told_opened, tsdu}
-pub use Rattle.osi_carrier.specs.Negotiation.{acceptance, agreed_size, confirmed, opened_link, proposal, proposal_by, proposes_two}
-pub use Rattle.osi_carrier.specs.Negotiation.{unit_octets}
+pub use Rattle.osi_carrier.specs.Negotiation.{acceptance, agreed_size, confirmed, opened_link, proposal, proposal_by}
 pub use Rattle.osi_carrier.specs.Orderly.{IsOrderly, RiseFrom, connection_by, connection_of, only_of}
 pub use Rattle.osi_carrier.specs.Pump.{pumped, written_by}
-pub use Rattle.osi_carrier.specs.React.{accepts, answers, before_class, breaks, denies, handed_out, has_peer, in_class, in_two, in_zero}
-pub use Rattle.osi_carrier.specs.React.{is_full, leaves, opens as opens_by, pumps, react, react_by, reacts, settles, taking, to_asked}
-pub use Rattle.osi_carrier.specs.React.{to_closing, to_connection, to_linked, to_only, to_reference, to_unknown}
+pub use Rattle.osi_carrier.specs.React.{answers, before_class, breaks, denies, handed_out, has_peer, in_class, in_two, in_zero, is_full}
+pub use Rattle.osi_carrier.specs.React.{leaves, opens as opens_by, react, reacts, settles, taking, to_asked, to_closing, to_connection}
+pub use Rattle.osi_carrier.specs.React.{to_linked, to_only, to_reference, to_unknown}
 pub use Rattle.osi_carrier.specs.Rows.{Rows, put, value_at, without}
-pub use Rattle.osi_carrier.specs.State.{Connection, State, asked, closing, linked, packets, writes}
+pub use Rattle.osi_carrier.specs.State.{Connection, State, asked, closing, linked, packets}
 pub use Rattle.osi_carrier.specs.declared.ends.EndReason.{EndReason}
 pub use Rattle.osi_carrier.specs.declared.ends.EndReason.TheVariants.{Broken, NoMemory}
 pub use Rattle.osi_carrier.specs.declared.faults.OpenError.{OpenError}
@@ -95,19 +87,17 @@ pub use Rattle.osi_session.specs.Sides.{offered}
 pub use Rattle.osi_session.specs.Sizes.{limit_of}
 pub use Rattle.osi_session.specs.Standing.{Seen, seen_called, seen_calling}
 pub use Rattle.osi_session.specs.Units.{functional_units, is_profile}
-pub use Rattle.osi_session.specs.declared.faults.CallError.TheVariants.{BadState, NoSuchConnection}
 pub use Rattle.osi_session.specs.declared.opening.Opening.{Opening}
 pub use Rattle.osi_stack.proofs.called.tsdus_that_are_handed_together.{handed, lengths_fit}
 pub use Rattle.osi_stack.proofs.called.what_is_sent_is_short.{SpduLaws, sent_short}
 pub use Rattle.osi_stack.proofs.carried.all_events_are_handled.{breaks_attended, connect_attended, feeds_attended, session_attended}
-pub use Rattle.osi_stack.proofs.carried.events_one_after_the_other.{all_quiet, concluded_carrier, never_starved, starved_over, times_quiet}
+pub use Rattle.osi_stack.proofs.carried.events_one_after_the_other.{concluded_carrier, starved_over, times_quiet}
 pub use Rattle.osi_stack.proofs.carried.open_connections_stay_open.{first_is, rest_is}
 pub use Rattle.osi_stack.proofs.carried.packets_without_events.{both, lasting_of, or_first, or_second, packet_is, quiet_stops}
-pub use Rattle.osi_stack.proofs.carried.what_a_move_leaves.{first_keep, kept_first, one_heard, says_is, used_keep, used_live}
+pub use Rattle.osi_stack.proofs.carried.what_a_move_leaves.{first_keep, kept_first, says_is, used_keep, used_live}
 pub use Rattle.osi_stack.proofs.carried.what_each_step_preserves.{Carries, events_heard, session_carried}
 pub use Rattle.osi_stack.proofs.carried.what_sessions_leave_of_the_carrier.{hears_keep}
-pub use Rattle.osi_stack.proofs.given_up.the_invariant_stays.{closed_and_given, disconnect_attended, disconnect_carrier, disconnect_is}
-pub use Rattle.osi_stack.proofs.given_up.the_invariant_stays.{given_other}
+pub use Rattle.osi_stack.proofs.given_up.the_invariant_stays.{disconnect_attended, disconnect_carrier, disconnect_is, given_other}
 pub use Rattle.osi_stack.proofs.opening.connections_that_units_open.{along_units}
 pub use Rattle.osi_stack.proofs.sound.the_invariant_between_calls.{connect_orderly}
 pub use Rattle.osi_stack.proofs.sound.the_invariant_is_kept.{closed_given, concludes_lasting, open_none, sent_given, units_rise}
@@ -115,9 +105,9 @@ pub use Rattle.osi_stack.proofs.stream.an_end_is_what_its_packets_make.{none_end
 pub use Rattle.osi_stack.proofs.stream.the_room_for_a_packet.{found_how}
 pub use Rattle.osi_stack.proofs.stream.what_feeding_keeps.{packets_kept}
 pub use Rattle.osi_stack.proofs.stream.what_was_written_is_read.{attended_kept, uses_within}
-pub use Rattle.osi_stack.specs.Calls.{after_open, asked_for, call_error, called_octets, calling_octets, calls_with, connect_error, connects}
-pub use Rattle.osi_stack.specs.Calls.{has_given, is_long, is_long_address, opening_of, terms_error, without_first}
-pub use Rattle.osi_stack.specs.Disconnecting.{disconnect_error, disconnects, gives_up, gives_up_by}
+pub use Rattle.osi_stack.specs.Calls.{asked_for, call_error, called_octets, calling_octets, calls_with, connect_error, connects, has_given}
+pub use Rattle.osi_stack.specs.Calls.{is_long, is_long_address, opening_of, terms_error, without_first}
+pub use Rattle.osi_stack.specs.Disconnecting.{disconnect_error, disconnects}
 pub use Rattle.osi_stack.specs.Feeding.{Feeds, FindsNoMemory, Goes, Refuses, RunsDry, StopsBehind, TakesPackets, uses_all}
 pub use Rattle.osi_stack.specs.Hearing.{RunsOut, Starves, after_packet, attends, concludes, ends, hears, hears_all, hears_next, hears_times}
 pub use Rattle.osi_stack.specs.Hearing.{opens as opens_line, starves, with_carrier, with_events}
@@ -128,33 +118,14 @@ pub use Rattle.osi_stack.specs.Rounds.{UserCall, user_does}
 pub use Rattle.osi_stack.specs.Rounds.UserCall.{breaking, calling, connecting, disconnecting}
 pub use Rattle.osi_stack.specs.Runs.{Call, Calls, carried_in, put_back, used_in}
 pub use Rattle.osi_stack.specs.Runs.Call.{carrying, feeding, telling}
-pub use Rattle.osi_stack.specs.State.{End, Holding, IsAttended, Line, fresh_end, fresh_line, joins, session_at, session_in, used_lines}
-pub use Rattle.osi_stack.specs.State.{waits}
+pub use Rattle.osi_stack.specs.State.{End, Holding, IsAttended, Line, fresh_end, fresh_line, joins, session_in, used_lines, waits}
 pub use Rattle.osi_stack.specs.Transport.{answers_by, sent_unless}
 pub use Rattle.osi_stack.specs.declared.connecting.Connect.{Connect as Request}
-pub use Rattle.osi_stack.specs.declared.connecting.ConnectError.{ConnectError}
-pub use Rattle.osi_judge.proofs.captured.a_capture_goes_on.{passed_within}
-pub use Rattle.osi_judge.proofs.captured.what_was_found_of_a_capture.{one_reading, packets_of}
 pub use Rattle.osi_judge.proofs.honest.a_run_is_explained.{came_moves}
 pub use Rattle.osi_judge.proofs.honest.an_answer_says_itself.{SaysItself, came_itself}
-pub use Rattle.osi_judge.specs.Captures.{Capture, of, other, passed_before, stream}
 pub use Rattle.osi_judge.specs.Explaining.{IsExplained, Told}
 pub use Rattle.osi_judge.specs.Explaining.Explains.{done}
-pub use Rattle.osi_judge.specs.Running.{IsHonestIn, IsSentFrom, Pass, Runs, sends}
-pub use Rattle.osi_judge.specs.Stops.{broke_session, is_break}
-pub use Rattle.osi_judge.specs.Tapping.{FirstBreak, IsFirstIn, IsFoundIn, IsStoppedIn, StandsIn, had_passed, heard, octets_of, told}
-pub use Rattle.osi_judge.specs.Transport.{ArePacketsOf, Handshake, IsSent, Sent, Stage, added, agreed, answering_step, asked_again, asking}
-pub use Rattle.osi_judge.specs.Transport.{asking_step, astray, begun, between, brought, complete_in, denied, ended, first_of, first_step}
-pub use Rattle.osi_judge.specs.Transport.{first_unit, handshake_from, has_asked, hasty_behind, hasty_from, hurries, ignores, is_request}
-pub use Rattle.osi_judge.specs.Transport.{met_before, moved, next_step, noted, opening, packet_length, packets_length, refused, refuses}
-pub use Rattle.osi_judge.specs.Transport.{sent_by, sent_from, shaken, shaken_first, silent, stage_behind, stage_from, step_of, stopped}
-pub use Rattle.osi_judge.specs.Transport.{stops, within}
-pub use Rattle.osi_judge.specs.declared.directions.Direction.{Direction}
-pub use Rattle.osi_judge.specs.declared.directions.Direction.TheVariants.{Left, Right}
-pub use Rattle.osi_judge.specs.declared.findings.Finding.{Finding}
-pub use Rattle.osi_judge.specs.declared.stops.Stop.{Stop}
-pub use Rattle.osi_judge.specs.declared.stops.Stop.TheVariants.{MoreConnections, NoOpening, OtherClass}
-pub use Rattle.osi_judge.specs.declared.stops.Stopped.{Stopped}
+pub use Rattle.osi_judge.specs.Running.{IsSentFrom, Pass, Runs, sends}
 pub use Rattle.osi_honest.specs.Arriving.{Answers, AreApart, GivesTo, Lives, Opens, TakesAll, is_for}
 pub use Rattle.osi_honest.specs.Arriving.Begins.{is_shut}
 pub use Rattle.osi_honest.specs.Courses.{AreCalls, Continues, ContinuesAlong, Course, Deeds, Gone, IsFreshLink, IsNew, IsOpen, IsShut}
@@ -163,19 +134,9 @@ pub use Rattle.osi_honest.specs.Courses.{units_taken}
 pub use Rattle.osi_honest.specs.Courses.Course.{awaited, is_gone, is_open, unknown}
 pub use Rattle.osi_honest.specs.Courses.Gone.{closed, never, over}
 pub use Rattle.osi_honest.specs.Marked.{AreByLinks, Marked, all_units, if_of, is_of_link, units_at}
-pub use Rattle.osi_honest.specs.Openings.{AllHaveFlow, AskingTurn, Asks, HasFlow, IdleTurn, Idles, IsAnswered, IsAway, IsNoData}
-pub use Rattle.osi_honest.specs.Openings.{IsOtherAnswer, WaitingTurn, Waits, has_none, has_two}
-pub use Rattle.osi_honest.specs.Openings.AskingTurn.{goes_away, is_answered, turns_aside}
-pub use Rattle.osi_honest.specs.Openings.IdleTurn.{idle_over, puts_a_dc, requests}
-pub use Rattle.osi_honest.specs.Openings.WaitingTurn.{answers_last, is_over, turns_away}
-pub use Rattle.osi_honest.specs.Parts.{Carry, IsOpenZero, IsWritten, dt, ends_whole, one_open, resting, units_put}
-pub use Rattle.osi_honest.specs.Reading.{IsReading, between_two, in_one}
-pub use Rattle.osi_honest.specs.Seeing.{EndsWithin, HasOneUnit, IsFresh, IsPrefix, IsSeen, PassAfter, put_along, used_along}
+pub use Rattle.osi_honest.specs.Seeing.{IsFresh, IsPrefix}
 pub use Rattle.osi_honest.specs.Showing.{AreSame, Shows}
-pub use Rattle.osi_honest.specs.Stretches.{AllSaidBy, Brings, Extends, GoesAlong, Stands, octets_said}
-pub use Rattle.osi_honest.specs.Stretches.Stands.{gone, talking}
-pub use Rattle.osi_honest.specs.Talking.{History, IsPart, Moves, Packet, Puts, Said, Talks, said_after, told_of}
-pub use Rattle.osi_honest.specs.Talking.Packet.{last, part}
+pub use Rattle.osi_honest.specs.Talking.{History, Said, said_after, told_of}
 pub use Rattle.osi_honest.specs.Turns.{Act, Acts, HasSerialIn, Run, Takes, Turn, carried_by, used_by}
 pub use Rattle.osi_honest.specs.Turns.Act.{serving, using}
 pub use Rattle.osi_honest.specs.Writable.{CanBeWritten, IsPlain}

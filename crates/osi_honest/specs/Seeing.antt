@@ -1,10 +1,6 @@
 -- What a tap anywhere between the two ends shows of one of them, by the turns of this end.
-use Rattle.std.specs.Prelude.{◌≡◌, ◌<◌, ◌≤◌, ◌+◌, ℕ, Bool, List, [], ◌∷◌, ◌++◌, length, Ok}
+use Rattle.std.specs.Prelude.{◌≡◌, ◌<◌, ◌≤◌, ◌+◌, ℕ, Bool, List, [], ◌∷◌, ◌++◌, length}
 use Rattle.std.specs.List.{flat_map}
-use Rattle.osi_tpkt.specs.Stream.{Ending}
-use Rattle.osi_tpkt.specs.Stream.Ending.{Faulty, Rest}
-use Rattle.osi_tpdu.specs.Packet.{units_of}
-use Rattle.osi_tpdu.specs.Value.{Value}
 use Rattle.osi_class.specs.declared.terms.Local.{Local}
 use Rattle.osi_judge.specs.declared.directions.Direction.{Direction}
 use Rattle.osi_judge.specs.Captures.{Capture, other, stream, passed_before}
@@ -47,12 +43,3 @@ pub record IsSeen (d : Direction) (turns : List Turn) (capture : Capture) : Type
   pub used : IsPrefix (used_along turns) coming
   -- Nothing that the end put passes before what it had used by then.
   pub after : PassAfter d capture 0 0 turns
-
--- a packet with one unit, which can be read
-abbrev pub HasOneUnit : List ℕ → Type 0
-HasOneUnit u = (v : Value) × (units_of u ≡ Ok (v ∷ []))
-
--- A stream that ends after a whole packet, or within one: none of its packets is bad.
-abbrev pub EndsWithin : Ending → Type 0
-EndsWithin (Rest n) = Unit {0}
-EndsWithin (Faulty fault) = ⊥

@@ -1,27 +1,17 @@
-//! What an end of this library puts on the byte connection, in the words in which the judge reads a capture. The crate
-//! has definitions and laws; nothing here runs.
+//! What an end of this library puts on the byte connection and takes from it, connection by connection, in the words in
+//! which a judge reads a capture: the lemmas on an end that `osi_watched` stands on. The crate has definitions and laws;
+//! nothing here runs.
 //!
-//! Read it if you want to know why `osi judge` never blames an end of this library. It joins two crates that know nothing
-//! of each other: `osi_stack` says what an end is after octets and calls, and `osi_judge` which runs of a session explain
-//! what a side sent, and which packets have a place in class 0. On captures it speaks of one connection of class 0; on
-//! connections, of class 2 too.
+//! Read `osi_watched` if you want to know why `osi judge` never blames an end of this library. This crate has the half of
+//! it that speaks of the end alone: `osi_stack` says what an end is after octets and calls, and `osi_judge` which runs of a
+//! session explain what a side sent.
 //!
 //! - A `Turn` (`specs/Turns.antt`) is one thing that the owner of an end does, with the octets that the end used and those
 //!   that it put. A `Run` is turns one after the other.
 //! - A `History` (`specs/Talking.antt`) is what a session took and sent, each TSDU with how many it had taken by then. It
 //!   is a run of the session as `osi_judge` has it, also if a capture shows less of it:
 //!   [`laws::what_a_session_said_is_explained`], [`laws::what_a_capture_shows_is_a_run`].
-//! - `GoesAlong` (`specs/Stretches.antt`) says of each turn of an open end which TSDUs its packets bring, what the session
-//!   sends, and that this is what was put: [`laws::what_an_open_end_puts`]. How a called and a calling end come to be open
-//!   is in `specs/Openings.antt`: [`laws::what_a_waiting_end_puts`], [`laws::what_an_asking_end_puts`].
-//! - The judge reads these packets as the end does: [`laws::what_is_put_and_taken_is_read`].
-//! - What a tap between the two ends shows of such an end is `IsSeen` (`specs/Seeing.antt`). The session of an end is blamed
-//!   nowhere in any capture of it: [`laws::a_called_end_is_not_blamed`], [`laws::a_calling_end_is_not_blamed`].
-//! - What a capture shows of an end is packets with one unit each, which can be read:
-//!   [`laws::what_a_capture_shows_is_packets`], [`laws::what_a_capture_shows_can_be_read`]. Each of them has a place after
-//!   what had passed before it, so the transport of an end is blamed nowhere either:
-//!   [`laws::the_transport_of_an_end_is_not_blamed`].
-//! - So the judge never says that this side broke the protocol first: [`laws::an_honest_end_is_never_blamed`].
+//! - What a tap between the two ends shows of such an end is `IsSeen` (`specs/Seeing.antt`).
 //!
 //! In class 2 many connections share the byte connection, and an end keeps data back until it has credit. So what a session sends
 //! is counted at the link of its connection:
@@ -36,7 +26,7 @@
 //! - The units that were put for it carry the TSDUs that were handed in, and those that its link took carry the TSDUs that it handed
 //!   out: [`laws::what_the_units_of_a_connection_carry`].
 //!
-//! What is not here: that a judge of many connections finds just these units for the connection in a capture.
+//! What is not here: that a judge finds just these units for the connection in a capture.
 #![tactic(auto)]
 
 pub mod laws;

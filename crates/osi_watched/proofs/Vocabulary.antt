@@ -64,7 +64,6 @@ pub use Rattle.osi_carrier.specs.declared.faults.OpenError.{OpenError}
 pub use Rattle.osi_carrier.specs.declared.faults.OpenError.TheVariants.{Ended, NotCaller}
 pub use Rattle.osi_session.proofs.tsdu.what_is_sent_is_taken_as_meant.{said_again}
 pub use Rattle.osi_session.specs.Listening.{Input, Listener, called}
-pub use Rattle.osi_session.specs.Sessions.{awaits}
 pub use Rattle.osi_session.specs.Standing.{Seen}
 pub use Rattle.osi_stack.proofs.called.what_is_sent_is_short.{SpduLaws}
 pub use Rattle.osi_stack.proofs.carried.events_one_after_the_other.{concluded_carrier}
@@ -117,18 +116,16 @@ pub use Rattle.osi_judge.specs.Explaining.{IsExplained}
 pub use Rattle.osi_judge.specs.Judging.{IsFound}
 pub use Rattle.osi_judge.specs.Profiles.{selects_outside}
 pub use Rattle.osi_judge.specs.Running.{IsHonest, IsSentFrom}
-pub use Rattle.osi_judge.specs.Stops.{broke_session}
-pub use Rattle.osi_judge.specs.Tapping.{begin_of}
+pub use Rattle.osi_judge.specs.Findings.{broke_session}
+pub use Rattle.osi_judge.specs.Sides.{begin_of}
 pub use Rattle.osi_judge.specs.declared.directions.Direction.{Direction}
 pub use Rattle.osi_judge.specs.declared.directions.Direction.TheVariants.{Left, Right}
-pub use Rattle.osi_honest.proofs.class_0.what_a_call_does_in_class_0.{over_acts}
-pub use Rattle.osi_honest.proofs.class_0.what_a_packet_does_in_class_0.{AllProper}
-pub use Rattle.osi_honest.proofs.class_0.what_a_session_answers_fits.{all_proper}
-pub use Rattle.osi_honest.proofs.class_0.what_a_turn_does_in_class_0.{all_octets, more_used, stopped_within}
-pub use Rattle.osi_honest.proofs.class_0.what_class_0_does_not_take_ends_the_end.{AreHard, IsHard, IsHardPacket, IsLast, IsZeroAt}
-pub use Rattle.osi_honest.proofs.class_0.what_class_0_does_not_take_ends_the_end.{hard_ends}
-pub use Rattle.osi_honest.proofs.class_0.what_class_0_writes_of_a_tsdu.{packets_joined}
-pub use Rattle.osi_honest.proofs.class_0.what_packets_do_in_class_0.{never_lasts}
+pub use Rattle.osi_honest.proofs.ends.an_end_that_is_over_does_nothing.{over_acts, never_lasts}
+pub use Rattle.osi_honest.proofs.ends.what_a_session_sends_fits.{AllProper}
+pub use Rattle.osi_honest.proofs.ends.what_a_session_answers_fits.{all_proper}
+pub use Rattle.osi_honest.proofs.reading.how_much_of_a_piece_is_used.{all_octets, more_used, stopped_within}
+pub use Rattle.osi_honest.proofs.ends.what_class_0_does_not_take_ends_the_end.{AreHard, IsHard, IsHardPacket, IsLast, IsZeroAt, hard_ends}
+pub use Rattle.osi_honest.proofs.reading.what_is_written_is_read_again.{packets_joined, CanBeWritten, read_again}
 pub use Rattle.osi_honest.proofs.courses.an_end_is_sound_between_turns.{IsSane, fresh_sane, leads_to, turn_sane}
 pub use Rattle.osi_honest.proofs.courses.an_end_takes_packets_up_to_its_last.{Stopped, TakesFirst, none_held, prefix_or, stopped_there}
 pub use Rattle.osi_honest.proofs.courses.how_long_a_connection_is_open.{BeforeOpen, HasNoDr, Life, Stage as Time, WhenPast, WhileOpen, amid}
@@ -142,15 +139,14 @@ pub use Rattle.osi_honest.proofs.courses.what_sessions_hear_of_it.{Known}
 pub use Rattle.osi_honest.proofs.courses.what_units_do_to_a_course.{no_calls}
 pub use Rattle.osi_honest.proofs.courses.what_was_said_is_explained.{IsSaid, nothing, shown_said, something, units_came}
 pub use Rattle.osi_honest.proofs.keeping.what_holds_of_each_connection_stays.{row_at, row_more, row_put, row_without}
-pub use Rattle.osi_honest.proofs.opening.the_session_of_a_request_is_a_caller.{opens_so}
-pub use Rattle.osi_honest.proofs.opening.what_an_asking_end_does.{can_begin}
+pub use Rattle.osi_honest.proofs.sessions.the_session_of_a_request_is_a_caller.{opens_so}
+pub use Rattle.osi_honest.proofs.ends.the_cn_of_a_request_fits.{can_begin}
 pub use Rattle.osi_honest.proofs.reading.a_cr_and_a_cc_can_be_written.{cc_plain, cr_by, size_in_range}
-pub use Rattle.osi_honest.proofs.reading.all_that_an_end_puts_can_be_read.{AreNumbered}
+pub use Rattle.osi_honest.proofs.reading.what_a_link_gives_can_be_written.{AreNumbered, IsNumbered, gives_written, link_opens}
+pub use Rattle.osi_honest.proofs.reading.what_a_link_gives_can_be_written.{taken_numbered}
 pub use Rattle.osi_honest.proofs.reading.two_readings_of_a_stream_agree.{GoesBeyond, first, packets_on, packets_then, second, two_readings}
-pub use Rattle.osi_honest.proofs.reading.what_a_link_gives_can_be_written.{IsNumbered, gives_written, link_opens, taken_numbered}
-pub use Rattle.osi_honest.proofs.reading.what_is_written_is_read_again.{CanBeWritten, read_again}
+pub use Rattle.osi_honest.proofs.reading.two_readings_of_a_stream_agree.{front_of as part_of}
 pub use Rattle.osi_honest.proofs.sessions.a_history_is_a_run.{history_runs}
-pub use Rattle.osi_honest.proofs.sessions.what_an_end_put_was_caused.{front_of as part_of}
 pub use Rattle.osi_honest.specs.Arriving.{Answers, AreApart, Begins, GivesTo, Lives, Opens, Parts, TakesAll, is_shut, opens}
 pub use Rattle.osi_honest.specs.Courses.{AreCalls, Continues, Deeds, Gone, IsFreshLink, IsShut, Speaks, all_did, no_deeds, said_in}
 pub use Rattle.osi_honest.specs.Courses.{then_did, units_given, units_in, units_read, units_taken}
@@ -160,8 +156,7 @@ pub use Rattle.osi_honest.specs.Marked.{Marked, all_units, is_of_link, units_at}
 pub use Rattle.osi_honest.specs.Parts.{ends_whole}
 pub use Rattle.osi_honest.specs.Seeing.{IsFresh, IsPrefix, IsSeen, PassAfter, put_along, used_along}
 pub use Rattle.osi_honest.specs.Showing.{Shows}
-pub use Rattle.osi_honest.specs.Stretches.{octets_said}
-pub use Rattle.osi_honest.specs.Talking.{Said, told_of}
+pub use Rattle.osi_honest.specs.Talking.{Said, octets_said, told_of}
 pub use Rattle.osi_honest.specs.Turns.{Run, Takes, Turn, carried_by, used_by}
 pub use Rattle.osi_honest.specs.Turns.Act.{serving, using}
 pub use Rattle.osi_tap.proofs.a_capture_has_one_first_break.{first_held}
@@ -169,7 +164,8 @@ pub use Rattle.osi_tap.proofs.a_piece_comes_to_what_its_octets_do.{after_more, g
 pub use Rattle.osi_tap.proofs.no_break_was_before_the_first.{marked_past, noted_past}
 pub use Rattle.osi_tap.proofs.octets_are_looked_at.{packet_front}
 pub use Rattle.osi_tap.specs.Blaming.{AreSpotless, BreaksFirst, IsBreakOf, IsFirstOf, IsQuiet, IsToBlame, of_session, of_transport}
-pub use Rattle.osi_tap.specs.Connections.{Joined, Sessions, adds, adds_all, adds_if, all_begin, asked, changed, count, kept_on, none, opened}
+pub use Rattle.osi_tap.specs.Connections.{Joined, Sessions, adds, adds_all, adds_if, all_begin, asked, changed, count, kept_on, none}
+pub use Rattle.osi_tap.specs.Connections.{opened}
 pub use Rattle.osi_tap.specs.Connections.{placed, reference_of, shut, spoken, taken, taken_at, user_of}
 pub use Rattle.osi_tap.specs.Courses.{Course, Moment, cause_of, changes, earlier, first_by, first_marked, first_of, fresh_within, is_break}
 pub use Rattle.osi_tap.specs.Courses.{kind_of, mark_by, marked, marks_of, moment_of, moved, noted_by, number_at, number_of, packet_begins}

@@ -6,7 +6,7 @@ use Rattle.osi_watched.proofs.Vocabulary.{List, nat_lt, None, Option, option_map
 use Rattle.osi_watched.proofs.Vocabulary.{◌≡◌, ◌⊎◌, nat_tests, append-nil, take-append-drop, take_all, AllByRecursion, list_any, IsOctets}
 use Rattle.osi_watched.proofs.Vocabulary.{ArePackets, Fed, tsap_octets, Tsap, Standing, acts_cases, closed_with, may_connect}
 use Rattle.osi_watched.proofs.Vocabulary.{send_all_error, sent_all, Happening, Carrier, EndReason, NoMemory, OpenError, called, Input}
-use Rattle.osi_watched.proofs.Vocabulary.{Listener, awaits, concluded_carrier, packet_is, quiet_stops, events_heard, disconnect_carrier}
+use Rattle.osi_watched.proofs.Vocabulary.{Listener, concluded_carrier, packet_is, quiet_stops, events_heard, disconnect_carrier}
 use Rattle.osi_watched.proofs.Vocabulary.{none_ended, found_how, after_open, Feeds, Goes as GoesThrough, TakesPackets, uses_all}
 use Rattle.osi_watched.proofs.Vocabulary.{hears_times, RunsOut, Starves, with_carrier, with_events, AreShort, carrier_by, to_session}
 use Rattle.osi_watched.proofs.Vocabulary.{calling, Call, Calls, carried_in, used_in, End, Holding, ConnectError, AllProper, all_octets}
@@ -16,7 +16,6 @@ use Rattle.osi_carrier.specs.Packets as carriers
 use Rattle.osi_carrier.specs.State as states
 use Rattle.osi_stack.specs.Hearing.{ends}
 use Rattle.osi_stack.specs.State.{waits}
-use Rattle.osi_honest.specs.Talking as history
 use Rattle.osi_honest.specs.Turns.{Act, Acts}
 
 -- ---- what a session sends
@@ -144,7 +143,7 @@ module _ (P : List (List ℕ) → Carrier → Type 0) (tracked : IsTracked P) wh
         (takes us dry.units old.end new.end (all_octets dry.units _ _ dry.packets) p dry.taken)
         (subst (λ (l : List ℕ). ArePackets dry.units (old.held.octets ++ l) new.held.octets) (sym whole) dry.packets) (λ lasts. refl) is
     goes us piece put used old new p (inl (inr stop)) is =
-        let s = stopped_within awaits 0 [] [] [] proper awaits history.begins piece used old new stop new.end.carrier.ended
+        let s = stopped_within piece used old new stop new.end.carrier.ended
         (uses_all new.end) refl refl in
         as_used us stop.units (take used piece) put s.rest old new
         (takes us stop.units old.end new.end (all_octets stop.units _ _ stop.packets) p stop.taken) s.cut s.held is
@@ -171,7 +170,7 @@ module _ (P : List (List ℕ) → Carrier → Type 0) (tracked : IsTracked P) wh
             Tracks P us (take used piece) put old new
         by (inl same) =
             all_used us f.units piece put (f.rest ++ drop f.within piece) used old new f.all
-            (more_used awaits 0 [] [] [] proper awaits history.begins f.units old.held.octets piece f.rest f.within f.packets) ended
+            (more_used f.units old.held.octets piece f.rest f.within f.packets) ended
             (subst (λ (x : End). P (us ++ f.units) x.carrier) (sym same)
             (tracked.ends_so (us ++ f.units) NoMemory f.before.carrier before)) is
         by (inr (packet, one, starved)) =

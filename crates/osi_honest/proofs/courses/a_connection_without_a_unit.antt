@@ -1,14 +1,13 @@
 -- What becomes of a connection while no unit arrives: its session sends, and its link gives units for the peer; or its session closes it;
 -- or it stays as it is.
 -- For the course of a connection.
-use Rattle.osi_honest.proofs.Vocabulary.{[], ap, arith, Bool, false, if◌then◌else◌, inl, inr, is_some, List, map, None, Option, refl, Some}
+use Rattle.osi_honest.proofs.Vocabulary.{[], ap, arith, Bool, false, inl, inr, is_some, List, map, None, Option, refl, Some}
 use Rattle.osi_honest.proofs.Vocabulary.{subst, sym, true, ℕ, ◌<◌, ◌==◌, ◌∙◌, ◌∷◌, ◌≡◌, eq-eqb, eqb-true, map-append, all_given, Given}
 use Rattle.osi_honest.proofs.Vocabulary.{Standing, unit_of, with_tsdu, Class, Zero, push_other, put_other, beyond, push_here, put_here}
 use Rattle.osi_honest.proofs.Vocabulary.{closed_with, closes, open_link, send_all_error, sent, sent_all, sent_on, Happening, IsOrderly}
 use Rattle.osi_honest.proofs.Vocabulary.{pumped, put, Rows, value_at, closing, Connection, linked, State as Carrier, SendError, Input}
 use Rattle.osi_honest.proofs.Vocabulary.{Listener, connects, has_given, hears, opens_line as opens, carrier_by, to_session, End, Line}
 use Rattle.osi_honest.proofs.Vocabulary.{answers_by, sent_unless, Request as Connect, GivesTo, Marked}
-use Rattle.osi_carrier.specs.Happenings as told
 use Rattle.osi_honest.proofs.courses.how_long_a_connection_is_open.{Life, Rests, Stage, life_open, life_rests, stage_at, stage_by}
 use Rattle.osi_honest.proofs.courses.how_long_a_connection_is_open.{stage_there}
 use Rattle.osi_honest.proofs.courses.how_long_a_connection_is_open.Stage.{amid, past}

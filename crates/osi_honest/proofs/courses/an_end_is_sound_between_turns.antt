@@ -5,7 +5,7 @@ use Rattle.osi_honest.proofs.Vocabulary.{ArePackets, packets, Local, EndReason, 
 use Rattle.osi_honest.proofs.Vocabulary.{feeding, telling, End, Holding, waits, Deeds, all_units, IsFresh, Act, Acts, Takes, Turn, arith}
 use Rattle.osi_honest.proofs.Vocabulary.{empty_partial, IsPartial}
 use Rattle.osi_stack.specs.Feeding.{stops}
-use Rattle.osi_honest.proofs.class_0.what_a_turn_does_in_class_0.{all_octets}
+use Rattle.osi_honest.proofs.reading.how_much_of_a_piece_is_used.{all_octets}
 use Rattle.osi_honest.proofs.courses.an_end_takes_packets_up_to_its_last.{dry_to}
 use Rattle.osi_honest.proofs.courses.steps_of_a_course.{HoldEach}
 use Rattle.osi_honest.proofs.courses.what_a_packet_does_to_it.{Between, takes_steps}

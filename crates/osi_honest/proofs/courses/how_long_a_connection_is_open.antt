@@ -1,7 +1,7 @@
 -- The units that arrive and those that are put, one step after the other, for one connection: it is not open yet, then its link takes
 -- those that are for it and gives units for the peer, and then it takes and gives no more.
 -- For the course of a connection.
-use Rattle.osi_honest.proofs.Vocabulary.{[], ap, append_assoc, Bool, false, if◌then◌else◌, inl, inr, is_some, IsSome, List, None, Option}
+use Rattle.osi_honest.proofs.Vocabulary.{[], ap, append_assoc, Bool, false, inl, inr, is_some, IsSome, List, None, Option}
 use Rattle.osi_honest.proofs.Vocabulary.{refl, Some, subst, sym, true, ℕ, ◌++◌, ◌<◌, ◌==◌, ◌∙◌, ◌∷◌, ◌≡◌, ◌⊎◌, append-nil, Standing}
 use Rattle.osi_honest.proofs.Vocabulary.{AllByRecursion, disconnect, Value, open_link, value_at, asked, closing, Connection, linked}
 use Rattle.osi_honest.proofs.Vocabulary.{State as Carrier, has_given, Answers, AreApart, GivesTo, is_for, Lives, Opens, TakesAll, is_shut}

@@ -3,7 +3,7 @@
 use Rattle.osi_honest.proofs.Vocabulary.{[], ap, append_assoc, Bool, inl, IsSome, List, map, refl, subst, sym, ℕ, ◌++◌, ◌<◌, ◌∙◌, ◌≡◌}
 use Rattle.osi_honest.proofs.Vocabulary.{append-nil, Value, unit_of, Move, packets, State as Carrier, End, all_did, Deeds, no_deeds}
 use Rattle.osi_honest.proofs.Vocabulary.{has_given, then_did, units_given, units_taken, all_units, Marked, units_at, arith}
-use Rattle.osi_honest.proofs.class_0.what_class_0_writes_of_a_tsdu.{packets_joined}
+use Rattle.osi_honest.proofs.reading.what_is_written_is_read_again.{packets_joined}
 use Rattle.osi_honest.proofs.courses.how_long_a_connection_is_open.{Life, Rests, Stage, life_rests, life_then, life_then_rests}
 use Rattle.osi_honest.proofs.courses.how_long_a_connection_is_open.{life_to_past, stage_at, stage_over}
 use Rattle.osi_honest.proofs.courses.how_long_a_connection_is_open.Stage.{early, past}

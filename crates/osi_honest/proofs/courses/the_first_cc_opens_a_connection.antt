@@ -6,8 +6,7 @@ use Rattle.osi_honest.proofs.Vocabulary.{confirm, Value, Class, Two, Zero, react
 use Rattle.osi_honest.proofs.Vocabulary.{to_connection, value_at, asked, Connection, Happening, State as Carrier, hears, to_session}
 use Rattle.osi_honest.proofs.Vocabulary.{session_carried, End, Input, has_given, Answers, AreApart, Opens, Marked, Connect, react, Carries}
 use Rattle.osi_honest.proofs.Vocabulary.{closed_given, sent_given, units_rise}
-use Rattle.osi_carrier.specs.Happenings as told
-use Rattle.osi_honest.proofs.class_0.what_packets_do_in_class_0.{never_lasts}
+use Rattle.osi_honest.proofs.ends.an_end_that_is_over_does_nothing.{never_lasts}
 use Rattle.osi_honest.proofs.courses.the_connections_of_each_class.{IsSound, zero_asks_none}
 use Rattle.osi_honest.proofs.courses.units_of_each_connection.{all_of_both}
 use Rattle.osi_honest.proofs.courses.how_long_a_connection_is_open.{BeforeOpen, Life, Stage, WhileOpen, open_then, opens_by, Rests}

@@ -1,6 +1,6 @@
 -- Units in order, each with the connection that it is of: which are of one connection.
 -- For the course of a connection.
-use Rattle.osi_honest.proofs.Vocabulary.{[], ap, arith, false, if◌then◌else◌, List, map, nat_lt, refl, sym, true, ℕ, ◌++◌, ◌<◌, ◌==◌, ◌∙◌}
+use Rattle.osi_honest.proofs.Vocabulary.{[], ap, arith, false, List, map, nat_lt, refl, sym, true, ℕ, ◌++◌, ◌<◌, ◌==◌, ◌∙◌}
 use Rattle.osi_honest.proofs.Vocabulary.{◌∷◌, ◌≡◌, ◌≢◌, eq-eqb, eqb-true, nat_tests, map-append, AllByRecursion, Value, Given, unit_of}
 use Rattle.osi_honest.proofs.Vocabulary.{all_units, AreByLinks, if_of, is_of_link, Marked, units_at, CanBeWritten, flat_map-append}
 

@@ -13,9 +13,8 @@ use Rattle.osi_honest.proofs.Vocabulary.{said_in, awaited, is_gone, is_open, unk
 use Rattle.osi_honest.proofs.Vocabulary.{never, over}
 use Rattle.osi_stack.specs.Calls.{breaks}
 use Rattle.osi_honest.specs.Talking as history
-use Rattle.osi_honest.proofs.class_0.a_session_of_class_0_puts_what_it_sends.{still_begun}
-use Rattle.osi_honest.proofs.class_0.what_a_call_does_in_class_0.{granted_proper}
-use Rattle.osi_honest.proofs.class_0.what_packets_do_in_class_0.{never_lasts}
+use Rattle.osi_honest.proofs.ends.what_a_session_sends_fits.{still_begun, granted_proper}
+use Rattle.osi_honest.proofs.ends.an_end_that_is_over_does_nothing.{never_lasts}
 use Rattle.osi_honest.proofs.courses.a_connection_without_a_unit.{connect_rests, given_up_rests, session_life}
 use Rattle.osi_honest.proofs.courses.steps_of_a_course.{HasNone, HoldEach, StepAt, Steps, step_each, step_idle}
 use Rattle.osi_honest.proofs.courses.the_first_cc_opens_a_connection.{StaysGiven, first_of, given_more, session_given}

@@ -1,7 +1,7 @@
 -- What the link of a connection does as it takes a unit, and as its session hands in TSDUs; and what a session of another
 -- connection leaves of it.
 -- For the course of a connection.
-use Rattle.osi_honest.proofs.Vocabulary.{[], ap, Bool, drop, false, if◌then◌else◌, inl, inr, List, map, None, Ok, Option, refl, Some, sym}
+use Rattle.osi_honest.proofs.Vocabulary.{[], ap, Bool, drop, false, inl, inr, List, map, None, Ok, Option, refl, Some, sym}
 use Rattle.osi_honest.proofs.Vocabulary.{ℕ, ◌∙◌, ◌∷◌, ◌≡◌, ◌≢◌, ◌⊎◌, append-nil, map-append, may_be_followed, Value, drained_leaves}
 use Rattle.osi_honest.proofs.Vocabulary.{drained_moves, all_given, Joining, Standing, taken, unit_of, with_tsdu, hand_out, Move, MovesAlong}
 use Rattle.osi_honest.proofs.Vocabulary.{take_in, tsdus_in, tsdus_out, put_other, put_here, closed_on, closed_with, open_link, sent}

@@ -4,17 +4,15 @@ use Rattle.osi_honest.proofs.Vocabulary.{[], ap, append_assoc, arith, Bool, drop
 use Rattle.osi_honest.proofs.Vocabulary.{Ok, Option, refl, Result, Some, subst, sym, take, true, ℕ, ◌++◌, ◌∙◌, ◌∷◌, ◌≡◌, ◌⊎◌, append-nil}
 use Rattle.osi_honest.proofs.Vocabulary.{take-append-drop, take_all, AllByRecursion, IsOctets, ArePackets, Fed, units_found, AreUnits}
 use Rattle.osi_honest.proofs.Vocabulary.{units_of, Value, TpduFault, orderly_closed, orderly_end, orderly_same, orderly_sent, orderly_unit}
-use Rattle.osi_honest.proofs.Vocabulary.{acts_cases, IsOrderly, reacts, State as Carrier, EndReason, NoMemory, awaits, starved_over}
-use Rattle.osi_honest.proofs.Vocabulary.{lasting_of, packet_is, quiet_stops, none_ended, found_how, packets_kept, attended_kept, Feeds}
-use Rattle.osi_honest.proofs.Vocabulary.{FindsNoMemory, Goes as GoesThrough, StopsBehind, TakesPackets, uses_all, after_packet, attends}
-use Rattle.osi_honest.proofs.Vocabulary.{ends, hears_times, RunsOut, Starves, starves, with_carrier, with_events, End, Holding, IsAttended}
-use Rattle.osi_honest.proofs.Vocabulary.{waits, Deeds, units_in, units_read, is_gone, flat_map-append}
+use Rattle.osi_honest.proofs.Vocabulary.{acts_cases, IsOrderly, reacts, State as Carrier, EndReason, NoMemory, starved_over, lasting_of}
+use Rattle.osi_honest.proofs.Vocabulary.{packet_is, quiet_stops, none_ended, found_how, packets_kept, attended_kept, Feeds, FindsNoMemory}
+use Rattle.osi_honest.proofs.Vocabulary.{Goes as GoesThrough, StopsBehind, TakesPackets, uses_all, after_packet, attends, ends, hears_times}
+use Rattle.osi_honest.proofs.Vocabulary.{RunsOut, Starves, starves, with_carrier, with_events, End, Holding, IsAttended, waits, Deeds}
+use Rattle.osi_honest.proofs.Vocabulary.{units_in, units_read, is_gone, flat_map-append}
 use Rattle.osi_carrier.specs.Packets as carriers
 use Rattle.osi_carrier.specs.State as states
-use Rattle.osi_honest.specs.Talking as history
-use Rattle.osi_honest.proofs.class_0.what_a_shortage_of_memory_leaves.{starves_same}
-use Rattle.osi_honest.proofs.class_0.what_a_turn_does_in_class_0.{all_octets, more_used, stopped_within}
-use Rattle.osi_honest.proofs.class_0.what_packets_do_in_class_0.{never_lasts}
+use Rattle.osi_honest.proofs.ends.an_end_that_is_over_does_nothing.{starves_same, never_lasts}
+use Rattle.osi_honest.proofs.reading.how_much_of_a_piece_is_used.{all_octets, more_used, stopped_within}
 use Rattle.osi_honest.proofs.courses.steps_of_a_course.{HoldEach, StepsBy, same_rest, step_after, step_as, step_more, step_none, step_then}
 use Rattle.osi_honest.proofs.courses.the_connections_of_each_class.{IsSound, class_kept, sound_unit}
 use Rattle.osi_honest.proofs.courses.what_another_connection_leaves.{course_over}
@@ -180,7 +178,7 @@ module _ (known : Known) (is_caller : Bool) where
       (course : Courses moves old.end) where
     stop_steps : StopsBehind old piece n new → FeedSteps moves (take n piece) old new
     stop_steps stop =
-        let s = stopped_within awaits 0 [] [] [] known.proper awaits history.begins piece n old new stop new.end.carrier.ended
+        let s = stopped_within piece n old new stop new.end.carrier.ended
         (uses_all new.end) refl refl in
         grind (arith, takes_steps, all_octets)
 
@@ -198,7 +196,7 @@ module _ (known : Known) (is_caller : Bool) where
         FeedSteps moves (take n piece) old new
     short_steps f (inl is) =
         all_used moves f.units piece (f.rest ++ drop f.within piece) n old new f.all
-        (more_used awaits 0 [] [] [] known.proper awaits history.begins f.units old.held.octets piece f.rest f.within f.packets)
+        (more_used f.units old.held.octets piece f.rest f.within f.packets)
         (none_ended old piece n new f)
         (grind (arith, then_over, all_octets))
     short_steps f (inr (packet, one, starved)) =

@@ -1,6 +1,6 @@
 -- Each turn of an end, and a run: what becomes of the course of one connection.
--- For the laws of an end and its captures.
-use Rattle.osi_honest.proofs.Vocabulary.{[], ap, Bool, if◌then◌else◌, List, None, refl, subst, sym, ℕ, ◌++◌, ◌<◌, ◌==◌, ◌∙◌, ◌∷◌, ◌≡◌}
+-- For the laws of an end and its connections.
+use Rattle.osi_honest.proofs.Vocabulary.{[], ap, Bool, List, None, refl, subst, sym, ℕ, ◌++◌, ◌<◌, ◌==◌, ◌∙◌, ◌∷◌, ◌≡◌}
 use Rattle.osi_honest.proofs.Vocabulary.{append-nil, append_cancel_left, ArePackets, Local, orderly_fresh, Rows, value_at, packets}
 use Rattle.osi_honest.proofs.Vocabulary.{State as Carrier, called, breaks_attended, connect_attended, feeds_attended, session_attended}
 use Rattle.osi_honest.proofs.Vocabulary.{first_keep, kept_first, session_carried, disconnect_attended, disconnect_carrier, connect_orderly}

@@ -10,7 +10,7 @@ use Rattle.osi_honest.proofs.Vocabulary.{to_session, End, Line, answers_by, sent
 use Rattle.osi_carrier.specs.Happenings as told
 use Rattle.osi_carrier.specs.Orderly.{told_of}
 use Rattle.osi_session.specs.Listening.{refused}
-use Rattle.osi_honest.proofs.class_0.what_class_0_writes_of_a_tsdu.{packets_joined}
+use Rattle.osi_honest.proofs.reading.what_is_written_is_read_again.{packets_joined}
 use Rattle.osi_honest.proofs.courses.steps_of_a_course.{HasNone}
 use Rattle.osi_honest.proofs.courses.units_of_each_connection.{AreAccounted, ArePlain, elsewhere, given_accounted, marked, marked_all}
 use Rattle.osi_honest.proofs.courses.units_of_each_connection.{nowhere, plain_accounted, all_of_both}

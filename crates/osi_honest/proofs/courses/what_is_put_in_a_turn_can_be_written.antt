@@ -1,7 +1,7 @@
 -- All units that an end puts in a turn can be written: those of a link since its numbers stay in range from the time when its connection
 -- opened, and the others, CRs, CCs, DRs and DCs, as they are.
 -- For the law of what a session hands to its link.
-use Rattle.osi_honest.proofs.Vocabulary.{[], arith, Bool, false, if◌then◌else◌, List, nat_lt, refl, suc, zero, ℕ, ◌++◌, ◌<◌, ◌∷◌, ◌≡◌}
+use Rattle.osi_honest.proofs.Vocabulary.{[], arith, Bool, false, List, nat_lt, refl, suc, zero, ℕ, ◌++◌, ◌<◌, ◌∷◌, ◌≡◌}
 use Rattle.osi_honest.proofs.Vocabulary.{eq-eqb, AllByRecursion, Value, Standing, End, AreCalls, Course, Deeds, IsFreshLink, then_did}
 use Rattle.osi_honest.proofs.Vocabulary.{is_gone, is_open, closed, all_units, if_of, is_of_link, Marked, units_at, CanBeWritten, awaited}
 use Rattle.osi_honest.proofs.Vocabulary.{unknown, never, over}

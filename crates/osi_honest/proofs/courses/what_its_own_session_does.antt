@@ -1,13 +1,13 @@
 -- The session of an open connection makes a move: what it sends is handed in at its link, or the connection is closed.
 -- For the course of a connection.
 use Rattle.osi_honest.proofs.Vocabulary.{[], ap, arith, Bool, false, is_some, length, map, nat_le, nat_lt, None, Option, refl, Some, subst}
-use Rattle.osi_honest.proofs.Vocabulary.{sym, true, ℕ, ◌&&◌, ◌++◌, ◌+◌, ◌∙◌, ◌≡◌, append-nil, Joining, Standing, unit_of, MovesAlong}
+use Rattle.osi_honest.proofs.Vocabulary.{sym, true, ℕ, ◌&&◌, ◌++◌, ◌∙◌, ◌≡◌, append-nil, Joining, Standing, unit_of, MovesAlong}
 use Rattle.osi_honest.proofs.Vocabulary.{tsdus_out, closed_with, open_link, sent_all, value_at, linked, State as Carrier, EndReason}
 use Rattle.osi_honest.proofs.Vocabulary.{after_input, Input, Listener, session_react as react, is_wait_transport, handed, lengths_fit}
 use Rattle.osi_honest.proofs.Vocabulary.{closed_given, has_given, kept_at, to_session, End, sends, AreCalls, Course, Deeds, Gone}
 use Rattle.osi_honest.proofs.Vocabulary.{IsFreshLink, IsNew, IsShut, said_in, units_given, is_gone, is_open, closed, units_at, History}
 use Rattle.osi_honest.proofs.Vocabulary.{said_after, over}
-use Rattle.osi_honest.proofs.class_0.a_session_of_class_0_puts_what_it_sends.{HasLine, IsProper, kept_then, line_there, moved_by}
+use Rattle.osi_honest.proofs.ends.what_a_session_sends_fits.{HasLine, IsProper, kept_then, line_there, moved_by}
 use Rattle.osi_honest.proofs.courses.steps_of_a_course.{HasNone, StepAt, done_by, step_idle}
 use Rattle.osi_honest.proofs.courses.units_of_each_connection.{marked, marked_own, nowhere}
 use Rattle.osi_honest.proofs.courses.what_a_session_puts.{all_put, answer_puts, put_closing, session_puts}

@@ -3,20 +3,19 @@
 use Rattle.osi_honest.proofs.Vocabulary.{[], ap, Bool, false, inl, inr, is_some, length, List, nat_le, nat_lt, ◌&&◌, has_given, None}
 use Rattle.osi_honest.proofs.Vocabulary.{Option, refl, Some, subst, suc, sym, true, zero, ℕ, ◌++◌, ◌+◌, ◌==◌, ◌∙◌, ◌∷◌, ◌≡◌, ◌≢◌, eq-eqb}
 use Rattle.osi_honest.proofs.Vocabulary.{eqb-true, append-nil, MovesAlong, tsdus_out, push_here, open_link, Happening}
-use Rattle.osi_honest.proofs.Vocabulary.{told_opened as opened, tsdu, value_at, EndReason, after_input, broken, came, Input, Listener}
-use Rattle.osi_honest.proofs.Vocabulary.{linked_up, session_react as react, awaits, times_quiet, first_is, rest_is, used_live, hears_keep}
-use Rattle.osi_honest.proofs.Vocabulary.{calls_with, terms_error, hears, hears_next, hears_times, opens_line as opens, with_events, kept_at}
-use Rattle.osi_honest.proofs.Vocabulary.{to_session, End, joins, Line, session_in, Request as Connect, sends, Course, Deeds, Gone, IsNew}
-use Rattle.osi_honest.proofs.Vocabulary.{IsShut, said_in, is_gone, is_open, closed, History, Said, said_after, State as Carrier, attends}
-use Rattle.osi_honest.proofs.Vocabulary.{concludes, hears_all, concluded_carrier, concludes_lasting, never, arith, over}
+use Rattle.osi_honest.proofs.Vocabulary.{told_opened as opened, value_at, EndReason, after_input, broken, came, Input, Listener, linked_up}
+use Rattle.osi_honest.proofs.Vocabulary.{session_react as react, awaits, times_quiet, first_is, rest_is, used_live, hears_keep, calls_with}
+use Rattle.osi_honest.proofs.Vocabulary.{terms_error, hears, hears_next, hears_times, opens_line as opens, with_events, kept_at, to_session}
+use Rattle.osi_honest.proofs.Vocabulary.{End, joins, Line, session_in, Request as Connect, sends, Course, Deeds, Gone, IsNew, IsShut}
+use Rattle.osi_honest.proofs.Vocabulary.{said_in, is_gone, is_open, closed, History, Said, said_after, State as Carrier, attends, concludes}
+use Rattle.osi_honest.proofs.Vocabulary.{hears_all, concluded_carrier, concludes_lasting, never, arith, over}
 use Rattle.std.proofs.Common.{length-append}
 use Rattle.osi_carrier.specs.Happenings as told
 use Rattle.osi_carrier.specs.Orderly.{told_of}
 use Rattle.osi_session.specs.Listening.{refused}
 use Rattle.osi_honest.specs.Talking as history
-use Rattle.osi_honest.proofs.class_0.a_session_of_class_0_puts_what_it_sends.{still_begun}
-use Rattle.osi_honest.proofs.class_0.what_a_packet_does_in_class_0.{AllProper}
-use Rattle.osi_honest.proofs.class_0.what_packets_do_in_class_0.{never_lasts}
+use Rattle.osi_honest.proofs.ends.what_a_session_sends_fits.{still_begun, AllProper}
+use Rattle.osi_honest.proofs.ends.an_end_that_is_over_does_nothing.{never_lasts}
 use Rattle.osi_honest.proofs.courses.a_connection_without_a_unit.{event_life}
 use Rattle.osi_honest.proofs.courses.steps_of_a_course.{HasNone, HoldEach, StepAt, States, Steps, same_rest, step_each, step_idle}
 use Rattle.osi_honest.proofs.courses.steps_of_a_course.{step_none, step_on, step_since, step_then, step_as}
@@ -33,7 +32,7 @@ use Rattle.osi_honest.proofs.courses.what_its_own_session_does.{CanSpeak, sessio
 use Rattle.osi_honest.proofs.courses.what_units_do_to_a_course.{NowAll, request_new, unsaid}
 use Rattle.osi_honest.proofs.courses.what_waits_to_be_heard.{HasCome, JustOpened, Waits, waits_as, waits_beside, waits_over, waits_none}
 use Rattle.osi_honest.proofs.courses.what_waits_to_be_heard.Waits.{answered, away, called, came as has_come, still}
-use Rattle.osi_honest.proofs.opening.how_a_caller_opens.{CanBegin}
+use Rattle.osi_honest.proofs.ends.the_cn_of_a_request_fits.{CanBegin}
 use Rattle.osi_honest.proofs.courses.how_long_a_connection_is_open.{stage_at}
 
 -- ---- an event of another connection

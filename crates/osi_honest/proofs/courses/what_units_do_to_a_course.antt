@@ -1,7 +1,7 @@
 -- Units that arrive, one after the other: what becomes of the course of one connection, before the sessions hear of it.
 -- For the course of a connection.
 use Rattle.osi_honest.proofs.Vocabulary.{[], ap, arith, Bool, false, inl, inr, is_some, IsSome, IsTrue, List, map, None, Ok, Option, refl}
-use Rattle.osi_honest.proofs.Vocabulary.{Some, subst, sym, take, true, ℕ, ◌++◌, ◌+◌, ◌<◌, ◌==◌, ◌∙◌, ◌∷◌, ◌≡◌, ◌≢◌, eqb-true, append-nil}
+use Rattle.osi_honest.proofs.Vocabulary.{Some, subst, sym, take, true, ℕ, ◌++◌, ◌<◌, ◌==◌, ◌∙◌, ◌∷◌, ◌≡◌, ◌≢◌, eqb-true, append-nil}
 use Rattle.osi_honest.proofs.Vocabulary.{units_fit, AreUnits, may_be_followed, Value, Fits, all_given, Standing, taken, unit_of, Move}
 use Rattle.osi_honest.proofs.Vocabulary.{tsdus_in, tsdus_out, Zero, Local, react_over, absent, put_here, told_opened as opened, tsdu}
 use Rattle.osi_honest.proofs.Vocabulary.{opened_link, connection_of, RiseFrom, pumped, written_by, handed_out, reacts, settles, Rows}
@@ -10,7 +10,7 @@ use Rattle.osi_honest.proofs.Vocabulary.{along_units, calls_with, has_given, ter
 use Rattle.osi_honest.proofs.Vocabulary.{Course, Deeds, Gone, IsFreshLink, IsNew, IsOpen, IsShut, no_deeds, Speaks, then_did, units_given}
 use Rattle.osi_honest.proofs.Vocabulary.{units_taken, awaited, is_gone, is_open, unknown, closed, never, react, over}
 use Rattle.osi_honest.specs.Talking as history
-use Rattle.osi_honest.proofs.class_0.what_packets_do_in_class_0.{never_lasts}
+use Rattle.osi_honest.proofs.ends.an_end_that_is_over_does_nothing.{never_lasts}
 use Rattle.osi_honest.proofs.courses.how_long_a_connection_is_open.{Life, stage_at}
 use Rattle.osi_honest.proofs.courses.steps_of_a_course.{HoldEach, StepAt, States, StepsBy, done_by, same_rest, step_as, step_each}
 use Rattle.osi_honest.proofs.courses.steps_of_a_course.{step_idle, step_none, step_then}

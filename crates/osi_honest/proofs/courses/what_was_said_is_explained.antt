@@ -1,6 +1,6 @@
 -- What the session of a connection sent is explained by what it had taken by then, also if a capture shows less of it; and the units
 -- of its link carry these TSDUs.
--- For the laws of an end and its captures.
+-- For the laws of an end and its connections.
 use Rattle.osi_honest.proofs.Vocabulary.{[], ap, Bool, false, length, List, map, None, refl, subst, sym, true, ℕ, ◌++◌, ◌+◌, ◌∙◌, ◌∷◌, ◌≡◌}
 use Rattle.osi_honest.proofs.Vocabulary.{append-nil, all_taken, all_sent, unit_of, Move, parts_in, parts_out, tsdus_in, tsdus_out, tsdus}
 use Rattle.osi_honest.proofs.Vocabulary.{uncut, Listener, awaits, refusal_of, Seen, seen_called, seen_calling, Opening, End, IsExplained}
@@ -11,7 +11,7 @@ use Rattle.osi_session.specs.Sessions.{opens}
 use Rattle.osi_judge.specs.Running as running
 use Rattle.osi_honest.proofs.courses.what_calls_of_a_link_say.{fresh_of, none_said, out_more, said_more}
 use Rattle.osi_honest.proofs.courses.what_units_do_to_a_course.{no_calls}
-use Rattle.osi_honest.proofs.opening.the_session_of_a_request_is_a_caller.{opens_so}
+use Rattle.osi_honest.proofs.sessions.the_session_of_a_request_is_a_caller.{opens_so}
 use Rattle.osi_honest.proofs.sessions.a_history_is_a_run.{history_runs}
 use Rattle.osi_honest.proofs.sessions.what_a_capture_shows_is_a_run.{shown_sent}
 

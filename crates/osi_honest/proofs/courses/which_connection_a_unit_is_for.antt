@@ -7,7 +7,7 @@ use Rattle.osi_honest.proofs.Vocabulary.{RiseFrom, Two, react_quiet, put_other, 
 use Rattle.osi_honest.proofs.Vocabulary.{connection_of, pumped, written_by, handed_out, in_two, settles, put, value_at, asked, Connection}
 use Rattle.osi_honest.proofs.Vocabulary.{linked, State as Carrier, EndReason, has_given, AreApart, GivesTo, is_for, Opens, IsShut}
 use Rattle.osi_honest.proofs.Vocabulary.{is_of_link, Marked, react}
-use Rattle.osi_honest.proofs.class_0.what_packets_do_in_class_0.{never_lasts}
+use Rattle.osi_honest.proofs.ends.an_end_that_is_over_does_nothing.{never_lasts}
 use Rattle.osi_honest.proofs.courses.the_connections_of_each_class.{ByClass, IsSound, one_here}
 use Rattle.osi_honest.proofs.courses.the_connections_of_each_class.ByClass.{asks, none, two, zero}
 use Rattle.osi_honest.proofs.courses.units_of_each_connection.{marked, none_mark, none_marked, other_marked, unequal}

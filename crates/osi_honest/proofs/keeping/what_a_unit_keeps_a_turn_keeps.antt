@@ -1,6 +1,6 @@
 -- What each unit that arrives and each TSDU of a session leave true of a carrier, a turn of an end leaves true, whatever
 -- arrives and however much memory there is.
--- For what an end puts that has no connection of class 0.
+-- For the course of a connection.
 use Rattle.osi_honest.proofs.Vocabulary.{[], ap, Bool, false, if◌then◌else◌, inl, inr, is_some, length, List, None, Option, refl, Some}
 use Rattle.osi_honest.proofs.Vocabulary.{subst, sym, true, ℕ, ◌∷◌, ◌≡◌, ◌⊎◌, ArePackets, Fed, Value, Happening, reacts, State as Carrier}
 use Rattle.osi_honest.proofs.Vocabulary.{EndReason, NoMemory, concluded_carrier, packet_is, quiet_stops, Carries, events_heard}

@@ -1,5 +1,5 @@
 -- What holds of each live connection of a carrier holds still after one of them is replaced, dropped or added.
--- For what the transport of an end puts.
+-- For the numbers that links give.
 use Rattle.std.proofs.Common.{arith}
 use Rattle.osi_honest.proofs.Vocabulary.{[], Bool, if◌then◌else◌, Some, ℕ, ◌++◌, ◌==◌, ◌∷◌, ◌≡◌, put, Rows, value_at, without, Connection}
 

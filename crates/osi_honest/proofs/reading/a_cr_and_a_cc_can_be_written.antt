@@ -1,5 +1,5 @@
 -- A CR that an end puts can be written, and so can a CC, if the CR that it answers was in range.
--- For what the transport of an end puts, and for the course of a connection.
+-- For the course of a connection.
 use Rattle.osi_honest.proofs.Vocabulary.{arith, Bool, length, min, Option, option_map, take, ℕ, ◌≤◌, length-take, IfSome, size_code}
 use Rattle.osi_honest.proofs.Vocabulary.{tsap_octets, IsConnect, Tsap, accept, refuse, selected_by, Selection, Class, Local, acceptance}
 use Rattle.osi_honest.proofs.Vocabulary.{proposal_by, IsPlain, Connect}

@@ -1,8 +1,8 @@
--- Two readings of the front of one stream as packets: one goes on where the other ends. And what is written is read again.
--- For what a capture shows of an end.
-use Rattle.osi_honest.proofs.Vocabulary.{[], ap, append_assoc, arith, length, List, map, refl, subst, sym, ℕ, ◌%◌, ◌*◌, ◌++◌, ◌+◌, ◌/◌, ◌∙◌}
-use Rattle.osi_honest.proofs.Vocabulary.{◌∷◌, ◌≡◌, append-nil, append_cancel_left, end_no_packet, one_packet, IsPacket, packet_of}
-use Rattle.osi_honest.proofs.Vocabulary.{ArePackets, Cuts, Ending, EndsAt, Value, written, packets}
+-- Two readings of the front of one stream as packets: one goes on where the other ends. And of two prefixes of a stream the shorter
+-- is a prefix of the longer.
+-- For the packets that an end takes, and for what a tap shows of it.
+use Rattle.osi_honest.proofs.Vocabulary.{[], ap, append_assoc, arith, List, refl, subst, sym, ℕ, ◌++◌, ◌∙◌, ◌∷◌, ◌≡◌}
+use Rattle.osi_honest.proofs.Vocabulary.{append_cancel_left, one_packet, ArePackets, length, ◌≤◌, IsPrefix}
 
 -- ---- packets of a stream that goes on
 
@@ -33,51 +33,14 @@ two_readings (u ∷ us) (v ∷ vs) s r q h k =
     let rest : h.1 ≡ k.1 = append_cancel_left k.0 h.1 k.1 (ap (λ (x : List ℕ). x ++ h.1) (sym one.0) ∙ sym h.3 ∙ k.3) in
     one_more u v us vs r q one.1 (two_readings us vs h.1 r q h.4 (subst (λ (x : List ℕ). ArePackets vs x q) (sym rest) k.4))
 
-none_more : (at : ℕ) (q r : List ℕ) (e : Ending) (more : List (List ℕ)) → EndsAt at q e → ArePackets more q r → more ≡ []
-none_more at q r e [] ends h = refl
-none_more at q r e (u ∷ more) ends h = absurd (end_no_packet at q e ends u h.0 h.1 h.2 h.3)
+-- ---- prefixes of a stream
 
--- the packets at the front of a whole stream are the first of its packets
-pub read_within : (us vs : List (List ℕ)) (s x r : List ℕ) (e : Ending) → ArePackets us s r → Cuts (s ++ x) vs e →
-    (more : List (List ℕ)) × (vs ≡ us ++ more)
-read_within us vs s x r e h (q, cut, ends) =
-    grind (arith, none_more, two_readings us vs (s ++ x) (r ++ x) q (packets_on us s r x h) cut, append-nil vs)
-
--- ---- what is written is read
-
-same_split : (a b x y : List ℕ) → length a ≡ length b → a ++ x ≡ b ++ y → (a ≡ b) × (x ≡ y)
-same_split [] [] x y l e = (refl, e)
-same_split [] (b ∷ bs) x y l e = absurd (cc)
-same_split (a ∷ some) [] x y l e = absurd (cc)
-same_split (a ∷ some) (b ∷ others) x y l e =
+pub front_of : (some others rest : List ℕ) (x y : List ℕ) → some ++ x ≡ rest → others ++ y ≡ rest → length some ≤ length others →
+    IsPrefix some others
+front_of [] others rest x y e f l = (others, refl)
+front_of (a ∷ some) [] rest x y e f l = absurd (omega arith)
+front_of (a ∷ some) (b ∷ others) rest x y e f l =
     let first : a ≡ b = cc in
-    let rest : some ++ x ≡ others ++ y = cc in
-    let long : length some ≡ length others = omega arith in
-    let more = same_split some others x y long rest in
-    (λ i. first i ∷ more.0 i, more.1)
-
-same_length : (high low n m : ℕ) → 256 * high + low ≡ n + 4 → high ≡ (m + 4) / 256 → low ≡ (m + 4) % 256 → n ≡ m
-same_length high low n m counted h l = omega arith
-
--- a packet that is read where one was written is this one
-pub packet_again : (u w b x y : List ℕ) → IsPacket u b → b ++ x ≡ packet_of w ++ y → (u ≡ w) × (x ≡ y)
-packet_again u w b x y p e = grind (arith, same_split, same_length)
-
-pub no_packet_in : (u b x : List ℕ) → IsPacket u b → b ++ x ≡ [] → ⊥
-no_packet_in u b x p e = grind arith
-
--- Packets that are read at the front of what was written are the first of those that were written.
-pub shown_packets : (us : List (List ℕ)) (vs : List Value) (s r later : List ℕ) → ArePackets us s r → s ++ later ≡ packets vs →
-    (back : List (List ℕ)) × (map written vs ≡ us ++ back)
-shown_packets [] vs s r later h e = (map written vs, refl)
-shown_packets (u ∷ us) [] s r later (b, t, p, is, h) e = grind (arith, no_packet_in, append_assoc)
-shown_packets (u ∷ us) (v ∷ vs) s r later (b, t, p, is, h) e =
-    let one = packet_again u (written v) b (t ++ later) (packets vs) p
-    (sym (append_assoc b t later) ∙ ap (λ (x : List ℕ). x ++ later) (sym is) ∙ e) in
-    grind (arith, shown_packets us vs t r later h one.1)
-
--- the first of them, whatever was put after it
-pub first_shown : (u : List ℕ) (us : List (List ℕ)) (w s r later back : List ℕ) → ArePackets (u ∷ us) s r →
-    s ++ later ≡ packet_of w ++ back → u ≡ w
-first_shown u us w s r later back (b, t, p, is, h) e =
-    (packet_again u w b (t ++ later) back p (sym (append_assoc b t later) ∙ ap (λ (x : List ℕ). x ++ later) (sym is) ∙ e)).0
+    let tails : some ++ x ≡ others ++ y = cc in
+    let more = front_of some others (others ++ y) x y tails refl (omega arith) in
+    (more.0, λ i. first i ∷ more.1 i)

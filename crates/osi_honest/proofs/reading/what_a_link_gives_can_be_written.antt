@@ -1,12 +1,13 @@
 -- The numbers of the units that a link gives are in the range of their fields, whatever it takes.
--- For what the transport of an end puts.
+-- For the course of a connection, and for what a carrier puts.
 use Rattle.osi_honest.proofs.Vocabulary.{[], arith, List, map, None, Ok, Option, Some, suc, zero, ℕ, ◌<◌, ◌∷◌, ◌≡◌, AllByRecursion}
 use Rattle.osi_honest.proofs.Vocabulary.{flat_map, IfOk, IfSome, data0, Value, at_ok, choose_ok, choose_some, given_by, Ends, Flow, Drained}
 use Rattle.osi_honest.proofs.Vocabulary.{drained_by, drained_within, left_to_give, ack, Given, given_part, next, next_by, part0, part2}
 use Rattle.osi_honest.proofs.Vocabulary.{Standing, taken, taken_by, unit_of, Move, MovesAlong, Part, Class, Local, opened_link}
-use Rattle.osi_honest.proofs.Vocabulary.{CanBeWritten}
+use Rattle.osi_honest.proofs.Vocabulary.{CanBeWritten, Rows, Connection, linked}
 unfoldable use Rattle.osi_class.specs.Giving.{drained}
 use Rattle.osi_class.specs.Runs.{Moves}
+use Rattle.osi_honest.proofs.keeping.what_holds_of_each_connection_stays.{AllRows}
 
 -- the next number and the credit are in range
 abbrev pub IsNumbered : Option Flow → Type 0
@@ -115,3 +116,12 @@ gives_data s none = drains_data (left_to_give s) s none
 
 pub taken_zero : (s t : Standing) (v : Value) → s.flow ≡ None → taken s v ≡ Ok t → t.flow ≡ None
 taken_zero s t v none e = at_ok (λ (x : Standing). x.flow ≡ None) (taken s v) t (grind arith) e
+
+-- ---- the links of an end
+
+abbrev IsNumberedRow : Connection → Type 0
+IsNumberedRow (linked peer link) = IsNumbered link.flow
+IsNumberedRow _ = Unit {0}
+
+abbrev pub AreNumbered : Rows Connection → Type 0
+AreNumbered rows = AllRows IsNumberedRow rows

@@ -1,11 +1,11 @@
 -- A unit in whose written form each number is an octet is read again as this unit, if the few numbers that share an octet are
 -- in range: credit, class and options, and the numbers of class 2.
--- For what the transport of an end puts.
+-- For the course of a connection.
 use Rattle.osi_honest.proofs.Vocabulary.{[], arith, length, List, None, Ok, Option, Some, subst, ℕ, ◌++◌, ◌+◌, ◌/◌, ◌<◌, ◌∷◌, ◌≡◌, ◌≤◌}
 use Rattle.osi_honest.proofs.Vocabulary.{length-append, flat_map, IfSome, octets_left, octets_nil, octets_right, IsOctets, units_only}
 use Rattle.osi_honest.proofs.Vocabulary.{written_spells, units_of, connect_part, Item, item_octets, single, acknowledge, AreParameters}
 use Rattle.osi_honest.proofs.Vocabulary.{confirm, data0, data2, disconnect, disconnected, error, HasFieldsInRange, IsConnect, request}
-use Rattle.osi_honest.proofs.Vocabulary.{Value, HasRoom, items_of, written, written_items, Connect}
+use Rattle.osi_honest.proofs.Vocabulary.{Value, HasRoom, items_of, written, written_items, Connect, packet_of, packets}
 use Rattle.std.proofs.lemmas.List.Concat.{flat_map-append}
 pub use Rattle.osi_honest.specs.Writable.{CanBeWritten, IsPlain}
 
@@ -93,3 +93,8 @@ has_room v can = grind (arith, items_most)
 
 pub read_again : (v : Value) → CanBeWritten v → IsOctets (written v) → units_of (written v) ≡ Ok (v ∷ [])
 read_again v can octets = search (arith, units_only, written_spells, fields_are, has_room)
+
+-- ---- units one after the other
+
+pub packets_joined : (us vs : List Value) → packets (us ++ vs) ≡ packets us ++ packets vs
+packets_joined us vs = flat_map-append (λ unit. packet_of (written unit)) us vs

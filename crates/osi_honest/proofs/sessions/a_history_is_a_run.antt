@@ -1,5 +1,5 @@
 -- What a session took and sent is a run of it as the judge has it, so what it sent is explained by what it took.
--- For the laws of an end and its captures.
+-- For the laws of an end and its connections.
 use Rattle.osi_honest.proofs.Vocabulary.{[], ap, append_assoc, arith, Bool, false, get_or, length, List, map, refl, subst, sym, ℕ, ◌++◌}
 use Rattle.osi_honest.proofs.Vocabulary.{◌+◌, ◌∙◌, ◌∷◌, ◌≡◌, append-nil, map-append, after_input, called, came, Listener}
 use Rattle.osi_honest.proofs.Vocabulary.{linked_up as opened, session_react as react, Told, IsSentFrom, Pass, Runs, sends, History, Said}

@@ -1,7 +1,7 @@
 use Rattle.std.proofs.Common.{arith}
-use Rattle.osi_honest.proofs.class_0.what_a_session_answers_fits.{all_proper}
+use Rattle.osi_honest.proofs.ends.what_a_session_answers_fits.{all_proper}
 use Rattle.osi_honest.proofs.courses.what_a_run_does_to_it.{fresh_course, fresh_turns, nothing_since, turns_continue}
-use Rattle.osi_honest.proofs.opening.what_an_asking_end_does.{can_begin}
+use Rattle.osi_honest.proofs.ends.the_cn_of_a_request_fits.{can_begin}
 use Rattle.osi_honest.proofs.laws.what_a_session_hands_to_its_link.Goals as goal
 
 pub returns-clause-begins : goal.returns-clause-begins

@@ -1,5 +1,5 @@
 -- The session of a request that is accepted begins as a caller does, with the CN of some opening that osi_session accepts.
--- For the law that a calling end is not blamed.
+-- For what the session of a connection said.
 use Rattle.std.proofs.Common.{arith}
 use Rattle.osi_honest.proofs.Vocabulary.{Bool, false, if◌then◌else◌, length, List, nat_le, None, not, Option, option_map, refl, Some, true}
 use Rattle.osi_honest.proofs.Vocabulary.{ℕ, ◌||◌, ◌≡◌, ltb-false, unit_bits, named_by, Selector, CN, selector_octets, most_user_data}

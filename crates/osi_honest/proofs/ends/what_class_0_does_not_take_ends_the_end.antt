@@ -5,8 +5,7 @@ use Rattle.osi_honest.proofs.Vocabulary.{◌+◌, ◌∷◌, ◌≡◌, units_of
 use Rattle.osi_honest.proofs.Vocabulary.{reacts_over, acts_cases, reacts, linked, State as Carrier, packet_is, starved_over, after_packet}
 use Rattle.osi_honest.proofs.Vocabulary.{with_carrier, End, Starves, arith, react}
 use Rattle.osi_carrier.specs.Packets as carriers
-use Rattle.osi_honest.proofs.class_0.what_a_packet_does_in_class_0.{Over, attends_over}
-use Rattle.osi_honest.proofs.class_0.what_a_shortage_of_memory_leaves.{out_over}
+use Rattle.osi_honest.proofs.ends.an_end_that_is_over_does_nothing.{Over, attends_over, out_over}
 
 -- ---- what is not taken
 

@@ -1,11 +1,11 @@
 -- What a session answers a TSDU by is one short TSDU, and it answers nothing where it closes its connection.
--- For the turns of an end.
+-- For the course of a connection.
 use Rattle.osi_honest.proofs.Vocabulary.{[], ap, List, None, Option, true, ℕ, ◌≡◌, sent_alone, Meaning, tsdus_sent, came, Listener}
 use Rattle.osi_honest.proofs.Vocabulary.{session_react as react, limit_of, sent_short, SpduLaws, AreShort, limit_for, came_moves}
 use Rattle.osi_honest.proofs.Vocabulary.{came_itself, SaysItself, arith}
 unfoldable use Rattle.osi_message.specs.Written.{unit_of}
 use Rattle.osi_session.specs.Standing.{answers}
-use Rattle.osi_honest.proofs.class_0.what_a_packet_does_in_class_0.{AllProper}
+use Rattle.osi_honest.proofs.ends.what_a_session_sends_fits.{AllProper}
 
 -- an answer has no user information
 answer_plain : (m : Meaning) → answers m m ≡ true → (unit_of m).information ≡ []
