@@ -1,20 +1,14 @@
-//! Captures of one connection of class 0, whose outcome was worked out by hand. Each is fed in the pieces given here,
-//! and octet by octet.
+//! Captures of one connection of class 0, whose outcome was worked out by hand. Each is fed to a tap in the pieces given
+//! here, and octet by octet.
 
-use crate::checks::{Checks, OUT_OF_MEMORY};
+use crate::checks::Checks;
 use crate::sessions::cut;
-use osi_judge::{Direction, Finding, Judge, Stop};
+use crate::taps::{CC, CR, DT, MIP, taken};
+use osi_judge::{Direction, Finding};
+use osi_tap::Tap;
 use std::alloc::Global;
 use std::test::Fail;
 
-/// A CR for class 0 with the reference 1.
-const CR: &[u8] = &[
-    0x03, 0x00, 0x00, 0x0E, 0x09, 0xE0, 0x00, 0x00, 0x00, 0x01, 0x00, 0xC0, 0x01, 0x0A,
-];
-/// The CC for it, with the reference 1.
-const CC: &[u8] = &[
-    0x03, 0x00, 0x00, 0x0E, 0x09, 0xD0, 0x00, 0x01, 0x00, 0x01, 0x00, 0xC0, 0x01, 0x0A,
-];
 /// A CN: units 00B9, serial 1, each token for the asker.
 const CN: &[u8] = &[
     0x03, 0x00, 0x00, 0x1B, 0x02, 0xF0, 0x80, 0x0D, 0x12, 0x05, 0x0C, 0x13, 0x01, 0x01, 0x16, 0x01,
@@ -25,11 +19,7 @@ const AC: &[u8] = &[
     0x03, 0x00, 0x00, 0x1B, 0x02, 0xF0, 0x80, 0x0E, 0x12, 0x05, 0x0C, 0x13, 0x01, 0x01, 0x16, 0x01,
     0x02, 0x17, 0x01, 0x31, 0x1A, 0x01, 0x00, 0x14, 0x02, 0x00, 0xB9,
 ];
-/// DT with four octets.
-const DT: &[u8] = &[
-    0x03, 0x00, 0x00, 0x0F, 0x02, 0xF0, 0x80, 0x01, 0x00, 0x01, 0x00, 0x64, 0x61, 0x74, 0x61,
-];
-/// Its first octet.
+/// The first octet of a DT.
 const DT_FRONT: &[u8] = &[0x03];
 
 const DT_BEHIND: &[u8] = &[
@@ -46,9 +36,6 @@ const GT_FRONT: &[u8] = &[
 
 const GT_LAST: &[u8] = &[0x01];
 
-const MIP: &[u8] = &[
-    0x03, 0x00, 0x00, 0x0E, 0x02, 0xF0, 0x80, 0x01, 0x00, 0x31, 0x03, 0x2A, 0x01, 0x31,
-];
 /// AB for a protocol error.
 const AB_5: &[u8] = &[
     0x03, 0x00, 0x00, 0x0C, 0x02, 0xF0, 0x80, 0x19, 0x03, 0x11, 0x01, 0x05,
@@ -64,14 +51,14 @@ const NO_PACKET: &[u8] = &[0x04, 0x00, 0x00, 0x07];
 
 use Direction::{Left, Right};
 
-/// What passes, what is found of both sides, whose break passed first, and why the transport of left is not read any
-/// further.
+/// What passes, what is found of both sides, whose break passed first, and the offset of the packet with which left first
+/// broke a rule of transport.
 struct Capture {
     pieces: &'static [(Direction, &'static [u8])],
     left: Finding,
     right: Finding,
     first: Option<Direction>,
-    stopped: Option<Stop>,
+    broke: Option<u64>,
 }
 
 const KEPT: Finding = Finding::Kept;
@@ -91,7 +78,7 @@ const CAPTURES: &[Capture] = &[
         left: KEPT,
         right: KEPT,
         first: None,
-        stopped: None,
+        broke: None,
     },
     // and that was still in flight when the data began
     Capture {
@@ -108,7 +95,7 @@ const CAPTURES: &[Capture] = &[
         left: KEPT,
         right: Finding::Broke(1),
         first: Some(Right),
-        stopped: None,
+        broke: None,
     },
     // a point without the token, and the abort for it
     Capture {
@@ -124,7 +111,7 @@ const CAPTURES: &[Capture] = &[
         left: KEPT,
         right: Finding::Broke(1),
         first: Some(Right),
-        stopped: None,
+        broke: None,
     },
     // both sides break it, right first
     Capture {
@@ -141,7 +128,7 @@ const CAPTURES: &[Capture] = &[
         left: Finding::Broke(3),
         right: Finding::Broke(1),
         first: Some(Right),
-        stopped: None,
+        broke: None,
     },
 ];
 
@@ -159,7 +146,7 @@ const TRANSPORT_CAPTURES: &[Capture] = &[
         left: KEPT,
         right: KEPT,
         first: Some(Left),
-        stopped: Some(Stop::BadPacket(osi_tpkt::TpktFault::BadVersion(41))),
+        broke: Some(41),
     },
     // a TSDU in two data units
     Capture {
@@ -173,15 +160,15 @@ const TRANSPORT_CAPTURES: &[Capture] = &[
         left: KEPT,
         right: KEPT,
         first: None,
-        stopped: None,
+        broke: None,
     },
-    // a CN before the CC: a break of left, and right takes it
+    // a CN before the CC: a break of left
     Capture {
         pieces: &[(Left, CR), (Left, CN), (Right, CC), (Right, AC)],
         left: KEPT,
         right: KEPT,
         first: Some(Left),
-        stopped: Some(Stop::UnexpectedUnit),
+        broke: Some(14),
     },
     // data before the CC: a break of right
     Capture {
@@ -189,82 +176,73 @@ const TRANSPORT_CAPTURES: &[Capture] = &[
         left: KEPT,
         right: KEPT,
         first: Some(Right),
-        stopped: None,
-    },
-    // the middle of a connection
-    Capture {
-        pieces: &[(Left, GT), (Right, DT)],
-        left: KEPT,
-        right: KEPT,
-        first: None,
-        stopped: Some(Stop::NoOpening),
+        broke: None,
     },
 ];
 
-/// How many octets a judge takes, all of them if memory runs out.
-fn taken(checks: &Checks, judge: &mut Judge, direction: Direction, octets: &[u8]) -> usize {
-    match judge.feed(direction, octets) {
-        Ok(used) => used,
-        Err(_) => {
-            checks.fail(OUT_OF_MEMORY);
-            octets.len()
-        }
-    }
-}
-
 /// Feeds octets, at most this many at once.
-fn feed(checks: &Checks, judge: &mut Judge, direction: Direction, octets: &[u8], most: usize) {
+fn feed(checks: &Checks, tap: &mut Tap, direction: Direction, octets: &[u8], most: usize) {
     let mut rest = octets;
     for _octet in octets {
         if rest.is_empty() {
             return;
         }
         let (piece, _) = cut(rest, most);
-        let (_, behind) = cut(rest, taken(checks, judge, direction, piece));
+        let (_, behind) = cut(rest, taken(checks, tap, direction, piece));
         rest = behind;
     }
 }
 
-fn stop_of(judge: &Judge) -> Option<Stop> {
-    match judge.stopped(Left) {
-        Some(stopped) => Some(stopped.stop),
+/// Whether this is found of both sides of the connection.
+fn are_found(tap: &Tap, left: Finding, right: Finding) -> bool {
+    match tap.connection(0) {
+        Some(connection) => connection.finding(Left) == left && connection.finding(Right) == right,
+        None => false,
+    }
+}
+
+fn first_of(tap: &Tap) -> Option<Direction> {
+    match tap.first() {
+        Some(first) => Some(first.direction),
         None => None,
     }
 }
 
-/// Whether this is found of both sides.
-fn are_found(judge: &Judge, left: Finding, right: Finding) -> bool {
-    judge.finding(Left) == left && judge.finding(Right) == right
+fn broke_at(tap: &Tap) -> Option<u64> {
+    match tap.broke(Left) {
+        Some(mark) => Some(mark.offset),
+        None => None,
+    }
 }
 
-fn is_found(checks: &Checks, judge: &Judge, capture: &Capture) {
+fn is_found(checks: &Checks, tap: &Tap, capture: &Capture) {
     checks.that(
-        are_found(judge, capture.left, capture.right),
+        are_found(tap, capture.left, capture.right),
         "something else is found",
     );
-    checks.that(judge.first() == capture.first, "another break is the first");
+    checks.that(first_of(tap) == capture.first, "another break is the first");
     checks.that(
-        stop_of(judge) == capture.stopped,
+        broke_at(tap) == capture.broke,
         "left's transport stands otherwise",
     );
 }
 
 /// Feeds pieces of both sides, one after the other, at most this many octets at once.
-fn feed_all(checks: &Checks, judge: &mut Judge, pieces: &[(Direction, &[u8])], most: usize) {
+fn feed_all(checks: &Checks, tap: &mut Tap, pieces: &[(Direction, &[u8])], most: usize) {
     for (direction, octets) in pieces {
-        feed(checks, judge, *direction, *octets, most);
+        feed(checks, tap, *direction, *octets, most);
     }
 }
 
 /// A capture is judged if at most this many octets are fed at once.
-fn is_judged_in(checks: &Checks, judge: &mut Judge, capture: &Capture, most: usize) {
-    feed_all(checks, judge, capture.pieces, most);
-    is_found(checks, judge, capture);
+fn is_judged_in(checks: &Checks, tap: &mut Tap, capture: &Capture, most: usize) {
+    feed_all(checks, tap, capture.pieces, most);
+    is_found(checks, tap, capture);
 }
 
 /// Left sends all these octets.
-fn feed_left(checks: &Checks, judge: &mut Judge, octets: &[u8]) {
-    feed(checks, judge, Left, octets, usize::MAX);
+fn feed_left(checks: &Checks, tap: &mut Tap, octets: &[u8]) {
+    feed(checks, tap, Left, octets, usize::MAX);
 }
 
 /// The header of a DT of 65,528 octets that does not end its TSDU.
@@ -275,51 +253,54 @@ const LAST_PART: &[u8] = &[0x03, 0x00, 0x00, 0x87, 0x02, 0xF0, 0x80];
 const DATA_FRONT: &[u8] = &[0x01, 0x00, 0x01, 0x00];
 
 /// Left sends a packet of a part, with these octets.
-fn feed_part(checks: &Checks, judge: &mut Judge, header: &[u8], front: &[u8], octets: &[u8]) {
-    feed_left(checks, judge, header);
-    feed_left(checks, judge, front);
-    feed_left(checks, judge, octets);
+fn feed_part(checks: &Checks, tap: &mut Tap, header: &[u8], front: &[u8], octets: &[u8]) {
+    feed_left(checks, tap, header);
+    feed_left(checks, tap, front);
+    feed_left(checks, tap, octets);
 }
 
 /// Left sends a Data of 1,048,572 octets in 17 packets. The octets are 65,528.
-fn feed_the_longest(checks: &Checks, judge: &mut Judge, octets: &[u8]) {
+fn feed_the_longest(checks: &Checks, tap: &mut Tap, octets: &[u8]) {
     let (front, behind) = cut(octets, 4);
     let (last, _) = cut(octets, 128);
-    feed_part(checks, judge, PART, DATA_FRONT, behind);
+    feed_part(checks, tap, PART, DATA_FRONT, behind);
     for _ in 0..15u8 {
-        feed_part(checks, judge, PART, front, behind);
+        feed_part(checks, tap, PART, front, behind);
     }
-    feed_part(checks, judge, LAST_PART, &[], last);
+    feed_part(checks, tap, LAST_PART, &[], last);
 }
 
 /// Left sends a thousand Data of four octets.
-fn feed_a_thousand(checks: &Checks, judge: &mut Judge) {
+fn feed_a_thousand(checks: &Checks, tap: &mut Tap) {
     for _ in 0..1000u16 {
-        feed_left(checks, judge, DT);
+        feed_left(checks, tap, DT);
     }
 }
 
-/// Whether both sides kept the protocol, and left said this many TSDUs.
-fn is_kept(judge: &Judge, told: usize) -> bool {
-    are_found(judge, KEPT, KEPT)
-        && judge.side(Left).told() == told
-        && judge.side(Right).heard() == told
+/// Whether left said this many TSDUs, and the session of right heard them.
+fn are_said(tap: &Tap, told: usize) -> bool {
+    match tap.connection(0) {
+        Some(connection) => {
+            connection.side(Left).told() == told && connection.side(Right).heard() == told
+        }
+        None => false,
+    }
 }
 
 /// How a connection begins.
 const OPENING: &[(Direction, &[u8])] = &[(Left, CR), (Right, CC), (Left, CN), (Right, AC)];
 
-fn a_long_capture_goes_on(checks: &Checks, judge: &mut Judge, octets: &[u8]) {
-    feed_all(checks, judge, OPENING, usize::MAX);
-    feed_a_thousand(checks, judge);
-    feed_the_longest(checks, judge, octets);
+fn a_long_capture_goes_on(checks: &Checks, tap: &mut Tap, octets: &[u8]) {
+    feed_all(checks, tap, OPENING, usize::MAX);
+    feed_a_thousand(checks, tap);
+    feed_the_longest(checks, tap, octets);
     checks.that(
-        is_kept(judge, 1002),
+        are_found(tap, KEPT, KEPT) && are_said(tap, 1002),
         "something else or another number of TSDUs is found",
     );
 }
 
-/// What a judge is fed.
+/// What a tap is fed.
 #[derive(Clone, Copy)]
 enum Fed<'a> {
     /// A capture, at most this many octets at once.
@@ -328,19 +309,17 @@ enum Fed<'a> {
     Long(&'a [u8]),
 }
 
-fn is_judged(checks: &Checks, judge: &mut Judge, fed: Fed) {
+fn is_judged(checks: &Checks, tap: &mut Tap, fed: Fed) {
     match fed {
-        Fed::Capture(capture, most) => is_judged_in(checks, judge, capture, most),
-        Fed::Long(octets) => a_long_capture_goes_on(checks, judge, octets),
+        Fed::Capture(capture, most) => is_judged_in(checks, tap, capture, most),
+        Fed::Long(octets) => a_long_capture_goes_on(checks, tap, octets),
     }
 }
 
-/// What a fresh judge finds. This function owns it.
+/// What a fresh tap finds. This function owns it.
 fn judged(checks: &Checks, alloc: Global, fed: Fed) {
-    match Judge::new(alloc) {
-        Ok(mut judge) => is_judged(checks, &mut judge, fed),
-        Err(_) => checks.fail(OUT_OF_MEMORY),
-    }
+    let mut tap = Tap::new(alloc);
+    is_judged(checks, &mut tap, fed);
 }
 
 /// Each is fed in the pieces given, and octet by octet.

@@ -9,11 +9,11 @@ use std::alloc::Global;
 use std::test::Fail;
 
 /// A CR for class 0 with the reference 1.
-const CR: &[u8] = &[
+pub(crate) const CR: &[u8] = &[
     0x03, 0x00, 0x00, 0x0E, 0x09, 0xE0, 0x00, 0x00, 0x00, 0x01, 0x00, 0xC0, 0x01, 0x0A,
 ];
 /// The CC for it, with the reference 1.
-const CC: &[u8] = &[
+pub(crate) const CC: &[u8] = &[
     0x03, 0x00, 0x00, 0x0E, 0x09, 0xD0, 0x00, 0x01, 0x00, 0x01, 0x00, 0xC0, 0x01, 0x0A,
 ];
 /// A CN: duplex alone.
@@ -27,11 +27,11 @@ const AC: &[u8] = &[
     0x02, 0x14, 0x02, 0x00, 0x02,
 ];
 /// DT with four octets.
-const DT: &[u8] = &[
+pub(crate) const DT: &[u8] = &[
     0x03, 0x00, 0x00, 0x0F, 0x02, 0xF0, 0x80, 0x01, 0x00, 0x01, 0x00, 0x64, 0x61, 0x74, 0x61,
 ];
 /// A point, which duplex alone doesn't have.
-const MIP: &[u8] = &[
+pub(crate) const MIP: &[u8] = &[
     0x03, 0x00, 0x00, 0x0E, 0x02, 0xF0, 0x80, 0x01, 0x00, 0x31, 0x03, 0x2A, 0x01, 0x31,
 ];
 /// The header of a DT of 65,528 octets that does not end its TSDU, and the units before the octets of data.
@@ -70,7 +70,7 @@ const OPENING: &[(Direction, &[u8])] = &[(Left, CR), (Right, CC), (Left, CN), (R
 const IN_TURN: &[(Direction, &[u8])] = &[(Left, CR_2), (Right, CC_2), (Left, DR_2), (Right, DC_2)];
 
 /// How many octets a tap takes, all of them if memory runs out.
-fn taken(checks: &Checks, tap: &mut Tap, direction: Direction, octets: &[u8]) -> usize {
+pub(crate) fn taken(checks: &Checks, tap: &mut Tap, direction: Direction, octets: &[u8]) -> usize {
     match tap.feed(direction, octets) {
         Ok(used) => used,
         Err(_) => {
