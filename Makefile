@@ -22,14 +22,13 @@
 # too, and runs both against programs of others (docs/INTEROP.md); make slow-peers and make scaling run them against peers
 # that are slow or silent, and in several processes. make soak MESSAGES=200000: so many messages in each row of a table.
 # make witnesses: builds the program and the library, and plays the scripts of osi judge --script (docs/JUDGING.md).
-# make two-judges: builds the same, and compares osi judge with the library on damaged captures (docs/TRIALS.md).
 # make ladders: draws the pictures of docs/ladders from examples/ladders (docs/LADDERS.md); make ladders-check runs the
 # tests of the programs in tools/ (these, and osi-capture), and compares.
 # make pages: checks the links, limits and commands of the pages; it proves and builds nothing (scripts/pages).
 # make ledger: builds the same and the benchmarks, counts the instructions of each operation that a benchmark times, and
 # fails if one takes more than bench/ledger.txt says; it takes some minutes if everything is proved.
 .PHONY: all test quick edits bench ledger lib install uninstall dist check-dist release check-release gateways trials fuzz ladders
-.PHONY: ladders-check pages mms interop slow-peers scaling soak witnesses two-judges
+.PHONY: ladders-check pages mms interop slow-peers scaling soak witnesses
 PREFIX ?= /usr/local
 LIBDIR ?= $(PREFIX)/lib
 SECONDS ?= 60
@@ -108,9 +107,6 @@ scaling: mms
 
 witnesses: all lib
 	scripts/witnesses
-
-two-judges: all lib
-	scripts/two_judges
 
 soak: lib
 	scripts/soak $(MESSAGES)
