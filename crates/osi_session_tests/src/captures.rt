@@ -220,10 +220,7 @@ fn is_found(checks: &Checks, tap: &Tap, capture: &Capture) {
         are_found(tap, capture.left, capture.right),
         "something else is found",
     );
-    checks.that(
-        first_of(tap) == capture.first,
-        "another break is the first",
-    );
+    checks.that(first_of(tap) == capture.first, "another break is the first");
     checks.that(
         broke_at(tap) == capture.broke,
         "left's transport stands otherwise",

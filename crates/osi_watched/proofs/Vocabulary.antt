@@ -64,7 +64,6 @@ pub use Rattle.osi_carrier.specs.declared.faults.OpenError.{OpenError}
 pub use Rattle.osi_carrier.specs.declared.faults.OpenError.TheVariants.{Ended, NotCaller}
 pub use Rattle.osi_session.proofs.tsdu.what_is_sent_is_taken_as_meant.{said_again}
 pub use Rattle.osi_session.specs.Listening.{Input, Listener, called}
-pub use Rattle.osi_session.specs.Sessions.{awaits}
 pub use Rattle.osi_session.specs.Standing.{Seen}
 pub use Rattle.osi_stack.proofs.called.what_is_sent_is_short.{SpduLaws}
 pub use Rattle.osi_stack.proofs.carried.events_one_after_the_other.{concluded_carrier}

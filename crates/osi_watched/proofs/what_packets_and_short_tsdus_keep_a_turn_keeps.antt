@@ -6,7 +6,7 @@ use Rattle.osi_watched.proofs.Vocabulary.{List, nat_lt, None, Option, option_map
 use Rattle.osi_watched.proofs.Vocabulary.{◌≡◌, ◌⊎◌, nat_tests, append-nil, take-append-drop, take_all, AllByRecursion, list_any, IsOctets}
 use Rattle.osi_watched.proofs.Vocabulary.{ArePackets, Fed, tsap_octets, Tsap, Standing, acts_cases, closed_with, may_connect}
 use Rattle.osi_watched.proofs.Vocabulary.{send_all_error, sent_all, Happening, Carrier, EndReason, NoMemory, OpenError, called, Input}
-use Rattle.osi_watched.proofs.Vocabulary.{Listener, awaits, concluded_carrier, packet_is, quiet_stops, events_heard, disconnect_carrier}
+use Rattle.osi_watched.proofs.Vocabulary.{Listener, concluded_carrier, packet_is, quiet_stops, events_heard, disconnect_carrier}
 use Rattle.osi_watched.proofs.Vocabulary.{none_ended, found_how, after_open, Feeds, Goes as GoesThrough, TakesPackets, uses_all}
 use Rattle.osi_watched.proofs.Vocabulary.{hears_times, RunsOut, Starves, with_carrier, with_events, AreShort, carrier_by, to_session}
 use Rattle.osi_watched.proofs.Vocabulary.{calling, Call, Calls, carried_in, used_in, End, Holding, ConnectError, AllProper, all_octets}
@@ -16,7 +16,6 @@ use Rattle.osi_carrier.specs.Packets as carriers
 use Rattle.osi_carrier.specs.State as states
 use Rattle.osi_stack.specs.Hearing.{ends}
 use Rattle.osi_stack.specs.State.{waits}
-use Rattle.osi_honest.specs.Talking as history
 use Rattle.osi_honest.specs.Turns.{Act, Acts}
 
 -- ---- what a session sends
