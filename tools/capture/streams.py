@@ -311,6 +311,7 @@ class Joining:
         elif all(front and not may_be_request(front) for front in fronts) or max(map(len, fronts)) > 6:
             stream.is_other = True
             stream.pieces.clear()
+            stream.directions = {end: Direction() for end in stream.ends}
 
     def finish(self):
         """Ends all streams; these streams."""

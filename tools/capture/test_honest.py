@@ -463,6 +463,13 @@ class Watched(unittest.TestCase):
         self.assertNotIn("broke", out)
         self.assertIn("both kept the protocol, judged up to frame 17, whose octets left sent again as others in frame 18", out)
 
+    def test_a_side_that_sends_nothing(self):
+        """A break of the other one is none that anybody can be sure of."""
+        made = Frames().begin().send("left", data(b"\1\0\1\0wrong")).put("right").put("right", flags=RESET | ACK)
+        self.assertIn("not judged: a protocol whose data", self.fed(made.frames))
+        made = Frames(ports={"left": 41_000, "right": 102}).begin().send("left", CR, data(b"\x0d\0wrong")).put("right")
+        self.assertIn("not judged: right sent nothing", self.fed(made.put("right", flags=RESET | ACK).frames))
+
     def test_a_connection_with_the_numbers_of_the_one_before(self):
         self.assertEqual(self.fed(whole()[0]).count("both kept"), 1)
         self.assertRegex(self.fed(whole()[0]), "stream 1 .*both kept")

@@ -464,13 +464,13 @@ class ByLibrary(unittest.TestCase):
 
     printed = Watching.printed
 
-    def test_a_break_is_told_as_soon_as_it_has_passed_and_once(self):
+    def test_a_break_is_told_as_soon_as_it_is_acknowledged_and_once(self):
         rows = Rows().of("restart")
-        self.assertEqual(self.printed(*rows[:12]), "")
-        told = self.printed(rows[12])
+        self.assertEqual(self.printed(*rows[:13]), "")
+        told = self.printed(rows[13])
         said = f"{NAME}: frame 13, 1.500000 seconds: left broke the protocol first, in its packet at octet 143."
         self.assertTrue(told.startswith(said), told)
-        self.assertEqual(self.printed(*rows[13:], is_end=True), "")
+        self.assertEqual(self.printed(*rows[14:], is_end=True), "")
         self.assertEqual((self.watching.status(), self.watching.watched), (1, {}))
 
     def test_no_octet_is_kept(self):
@@ -526,7 +526,7 @@ class ByLibrary(unittest.TestCase):
                                  ("right", f"0300001d04f0000{left:x}800e12050c1301011601021701311a0100140200b9")):
                 told += self.printed(rows.row(side, bytes.fromhex(octets)))
         self.assertEqual(told, "")
-        told = self.printed(rows.row("right", bytes.fromhex("0300001104f00003810100010064617461")))
+        told = self.printed(rows.row("right", bytes.fromhex("0300001104f00003810100010064617461")), rows.row("left"))
         said = "right broke the protocol first, in its packet at octet 92. It sent data (DT); it did not hold the data token "
         self.assertTrue(told.startswith(f"{NAME}: frame 11, 1.000000 seconds: {said}"), told)
         self.assertEqual(self.printed(rows.row("left", bytes.fromhex("0300001104f00002810100010064617461")), is_end=True), "")

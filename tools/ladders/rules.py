@@ -3,6 +3,7 @@
 A clause is quoted by its number and its title. The numbers are those of X.225 and X.224 of November 1995; where a number isn't certain
 the title is quoted alone.
 """
+import re
 
 X_225 = {"7.1": "CONNECT SPDU", "7.4": "ACCEPT SPDU", "7.5": "REFUSE SPDU", "7.6": "FINISH SPDU", "7.7": "DISCONNECT SPDU",
          "7.8": "NOT FINISHED SPDU", "7.9": "ABORT SPDU", "7.10": "ABORT ACCEPT SPDU", "7.11": "DATA TRANSFER SPDU",
@@ -80,6 +81,9 @@ OF_TRANSPORT = {
 # Of a packet (RFC 1006 section 6).
 OF_PACKETS = {"BadVersion": "no packet begins there: its first octet{first} is not 3",
               "BadLength": "the header there says that the packet has fewer than 7 octets"}
+# Why, if not everything is known of the packet and of the state of its side.
+UNKNOWN = {"BadNumber": "its number is not one that is allowed", "SizeExceeded": "it has more octets than the agreed TPDU size",
+           "LargerSize": "it selects a larger TPDU size than the connect request offers"}
 # Of several of these.
 ANSWERS = {"AbortAccept": "there was no abort to answer",
            "DC": "there was no disconnect request with its references that is not answered yet"}
@@ -138,14 +142,14 @@ def transport_clause(what, rule):
 def why(what, rule, known):
     """Why a side may not send this, in words."""
     text = text_of(what, rule)
-    return f"`osi judge` calls that {rule}" if text is None else text.format_map(Known(known))
+    if text is None:
+        return f"`osi judge` calls that {rule}"
+    is_known = all(name in known for name in re.findall(r"{(\w+)}", text))
+    return (text if is_known else UNKNOWN.get(rule, text)).format_map(Known(known))
 
 
 class Known(dict):
     """What is known of a packet and of the state of its side; words for what isn't."""
 
-    UNKNOWN = {"phase": "that it was in", "next": "?", "below": "?", "lowest": "?", "size": "more", "offered": "fewer",
-               "octets": "more", "agreed": "less"}
-
     def __missing__(self, key):
-        return self.UNKNOWN.get(key, "")
+        return "that it was in" if key == "phase" else ""

@@ -133,6 +133,14 @@ class Details(unittest.TestCase):
         self.assertIn("it selects TPDUs of 2,048 octets, and the connect request offers 1,024 "
                       '(X.224, 13.3.4 "Connection request TPDU, variable part")', said)
 
+    def test_what_is_not_known_is_left_out(self):
+        """A watch tells a break by its line alone."""
+        for what, rule, wanted in (("DT", "SizeExceeded", "it has more octets than the agreed TPDU size (X.224, 13.3.4"),
+                                   ("CC", "LargerSize", "it selects a larger TPDU size than the connect request offers (X.224"),
+                                   ("Minor", "BadNumber", "its number is not one that is allowed (X.225"),
+                                   ("Data", "BadState", "a session may not send that in the phase that it was in (X.225")):
+            self.assertIn(wanted, verdicts.reason(told(what, rule), "left"))
+
     def test_references(self):
         said = self.reason("right", "CC", "UnknownReference", self.REQUEST, self.CONFIRM.replace("d00001", "d00009"), 0)
         self.assertIn('there is no connection with the reference 0009 (X.224, 6.9 "Association of TPDUs with transport connections")', said)
