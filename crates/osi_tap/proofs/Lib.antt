@@ -1,6 +1,7 @@
 mod Vocabulary
 pub mod what_is_kept_of_a_side_is_what_passed
 pub mod the_session_of_a_side_is_known
+pub mod what_is_told_of_a_connection
 pub mod each_connection_is_kept
 pub mod a_dt_is_judged_if_there_is_room
 pub mod each_session_has_heard_all

@@ -59,6 +59,9 @@ pub use Rattle.osi_tap.specs.Holding.{IsDue, IsFirst, IsHeard, IsPlace, Lined, b
 pub use Rattle.osi_tap.specs.Holding.{unheard_at, unit_due}
 pub use Rattle.osi_tap.specs.Lines.{Said, Spoken, added, before, begun_before, begun_octets, heard, kept_of, place_in, told, told_of}
 pub use Rattle.osi_tap.specs.Owing.{Comes, HoldsAll, OwesLast, OwesUnits}
+pub use Rattle.osi_tap.specs.KnownSessions.{IsSession}
+pub use Rattle.osi_tap.specs.Outcomes.{IsOutcomeOf, SaysSo, StandsSo, Strayed, state_of, violation_of}
+pub use Rattle.osi_tap.specs.Pasts.{AllPast, HoldsPast, HoldsPastOf, outcome_of}
 pub use Rattle.osi_tap.specs.Rooms.{fits, is_over}
 pub use Rattle.osi_tap.specs.Standing.{HoldsBy, HoldsNow, HoldsOpen, HoldsPart, HoldsState, HoldsStream, IsFed, IsJudged, IsPart, due_if}
 pub use Rattle.osi_tap.specs.Standing.{first_in, pick}
@@ -77,7 +80,10 @@ pub use Rattle.osi_tap.specs.declared.marks.First.{First}
 pub use Rattle.osi_tap.specs.declared.marks.Layer.TheVariants.{Session, Transport}
 pub use Rattle.osi_tap.specs.declared.marks.Mark.{Mark}
 pub use Rattle.osi_tap.specs.declared.marks.Marks.{Marks}
+pub use Rattle.osi_tap.specs.declared.pasts.Past.{Past}
 pub use Rattle.osi_tap.specs.declared.rooms.Room.{Room}
 pub use Rattle.osi_tap.specs.declared.rooms.Room.TheVariants.{All, Octets, Over}
+pub use Rattle.osi_tap.specs.declared.sessions.Found.{Found}
+pub use Rattle.osi_tap.specs.declared.sessions.Found.TheVariants.{Placed, Replaced}
 pub use Rattle.osi_tap.specs.declared.tap.Tap.{Tap}
 pub use Rattle.osi_tap.specs.declared.watch.Watch.{Watch}

@@ -1,9 +1,10 @@
 -- What is kept of the connections stays what passed of them, as one is changed, added or given up, and as all begin a packet:
 -- for the connections of a byte connection.
 use Rattle.osi_tap.proofs.Vocabulary.{◌≡◌, ℕ, zero, suc, ◌+◌, ◌<◌, ◌≤◌, List, [], ◌∷◌, ◌++◌, length, take, drop, map, get_or, set, arith}
-use Rattle.osi_tap.proofs.Vocabulary.{refl, ap, sym, Option, Some, None, add-one, cond, ◌==◌, find-append, find, option_map, number_of}
-use Rattle.osi_tap.proofs.Vocabulary.{slice_get, Connection, Room, Joined, Sessions, asked, changed, placed, has_number, numbered}
-use Rattle.osi_tap.proofs.Vocabulary.{HoldsJoined, HoldsFound, HoldAll}
+use Rattle.std.specs.Borrow.{Bor}
+use Rattle.osi_tap.proofs.Vocabulary.{refl, ap, sym, Option, Some, None, add-one, cond, ◌==◌, find-append, find, option_map, option_or, subst, number_of}
+use Rattle.osi_tap.proofs.Vocabulary.{slice_get, Connection, Past, Found, Room, Joined, Sessions, asked, changed, placed, has_number}
+use Rattle.osi_tap.proofs.Vocabulary.{option_copied, numbered, HoldsJoined, HoldsFound, HoldAll, HoldsPast, HoldsPastOf, AllPast, Placed, Replaced}
 
 pub all_length : (cs : List Connection) (js : List Joined) → HoldAll cs js → length cs ≡ length js
 all_length [] [] h = refl
@@ -17,6 +18,31 @@ all_more [] [] c j h e = (e, tt)
 all_more [] (i ∷ js) c j h e = absurd h
 all_more (d ∷ cs) [] c j h e = absurd h
 all_more (d ∷ cs) (i ∷ js) c j h e = (h.0, all_more cs js c j h.1 e)
+
+-- ---- those that are over
+
+pub past_length : (ps : List Past) (js : List Joined) → AllPast ps js → length ps ≡ length js
+past_length [] [] h = refl
+past_length [] (j ∷ js) h = absurd h
+past_length (p ∷ ps) [] h = absurd h
+past_length (p ∷ ps) (j ∷ js) h = ap suc (past_length ps js h.1)
+
+past_more : (ps : List Past) (js : List Joined) (p : Past) (j : Joined) → AllPast ps js → HoldsPast p j
+    → AllPast (ps ++ p ∷ []) (js ++ j ∷ [])
+past_more [] [] p j h e = (e, tt)
+past_more [] (i ∷ js) p j h e = absurd h
+past_more (q ∷ ps) [] p j h e = absurd h
+past_more (q ∷ ps) (i ∷ js) p j h e = (h.0, past_more ps js p j h.1 e)
+
+-- what is kept of the one at a place
+pub past_at : (cs : List Connection) (js : List Joined) (i : ℕ) (c : Connection) (p : Past) → i < length cs
+    → ((j : Joined) → HoldsJoined (get_or cs i c) j → HoldsPast p j) → HoldAll cs js → HoldsPastOf p (slice_get js i)
+past_at [] js i c p lt step h = absurd (omega arith)
+past_at (d ∷ cs) [] i c p lt step h = absurd h
+past_at (d ∷ cs) (j ∷ js) zero c p lt step h = step j h.0
+past_at (d ∷ cs) (j ∷ js) (suc i) c p lt step h = past_at cs js i c p (omega arith) step h.1
+
+-- ---- those that have a place
 
 -- the one at a place, and the list after it is changed
 pub record HasElement (cs : List Connection) (js : List Joined) (i : ℕ) (c : Connection) : Type 0 where
@@ -33,10 +59,10 @@ element (c ∷ cs) (j ∷ js) zero d lt h = record { joined = j; there = refl; h
 element (c ∷ cs) (j ∷ js) (suc i) d lt h = grind (arith, element cs js i d (omega arith) h.1)
 
 -- one of them is changed
-pub one_changed : (cs ds : List Connection) (s : Sessions) (i : ℕ) (c d : Connection) (f : Joined → Joined) → i < length cs
-    → ((j : Joined) → HoldsJoined (get_or cs i c) j → HoldsJoined d (f j)) → HoldAll cs s.live → HoldAll ds s.done
-    → HoldAll (set cs i d) (changed i f s (slice_get s.live i)).live × HoldAll ds (changed i f s (slice_get s.live i)).done
-one_changed cs ds s i c d f lt step live done = grind (arith, set, element cs s.live i c lt live)
+pub one_changed : (cs : List Connection) (ps : List Past) (s : Sessions) (i : ℕ) (c d : Connection) (f : Joined → Joined) → i < length cs
+    → ((j : Joined) → HoldsJoined (get_or cs i c) j → HoldsJoined d (f j)) → HoldAll cs s.live → AllPast ps s.done
+    → HoldAll (set cs i d) (changed i f s (slice_get s.live i)).live × AllPast ps (changed i f s (slice_get s.live i)).done
+one_changed cs ps s i c d f lt step live done = grind (arith, set, element cs s.live i c lt live)
 
 pub none_there : (js : List Joined) (i : ℕ) → length js ≤ i → slice_get js i ≡ None
 none_there [] i le = refl
@@ -44,23 +70,22 @@ none_there (j ∷ js) zero le = absurd (omega arith)
 none_there (j ∷ js) (suc i) le = none_there js i (omega arith)
 
 -- none is at a place beyond them
-pub none_changed : (cs ds : List Connection) (s : Sessions) (i : ℕ) (f : Joined → Joined) → length cs ≤ i → HoldAll cs s.live
-    → HoldAll ds s.done
-    → HoldAll cs (changed i f s (slice_get s.live i)).live × HoldAll ds (changed i f s (slice_get s.live i)).done
-none_changed cs ds s i f le live done = grind (arith, all_length, none_there)
+pub none_changed : (cs : List Connection) (ps : List Past) (s : Sessions) (i : ℕ) (f : Joined → Joined) → length cs ≤ i
+    → HoldAll cs s.live → AllPast ps s.done
+    → HoldAll cs (changed i f s (slice_get s.live i)).live × AllPast ps (changed i f s (slice_get s.live i)).done
+none_changed cs ps s i f le live done = grind (arith, all_length, none_there)
 
 -- one more is requested, at a place of its own
-pub one_more : (cs ds : List Connection) (s : Sessions) (i : ℕ) (c : Connection) (j : Joined) → length cs ≤ i → HoldsJoined c j
-    → HoldAll cs s.live → HoldAll ds s.done
-    → HoldAll (cs ++ c ∷ []) (placed i j s (slice_get s.live i)).live × HoldAll ds (placed i j s (slice_get s.live i)).done
-one_more cs ds s i c j le holds live done = grind (arith, all_length, none_there, all_more)
+pub one_more : (cs : List Connection) (ps : List Past) (s : Sessions) (i : ℕ) (c : Connection) (j : Joined) → length cs ≤ i
+    → HoldsJoined c j → HoldAll cs s.live → AllPast ps s.done
+    → HoldAll (cs ++ c ∷ []) (placed i j s (slice_get s.live i)).live × AllPast ps (placed i j s (slice_get s.live i)).done
+one_more cs ps s i c j le holds live done = grind (arith, all_length, none_there, all_more)
 
--- one more is requested, and gets the place of another
-pub one_replaced : (cs ds : List Connection) (s : Sessions) (i : ℕ) (c d : Connection) (j : Joined) → i < length cs → HoldsJoined d j
-    → HoldAll cs s.live → HoldAll ds s.done
-    → HoldAll (set cs i d) (placed i j s (slice_get s.live i)).live × HoldAll (ds ++ get_or cs i c ∷ []) (placed i j s
-    (slice_get s.live i)).done
-one_replaced cs ds s i c d j lt holds live done = grind (arith, set, all_more, element cs s.live i c lt live)
+-- one more is requested, and gets the place of another, of which this is kept
+pub one_replaced : (cs : List Connection) (ps : List Past) (s : Sessions) (i : ℕ) (c d : Connection) (p : Past) (j : Joined) → i < length cs
+    → HoldsJoined d j → HoldsPastOf p (slice_get s.live i) → HoldAll cs s.live → AllPast ps s.done
+    → HoldAll (set cs i d) (placed i j s (slice_get s.live i)).live × AllPast (ps ++ p ∷ []) (placed i j s (slice_get s.live i)).done
+one_replaced cs ps s i c d p j lt holds past live done = grind (arith, set, past_more, element cs s.live i c lt live)
 
 -- how much is judged of each stays
 
@@ -122,18 +147,62 @@ one_kept (b ∷ cs) (j ∷ js) (suc i) c d lt step h = (h.0, one_kept cs js i c 
 
 -- ---- the one with a number
 
-pub found_held : (number : ℕ) (cs : List Connection) (js : List Joined) → HoldAll cs js
-    → HoldsFound (find (λ c. c.number == number) cs) (find (has_number number) js)
-found_held number [] [] h = tt
-found_held number [] (j ∷ js) h = absurd h
-found_held number (c ∷ cs) [] h = absurd h
-found_held number (c ∷ cs) (j ∷ js) h = grind (arith, cond, found_held number cs js h.1)
+abbrev HoldsLive : Option Connection → Option Joined → Type 0
+HoldsLive None None = Unit {0}
+HoldsLive (Some c) (Some j) = HoldsJoined c j
+HoldsLive None (Some j) = ⊥
+HoldsLive (Some c) None = ⊥
 
-pub live_found : (number : ℕ) (cs : List Connection) (c : Connection) (s : Sessions) → find (λ c. c.number == number) cs ≡ Some c
-    → HoldAll cs s.live → HoldsFound (Some c) (numbered number s)
-live_found number cs c s e h = grind (arith, find-append, found_held)
+live_held : (number : ℕ) (cs : List Connection) (js : List Joined) → HoldAll cs js
+    → HoldsLive (find (λ c. c.number == number) cs) (find (has_number number) js)
+live_held number [] [] h = tt
+live_held number [] (j ∷ js) h = absurd h
+live_held number (c ∷ cs) [] h = absurd h
+live_held number (c ∷ cs) (j ∷ js) h = grind (arith, cond, live_held number cs js h.1)
 
-pub done_found : (number : ℕ) (cs ds : List Connection) (o : Option Connection) (s : Sessions)
-    → find (λ c. c.number == number) cs ≡ None → o ≡ find (λ c. c.number == number) ds → HoldAll cs s.live → HoldAll ds s.done
-    → HoldsFound o (numbered number s)
-done_found number cs ds o s e is h k = grind (arith, find-append, found_held)
+abbrev HoldsOver : Option Past → Option Joined → Type 0
+HoldsOver None None = Unit {0}
+HoldsOver (Some p) (Some j) = HoldsPast p j
+HoldsOver None (Some j) = ⊥
+HoldsOver (Some p) None = ⊥
+
+past_held : (number : ℕ) (ps : List Past) (js : List Joined) → AllPast ps js
+    → HoldsOver (find (λ p. p.number == number) ps) (find (has_number number) js)
+past_held number [] [] h = tt
+past_held number [] (j ∷ js) h = absurd h
+past_held number (p ∷ ps) [] h = absurd h
+past_held number (p ∷ ps) (j ∷ js) h = grind (arith, cond, past_held number ps js h.1)
+
+-- it has a place
+pub live_found : (number : ℕ) (cs : List Connection) (c : Bor Connection) (s : Sessions) → find (λ k. k.number == number) cs ≡ Some c.now
+    → HoldAll cs s.live → HoldsFound (Some (Placed c)) (numbered number s)
+live_found number cs c s e h =
+    subst (λ (o : Option Joined). HoldsFound (Some (Placed c)) o) (sym (find-append (has_number number) s.live s.done))
+    (in_front (find (has_number number) s.live) (find (has_number number) s.done)
+    (subst (λ (o : Option Connection). HoldsLive o (find (has_number number) s.live)) e (live_held number cs s.live h)))
+  where
+    in_front : (o q : Option Joined) → HoldsLive (Some c.now) o → HoldsFound (Some (Placed c)) (option_or o q)
+    in_front None q held = absurd held
+    in_front (Some j) q held = held
+
+-- or it is over
+abbrev pub over_found : Option (Bor Past) → Option Found
+over_found None = None
+over_found (Some p) = Some (Replaced p)
+
+pub done_found : (number : ℕ) (cs : List Connection) (ps : List Past) (o : Option (Bor Past)) (s : Sessions)
+    → find (λ c. c.number == number) cs ≡ None → option_copied o ≡ find (λ p. p.number == number) ps → HoldAll cs s.live → AllPast ps s.done
+    → HoldsFound (over_found o) (numbered number s)
+done_found number cs ps o s e is h k =
+    subst (λ (x : Option Joined). HoldsFound (over_found o) x) (sym (find-append (has_number number) s.live s.done))
+    (behind o (find (has_number number) s.live) (find (has_number number) s.done)
+    (subst (λ (x : Option Connection). HoldsLive x (find (has_number number) s.live)) e (live_held number cs s.live h))
+    (subst (λ (x : Option Past). HoldsOver x (find (has_number number) s.done)) (sym is) (past_held number ps s.done k)))
+  where
+    behind : (o : Option (Bor Past)) (p q : Option Joined) → HoldsLive None p → HoldsOver (option_copied o) q
+        → HoldsFound (over_found o) (option_or p q)
+    behind o (Some j) q live over = absurd live
+    behind None None None live over = tt
+    behind None None (Some j) live over = absurd over
+    behind (Some p) None None live over = absurd over
+    behind (Some p) None (Some j) live over = over

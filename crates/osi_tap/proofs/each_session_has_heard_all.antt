@@ -1,7 +1,7 @@
 -- The sessions of connections have heard all that the other side said: for the functions that hand it over, one connection after
 -- the other, and for those that find a connection.
 use Rattle.osi_tap.proofs.Vocabulary.{◌≡◌, ℕ, zero, suc, ◌+◌, ◌<◌, List, [], ◌∷◌, length, take, set, get_or, arith, subst, sym, add-one}
-use Rattle.osi_tap.proofs.Vocabulary.{◌==◌, Option, None, find, Direction, Connection, Watch, Course, AreHeard, FoundHeard, IsHeard}
+use Rattle.osi_tap.proofs.Vocabulary.{◌==◌, Option, Some, None, find, Direction, Connection, Watch, Course, AreHeard, IsHeard}
 use Rattle.osi_tap.proofs.Vocabulary.{HoldsAll, HoldsBy, Streamed, State}
 
 front_at : (cs : List Connection) (i : ℕ) (d : Connection) → i < length cs → IsHeard d → AreHeard (take i cs)
@@ -26,7 +26,11 @@ still_heard (x ∷ cs) (suc i) c k h = (h.0, still_heard cs i c k h.1)
 
 -- ---- the one with a number
 
-pub found_heard : (number : ℕ) (cs : List Connection) → AreHeard cs → FoundHeard (find (λ c. c.number == number) cs)
+abbrev pub LiveHeard : Option Connection → Type 0
+LiveHeard None = Unit {0}
+LiveHeard (Some c) = IsHeard c
+
+pub found_heard : (number : ℕ) (cs : List Connection) → AreHeard cs → LiveHeard (find (λ c. c.number == number) cs)
 found_heard number [] h = tt
 found_heard number (c ∷ cs) h = grind (arith, found_heard number cs h.1)
 

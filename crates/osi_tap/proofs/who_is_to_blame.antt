@@ -1,16 +1,17 @@
 -- A side of a connection is to blame or it is not, and a unit changes that of its own side of its own connection alone.
 -- For the functions that give a unit to a connection, and for those that look whether a session broke the protocol.
-use Rattle.osi_tap.proofs.Vocabulary.{◌≡◌, refl, sym, subst, ℕ, zero, suc, ◌+◌, ◌<◌, ◌≤◌, inl, Bool, true, false, List, [], ◌∷◌, ◌++◌}
+use Rattle.osi_tap.proofs.Vocabulary.{◌≡◌, refl, sym, subst, ℕ, zero, suc, ◌<◌, ◌≤◌, inl, Bool, true, false, List, [], ◌∷◌, ◌++◌}
 use Rattle.osi_tap.proofs.Vocabulary.{length, map, take, get_or, set, Option, Some, None, arith, take-append-le, slice_get, Seen, other}
 use Rattle.osi_tap.proofs.Vocabulary.{done, IsFound, IsFew, HasRoom, broke_session, begin_of, Direction, Left, Right, Finding, Kept, Broke}
 use Rattle.osi_tap.proofs.Vocabulary.{TooMany, Strays, never_strays, no_crowd, Connection, IsFoundOf, IsBlameless, IsToBlame, AreBlameless}
 use Rattle.osi_tap.proofs.Vocabulary.{AreBlamelessBut, NobodyIs, NobodyElseIs, Blames, Room, Joined, Sessions, asked, asked_at, placed}
-use Rattle.osi_tap.proofs.Vocabulary.{changed, packet_begins, all_begin, line_in, HoldsJoined, HoldAll}
+use Rattle.osi_tap.proofs.Vocabulary.{changed, packet_begins, all_begin, line_in, HoldsJoined, HoldAll, IsSession, Watched}
 use Rattle.osi_judge.specs.Explaining.{Told}
 use Rattle.osi_judge.specs.Kept.{kept}
 use Rattle.osi_judge.specs.declared.findings.Finding.TheVariants.{Left as Astray}
 use Rattle.osi_tap.proofs.each_connection_is_kept.{element, all_length, none_there}
 use Rattle.osi_tap.proofs.what_is_kept_of_a_side_is_what_passed.{found_at, room_at}
+use Rattle.osi_tap.proofs.the_session_of_a_side_is_known.{session_found, session_room}
 
 -- ---- one thing is found of a side
 
@@ -57,6 +58,10 @@ not_true b f = grind arith
 pub broken : (d : Direction) (c : Connection) (j : Joined) → HoldsJoined c j → IsToBlame d j
     → broke_session (line_in d c).side.finding ≡ true
 broken d c j h k = same_blame (begin_of d) _ _ k.finding _ k.broke k.found.found k.found.room (found_at d c j h) (room_at d c j h)
+
+pub session_blamed : (d : Direction) (j : Joined) (w : Watched) → IsSession d j w → IsToBlame d j → broke_session w.finding ≡ true
+session_blamed d j w h k =
+    same_blame (begin_of d) _ _ k.finding _ k.broke k.found.found k.found.room (session_found d j w h) (session_room d j w h)
 
 unbroken : (d : Direction) (c : Connection) (j : Joined) → HoldsJoined c j → IsBlameless d j
     → broke_session (line_in d c).side.finding ≡ false

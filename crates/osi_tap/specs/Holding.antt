@@ -21,12 +21,15 @@ use Rattle.osi_tap.specs.declared.streams.Shape.TheVariants.{Partial, Faulty, Wh
 use Rattle.osi_tap.specs.declared.streams.Stream.{Stream}
 use Rattle.osi_tap.specs.Courses.{Course, applied, unit_passes}
 use Rattle.osi_tap.specs.Blaming.{IsEarliest}
+use Rattle.osi_tap.specs.declared.sessions.Found.{Found}
+use Rattle.osi_tap.specs.declared.sessions.Found.TheVariants.{Placed, Replaced}
 use Rattle.osi_tap.specs.declared.sessions.Sessions.{Sessions as Kept}
+use Rattle.osi_tap.specs.Pasts.{HoldsPast, AllPast}
 use Rattle.osi_tap.specs.declared.watch.Watch.{Watch}
 use Rattle.osi_tpdu.specs.Value.{Value}
 use Rattle.osi_judge.specs.declared.directions.Direction.{Direction}
 use Rattle.osi_judge.specs.declared.directions.Direction.TheVariants.{Left, Right}
-use Rattle.osi_rules.specs.declared.findings.Told.{Told as Found}
+use Rattle.osi_rules.specs.declared.findings.Told.{Told as Noted}
 
 -- a side of a connection, as it is kept
 pub record Lined : Type 0 where
@@ -120,15 +123,15 @@ abbrev pub AreHeard : List Connection → Type 0
 AreHeard [] = Unit {0}
 AreHeard (c ∷ cs) = IsHeard c × AreHeard cs
 
--- of a connection that is sought
-abbrev pub FoundHeard : Option Connection → Type 0
+-- of a connection that is sought, if it has a place
+abbrev pub FoundHeard : Option Found → Type 0
 FoundHeard None = Unit {0}
-FoundHeard (Some c) = IsHeard c
+FoundHeard (Some (Placed c)) = IsHeard c.now
+FoundHeard (Some (Replaced p)) = Unit {0}
 
--- of all connections
-pub record AllHeard (k : Kept) : Type 0 where
-  pub live : AreHeard k.live.items
-  pub done : AreHeard k.done.items
+-- of all connections that have a place
+abbrev pub AllHeard : Kept → Type 0
+AllHeard k = AreHeard k.live.items
 
 -- of connections, one after the other
 abbrev pub HoldAll : List Connection → List Joined → Type 0
@@ -137,17 +140,22 @@ HoldAll (c ∷ cs) (j ∷ js) = HoldsJoined c j × HoldAll cs js
 HoldAll [] (j ∷ js) = ⊥
 HoldAll (c ∷ cs) [] = ⊥
 
+-- of one that has a place, or is over
+abbrev pub HoldsEither : Found → Joined → Type 0
+HoldsEither (Placed c) j = HoldsJoined c.now j
+HoldsEither (Replaced p) j = HoldsPast p.now j
+
 -- of a connection that is sought
-abbrev pub HoldsFound : Option Connection → Option Joined → Type 0
+abbrev pub HoldsFound : Option Found → Option Joined → Type 0
 HoldsFound None None = Unit {0}
-HoldsFound (Some c) (Some j) = HoldsJoined c j
+HoldsFound (Some f) (Some j) = HoldsEither f j
 HoldsFound None (Some j) = ⊥
-HoldsFound (Some c) None = ⊥
+HoldsFound (Some f) None = ⊥
 
 -- of all connections
 pub record HoldsSessions (k : Kept) (s : Sessions) : Type 0 where
   pub live : HoldAll k.live.items s.live
-  pub done : HoldAll k.done.items s.done
+  pub done : AllPast k.done.items s.done
   pub room : k.room ≡ s.room
 
 -- the break that is told as the first: if this is the first of transport, then this one, unless a session broke before it
@@ -177,12 +185,12 @@ pub record HoldsCourse (w : Watch) (c : Course) : Type 0 where
 -- ---- a packet of which some has passed, and the rest waits for memory
 
 -- what the next unit comes to, of which this is told already, or nothing
-abbrev pub unit_due : Option Found → Direction → (at : ℕ) → Value → Course → Course
+abbrev pub unit_due : Option Noted → Direction → (at : ℕ) → Value → Course → Course
 unit_due None d at v c = unit_passes d at v c
 unit_due (Some told) d at v c = applied d at v told c
 
 -- of the next unit this is told, and it comes to this
-pub record IsTold (w : Watch) (d : Direction) (at : ℕ) (v : Value) (told : Found) (c : Course) : Type 0 where
+pub record IsTold (w : Watch) (d : Direction) (at : ℕ) (v : Value) (told : Noted) (c : Course) : Type 0 where
   pub by_now : Course
   pub holds : HoldsCourse w by_now
   pub comes : applied d at v told by_now ≡ c

@@ -5,6 +5,8 @@ pub mod Bounds
 pub mod Courses
 pub mod Blaming
 pub mod KnownSessions
+pub mod Outcomes
+pub mod Pasts
 pub mod Streams
 pub mod Tapping
 pub mod Holding

@@ -10,10 +10,14 @@ ghost use Rattle.osi_judge.specs.Tapping.{begin_of};
 ghost use Rattle.osi_tpkt.specs.Stream.{offset_of};
 ghost use Rattle.osi_tap.specs.Lines.{told, heard};
 ghost use Rattle.osi_tap.specs.Connections.{Joined, asked, packet_begins, opened, shut, adds, adds_all, kept_on, spoken, reference_of};
+ghost use Rattle.osi_tap.specs.Outcomes.{SaysSo, violation_of};
+ghost use Rattle.osi_tap.specs.Pasts.{HoldsPast};
 ghost use Rattle.osi_tap.specs.Rooms.{is_over};
 ghost use Rattle.osi_tap.specs.Holding.{lined, line_in, HoldsJoined, IsHeard, IsPlace};
 
 use crate::lines::{Line, add_last, hand_over_both};
+use crate::outcomes::{Outcome, Violation, state_of, violation_of};
+use crate::pasts::{Ended, Past};
 use crate::rooms::Room;
 use osi_class::Class;
 use osi_judge::{Direction, Finding, Side};
@@ -247,6 +251,67 @@ impl Connection {
             → IsPlace (line_in direction self.now).side.finding (spoken direction j).said result }
     {
         self.line(direction).last
+    }
+
+    /// How the session of a side broke the protocol or left the profile. It has no meaning for a side that did neither.
+    pub fn violation(&self, direction: Direction) -> Violation
+        ensures { result ≡ violation_of (line_in direction self.now).side.by }
+    {
+        violation_of(&self.side(direction).by())
+    }
+
+    /// What was found of the session of a side that kept the protocol, and how it stands.
+    fn kept_outcome(&self, direction: Direction) -> Result<Outcome, AllocError>
+        requires { (line_in direction self.now).side.finding ≡ Finding.Kept }
+        ensures { IfOk result (λ o. (j : Joined) → HoldsJoined self.now j → SaysSo direction j (line_in direction self.now).side o) }
+    {
+        let side = self.side(direction);
+        let stands = side.stands()?;
+        Ok(Outcome::Kept(side.told(), state_of(&stands.standing), stands.owes))
+    }
+
+    /// What was found of the session of a side, by all that it sent and what it has heard.
+    pub fn outcome(&self, direction: Direction) -> Result<Outcome, AllocError>
+        ensures { IfOk result (λ o. (j : Joined) → HoldsJoined self.now j → SaysSo direction j (line_in direction self.now).side o) }
+    {
+        let offset = self.offset(direction);
+        match self.finding(direction) {
+            Finding::Kept => self.kept_outcome(direction),
+            Finding::Broke(_) => Ok(Outcome::Broke(offset, self.violation(direction))),
+            Finding::Left(_) => Ok(Outcome::Left(offset, self.violation(direction))),
+            Finding::TooMany => Ok(Outcome::TooMany),
+        }
+    }
+
+    /// What is kept of it once it is over and each session has heard all.
+    fn past(&self, alloc: Global) -> Result<Past, AllocError>
+        requires { IsHeard self.now }
+        ensures { IfOk result (λ p. (j : Joined) → HoldsJoined self.now j → HoldsPast p j) }
+    {
+        let left = self.outcome(Direction::Left)?;
+        let right = self.outcome(Direction::Right)?;
+        let left = Ended::new(alloc, left)?;
+        let right = Ended::new(alloc, right)?;
+        Ok(Past {
+            number: self.number,
+            calling: self.calling,
+            called: self.called,
+            class: self.class,
+            closed: self.closed,
+            over: self.room.is_over(),
+            left,
+            right,
+        })
+    }
+
+    /// What is kept of it once it is over. The session of each side is given what it has not heard yet; after `Err` one of them may
+    /// have been.
+    pub(crate) fn sum_up(&mut self, alloc: Global) -> Result<Past, AllocError>
+        ensures holds { (j : Joined) → HoldsJoined self.old j → HoldsJoined self.new j }
+        ensures past { IfOk result (λ p. (j : Joined) → HoldsJoined self.old j → HoldsPast p j) }
+    {
+        self.hand_over()?;
+        self.past(alloc)
     }
 
     /// Whether the session of a side broke the protocol or left the profile.

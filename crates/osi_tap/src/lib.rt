@@ -14,8 +14,10 @@
 //! }
 //! tap.settle()?;                                       // only if an allocation may have failed
 //! for number in 0..tap.count() {                       // the connections, in the order of their CRs
-//!     let connection = tap.connection(number)?;
-//!     let finding = connection.side(Direction::Left).finding();
+//!     let outcome = match tap.connection(number)? {
+//!         Found::Placed(connection) => connection.outcome(Direction::Left)?,
+//!         Found::Replaced(past) => past.outcome(Direction::Left),
+//!     };
 //! }
 //! let broke = tap.broke(Direction::Left);              // where left's transport first broke a rule
 //! let first = tap.first();                             // whose break passed first, of session or of transport
@@ -28,9 +30,9 @@
 //! **Memory.** The tap holds the octets of at most one packet of each direction. Of each connection it keeps the unfinished
 //! TSDU of each side, and what `osi_judge` keeps of a session: outlines of the TSDUs that passed, and at most 4,096 sessions
 //! that explain them. A side that more sessions explain is not judged any further (`Finding::TooMany`). At most 128
-//! connections are looked at together: a CR for one more is told (`Cause::TooMany`), and nothing after it is judged. A
-//! connection that is over stays in the list of results with all that is kept of it, so the memory grows with the number of
-//! connections. [`Tap::within`] bounds what is kept of each connection: data that follow one another have one outline, so an
+//! connections are looked at together: a CR for one more is told (`Cause::TooMany`), and nothing after it is judged. Once the
+//! place of a connection that is over is given to another, a record of what was found of it is left ([`Past`]): some hundred octets,
+//! and as much again for each side that broke the protocol. [`Tap::within`] bounds what is kept of each connection: data that follow one another have one outline, so an
 //! association that sends data both ways is judged however long it lasts. If an allocation fails, no octet is lost and none
 //! counts twice: make the same call again.
 #![tactic(auto)]
@@ -39,6 +41,8 @@ mod connections;
 pub mod laws;
 mod lines;
 mod marks;
+mod outcomes;
+mod pasts;
 mod rooms;
 mod sessions;
 mod streams;
@@ -48,4 +52,7 @@ mod watch;
 pub use connections::Connection;
 pub use marks::{Cause, First, Layer, Mark, UnitKind};
 pub use osi_judge::{Direction, Reading};
+pub use outcomes::{Outcome, SessionState, Violation};
+pub use pasts::Past;
+pub use sessions::Found;
 pub use tap::Tap;

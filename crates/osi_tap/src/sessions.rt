@@ -1,6 +1,6 @@
 //! The connections of a byte connection, by their places.
 
-ghost use Rattle.std.specs.Prelude.{◌≡◌, ◌≤◌, ◌<◌, ◌+◌, ℕ, List, Option, Some, IsOk, OnOk, OnErr, length, map, take, ◌==◌};
+ghost use Rattle.std.specs.Prelude.{◌≡◌, ◌≤◌, ◌<◌, ◌+◌, ℕ, List, Option, Some, IfOk, IsOk, OnOk, OnErr, length, map, take, ◌==◌};
 ghost use Rattle.std.specs.Prelude.{option_copied, option_map, slice_get};
 ghost use Rattle.std.specs.List.{find};
 ghost use Rattle.osi_judge.specs.Captures.{other};
@@ -11,8 +11,10 @@ ghost use Rattle.osi_tpkt.specs.Stream.{offset_of};
 ghost use Rattle.osi_tap.specs.Courses.{number_at, number_of};
 ghost use Rattle.osi_tap.specs.Blaming.{Blames, NobodyElse, NobodyElseIs, NobodyIs, SomeoneIs};
 ghost use Rattle.osi_tap.specs.Holding.{line_in, AllHeard, AreHeard, FoundHeard, HoldAll, HoldsFound, HoldsJoined, HoldsSessions};
+ghost use Rattle.osi_tap.specs.Pasts.{AllPast, HoldsPastOf};
 
 use crate::connections::Connection;
+use crate::pasts::Past;
 use crate::rooms::Room;
 use osi_class::Class;
 use osi_judge::Direction;
@@ -20,13 +22,22 @@ use osi_rules::{Meaning, Told};
 use osi_tpdu::Tpdu;
 use std::alloc::{AllocError, Global};
 
-/// The connections that may still get units, each at the place that `osi_rules` gives it, and those whose place was given
-/// to another.
+/// A connection that is sought.
+#[derive(Clone, Copy)]
+pub enum Found<'a> {
+    /// It has a place.
+    Placed(&'a Connection),
+    /// It is over, and its place was given to another.
+    Replaced(&'a Past),
+}
+
+/// The connections that may still get units, each at the place that `osi_rules` gives it, and what is left of those whose place
+/// was given to another.
 #[derive(Drop)]
 pub(crate) struct Sessions {
     alloc: Global,
     pub(crate) live: Vec<Connection>,
-    pub(crate) done: Vec<Connection>,
+    pub(crate) done: Vec<Past>,
     /// How much may be kept of each.
     pub(crate) room: Room,
 }
@@ -76,6 +87,13 @@ fn count_of(connections: &[Connection]) -> usize
     connections.len()
 }
 
+/// The same of those whose place was given to another.
+fn count_past(pasts: &[Past]) -> usize
+    ensures { result ≡ length pasts.now }
+{
+    pasts.len()
+}
+
 /// The number of the connection at a place.
 fn number_in(live: &[Connection], place: usize) -> Option<usize>
     ensures { (js : List Joined) → HoldAll live.now js → result ≡ option_map number_of (slice_get js place) }
@@ -104,6 +122,13 @@ fn find_in(connections: &[Connection], number: usize) -> Option<&Connection>
     connections.iter().find(|c| c.number == number)
 }
 
+/// The same of those whose place was given to another.
+fn find_past(pasts: &[Past], number: usize) -> Option<&Past>
+    ensures { option_copied result ≡ find (λ p. p.number == number) pasts.now }
+{
+    pasts.iter().find(|p| p.number == number)
+}
+
 /// A packet of a side begins.
 fn begin_each(direction: Direction, live: &mut Vec<Connection>)
     ensures { (js : List Joined) → HoldAll live.old.items js → HoldAll live.new.items (map (packet_begins direction) js) }
@@ -122,6 +147,16 @@ fn hand_over_at(live: &mut Vec<Connection>, place: usize) -> Result<(), AllocErr
     ensures free { AreHeard live.old.items → IsOk result × AreHeard live.new.items }
 {
     live[place].hand_over()
+}
+
+/// What is kept of the connection at a place once it is over. Its sessions are given what they have not heard yet.
+fn sum_up_at(alloc: Global, live: &mut Vec<Connection>, place: usize) -> Result<Past, AllocError>
+    requires { place < length live.old.items }
+    ensures holds { (js : List Joined) → HoldAll live.old.items js → HoldAll live.new.items js }
+    ensures count { length live.new.items ≡ length live.old.items }
+    ensures past { IfOk result (λ p. (js : List Joined) → HoldAll live.old.items js → HoldsPastOf p (slice_get js place)) }
+{
+    live[place].sum_up(alloc)
 }
 
 /// The sessions of all are given what they have not heard yet, one connection after the other, as long as memory lasts.
@@ -156,7 +191,7 @@ impl Sessions {
         ensures { (s : Passed) → HoldsSessions self.now s → result ≡ offset_of (count s) }
     {
         let live = count_of(&self.live);
-        let done = count_of(&self.done);
+        let done = count_past(&self.done);
         live.saturating_add(done)
     }
 
@@ -183,22 +218,24 @@ impl Sessions {
     }
 
     /// Those whose place was given to another.
-    pub(crate) fn replaced(&self) -> &[Connection]
-        ensures held { (s : Passed) → HoldsSessions self.now s → HoldAll result.now s.done }
-        ensures heard { AllHeard self.now → AreHeard result.now }
+    pub(crate) fn replaced(&self) -> &[Past]
+        ensures { (s : Passed) → HoldsSessions self.now s → AllPast result.now s.done }
     {
         &self.done
     }
 
     /// The connection with a number.
-    pub(crate) fn numbered(&self, number: usize) -> Option<&Connection>
-        ensures held { (s : Passed) → HoldsSessions self.now s → HoldsFound (option_copied result) (numbered number s) }
-        ensures heard { AllHeard self.now → FoundHeard (option_copied result) }
+    pub(crate) fn numbered(&self, number: usize) -> Option<Found<'_>>
+        ensures held { (s : Passed) → HoldsSessions self.now s → HoldsFound result (numbered number s) }
+        ensures heard { AllHeard self.now → FoundHeard result }
     {
         if let Some(connection) = find_in(&self.live, number) {
-            return Some(connection);
+            return Some(Found::Placed(connection));
         }
-        find_in(&self.done, number)
+        match find_past(&self.done, number) {
+            Some(past) => Some(Found::Replaced(past)),
+            None => None,
+        }
     }
 
     /// A packet of a side begins.
@@ -214,8 +251,7 @@ impl Sessions {
         ensures heard { OnOk result (AllHeard self.new) }
         ensures free { AllHeard self.old → IsOk result }
     {
-        hand_over_each(&mut self.live)?;
-        hand_over_each(&mut self.done)
+        hand_over_each(&mut self.live)
     }
 
     /// A CR with this reference requests a connection, which gets this place. `Err` changes nothing.
@@ -241,18 +277,17 @@ impl Sessions {
         Ok(())
     }
 
-    /// The connection is requested, and gets the place of one that is over. `Err` changes nothing.
+    /// The connection is requested, and gets the place of one that is over, of which only what was found is kept. `Err` changes
+    /// nothing but that a session of that one may have been given what it had not heard yet.
     fn ask_over(&mut self, place: usize, connection: Connection) -> Result<(), AllocError>
         requires { place < length self.old.live.items }
         ensures ok { OnOk result ((s : Passed) (j : Joined) → HoldsSessions self.old s → HoldsJoined connection j
             → HoldsSessions self.new (placed place j s (slice_get s.live place))) }
         ensures err { OnErr result ((s : Passed) → HoldsSessions self.old s → HoldsSessions self.new s) }
     {
-        self.done.reserve(1)?;
-        let over = std::mem::replace(&mut self.live[place], connection);
-        let Ok(()) = self.done.push(over) else {
-            unreachable!()
-        };
+        let past = sum_up_at(self.alloc, &mut self.live, place)?;
+        self.done.push(past)?;
+        self.live[place] = connection;
         Ok(())
     }
 

@@ -1,6 +1,6 @@
 //! A byte connection, judged while it passes.
 
-ghost use Rattle.std.specs.Prelude.{◌≡◌, ◌≤◌, ◌<◌, None, Some, true, [], length, take, option_copied};
+ghost use Rattle.std.specs.Prelude.{◌≡◌, ◌≤◌, ◌<◌, None, Some, true, [], length, take};
 ghost use Rattle.std.specs.Prelude.{if◌then◌else◌, IfOk, IsOk, OnOk, OnErr};
 ghost use Rattle.osi_judge.specs.Captures.{piece};
 ghost use Rattle.osi_tpkt.specs.Stream.{offset_of};
@@ -8,6 +8,7 @@ ghost use Rattle.osi_tap.specs.Blaming.{IsFirstOf, IsStill, NobodyIs};
 ghost use Rattle.osi_tap.specs.Connections.{count, numbered};
 ghost use Rattle.osi_tap.specs.Courses.{packet_begins, marks_of, Course};
 ghost use Rattle.osi_tap.specs.Holding.{streamed, AllHeard, AreHeard, FoundHeard, HoldAll, HoldsFound, IsFirst};
+ghost use Rattle.osi_tap.specs.Pasts.{AllPast};
 ghost use Rattle.osi_tap.specs.Owing.{HoldsAll};
 ghost use Rattle.osi_tap.specs.Standing.{due_if, pick, HoldsBy, HoldsDue, HoldsNow, HoldsOpen, HoldsStream, HoldsState};
 ghost use Rattle.osi_tap.specs.Standing.{HoldsWhole, IsJudged, IsSettled, first_in};
@@ -17,7 +18,9 @@ ghost use Rattle.osi_tap.specs.Tapping.{State, begin, begin_within, after, looke
 
 use crate::connections::Connection;
 use crate::marks::{Cause, First, Mark};
+use crate::pasts::Past;
 use crate::rooms::Room;
+use crate::sessions::Found;
 use crate::streams::{Shape, Stream, look};
 use crate::watch::{Watch, pass_packet};
 use osi_judge::{Direction, Reading};
@@ -267,10 +270,10 @@ impl Tap {
     }
 
     /// The connection with a number: its place in the order of the CRs, counted from 0.
-    pub fn connection(&self, number: usize) -> Option<&Connection>
+    pub fn connection(&self, number: usize) -> Option<Found<'_>>
         ensures held { (s : State) → HoldsState self.now s → IsJudged self.now
-            → HoldsFound (option_copied result) (numbered number s.course.sessions) }
-        ensures heard { IsSettled self.now → FoundHeard (option_copied result) }
+            → HoldsFound result (numbered number s.course.sessions) }
+        ensures heard { IsSettled self.now → FoundHeard result }
     {
         self.watch.sessions.numbered(number)
     }
@@ -285,10 +288,10 @@ impl Tap {
         self.watch.sessions.placed()
     }
 
-    /// The connections whose place was given to another. They are over.
-    pub fn replaced(&self) -> &[Connection]
-        ensures held { (s : State) → HoldsState self.now s → IsJudged self.now → HoldAll result.now s.course.sessions.done }
-        ensures heard { IsSettled self.now → AreHeard result.now }
+    /// What is left of the connections whose place was given to another, in the order in which that came to pass. They are over, and
+    /// what is told of them stays.
+    pub fn replaced(&self) -> &[Past]
+        ensures { (s : State) → HoldsState self.now s → IsJudged self.now → AllPast result.now s.course.sessions.done }
     {
         self.watch.sessions.replaced()
     }

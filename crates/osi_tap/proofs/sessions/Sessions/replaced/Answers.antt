@@ -1,8 +1,5 @@
-use Rattle.osi_tap.proofs.Vocabulary.{List, subst, sym, Connection, AreHeard, HoldAll}
+use Rattle.osi_tap.proofs.Vocabulary.{List, subst, sym, Past, AllPast}
 use Rattle.osi_tap.proofs.sessions.Sessions.replaced.Goals as goal
 
-pub returns-clause-held : goal.returns-clause-held
-returns-clause-held c s h = subst (λ (l : List Connection). HoldAll l s.done) (sym c.deref.ensures.value) h.done
-
-pub returns-clause-heard : goal.returns-clause-heard
-returns-clause-heard c k = subst (λ (l : List Connection). AreHeard l) (sym c.deref.ensures.value) k.done
+pub returns : goal.returns
+returns c s h = subst (λ (l : List Past). AllPast l s.done) (sym c.deref.ensures.value) h.done
