@@ -4,3 +4,4 @@ pub mod an_outline_is_taken_alike
 pub mod alike_tsdus_explain_the_same
 pub mod a_rule_of_outlines_is_one_of_tsdus
 pub mod no_more_is_kept_than_passed
+pub mod a_point_is_its_outline

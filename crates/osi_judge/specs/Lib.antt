@@ -1,5 +1,6 @@
 pub mod Captures
 pub mod Stops
+pub mod Straight
 pub mod Transport
 pub mod Explaining
 pub mod Outlines

@@ -50,6 +50,7 @@ mod sides;
 mod standings;
 mod steps;
 mod stops;
+mod straight;
 mod telling;
 mod walks;
 
