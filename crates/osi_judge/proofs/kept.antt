@@ -7,5 +7,6 @@ pub mod a_walk_keeps_who_sends_on_the_way
 pub mod a_restart_is_shown_by_its_number
 pub mod a_walk_to_a_restart_is_one_function
 pub mod all_sessions_are_walked_from
+pub mod a_tsdu_that_is_read_straight
 pub mod what_is_kept_is_of_what_had_passed
 pub mod what_is_kept_follows_what_is_told

@@ -1,5 +1,6 @@
 pub mod Captures
 pub mod Findings
+pub mod Straight
 pub mod Explaining
 pub mod Outlines
 pub mod Keeping

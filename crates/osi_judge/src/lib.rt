@@ -41,6 +41,7 @@ mod restarts;
 mod rules;
 mod sides;
 mod standings;
+mod straight;
 mod telling;
 mod walks;
 

@@ -242,13 +242,28 @@ fn outline_of(alloc: Global, tsdu: &[u8], group: &Group) -> Result<Octets, Alloc
     outline_behind(alloc, tsdu, group.first(), &unit)
 }
 
-/// The outline of a TSDU. Data in its written form is looked at first, because it is the most frequent.
+/// Whether a TSDU is the written form of a minor point that asks for its confirmation, or of that, without user data.
+fn is_bare_point(tsdu: &[u8]) -> bool
+    ensures { result ≡ true → tsdu.now ≡ outline tsdu.now }
+{
+    match PlainUnit::read(tsdu) {
+        Some(PlainUnit::MinorPoint { .. }) => true,
+        Some(PlainUnit::MinorAck { .. }) => true,
+        Some(PlainUnit::Part { .. }) => false,
+        None => false,
+    }
+}
+
+/// The outline of a TSDU. Data and points in their written form are looked at first, because they are the most frequent.
 #[tactic(auto, unfolding(osi_message::specs::Reading::said_at, crate::specs::Outlines::outline))]
 pub(crate) fn outline(alloc: Global, tsdu: &[u8]) -> Result<Octets, AllocError>
     ensures { IfOk result (λ o. o ≡ outline tsdu.now) }
 {
     if let Some(_user_data) = PlainUnit::data(tsdu) {
         return Octets::copy(alloc, data_head());
+    }
+    if is_bare_point(tsdu) {
+        return Octets::copy(alloc, tsdu);
     }
     let read = read_group(tsdu);
     match &read {

@@ -12,6 +12,7 @@ ghost use Rattle.osi_judge.specs.Walking.{the_remark, remarked, Ever};
 
 use crate::heard::Heard;
 use crate::members::Member;
+use crate::straight::behind_straight;
 use crate::walks::walk;
 use osi_session::is_restart_unit;
 use osi_spdu::{Group, Spdu, read_group};
@@ -76,9 +77,31 @@ fn behind_units(
     Ok(last)
 }
 
-/// The members after a TSDU; none after one that is not session units.
-#[tactic(auto, unfolding(osi_message::specs::Reading::said_at))]
+/// The members after a TSDU; none after one that is not session units. One that is read straight is looked at first, because it is
+/// the most frequent.
 pub(crate) fn behind_tsdu(
+    alloc: Global,
+    heard: &Heard,
+    tsdu: &[u8],
+    before: usize,
+    members: &[Member],
+) -> Result<Vec<Member>, AllocError>
+    requires { before ≤ length heard.now }
+    ensures explains { IfOk result (λ next. Ever heard.now before (λ us later.
+        SomeExplains us members.now (remarks_of (record { octets = tsdu.now; before = before }) ++ later) ↔ SomeExplains us
+        next.items later)) }
+    ensures value { IfOk result (λ next. next.items
+        ≡ after_tsdu heard.now members.now (record { octets = tsdu.now; before = before })) }
+{
+    if let Some(next) = behind_straight(alloc, heard, tsdu, before, members)? {
+        return Ok(next);
+    }
+    behind_read(alloc, heard, tsdu, before, members)
+}
+
+/// The same, by the units that are read.
+#[tactic(auto, unfolding(osi_message::specs::Reading::said_at))]
+fn behind_read(
     alloc: Global,
     heard: &Heard,
     tsdu: &[u8],

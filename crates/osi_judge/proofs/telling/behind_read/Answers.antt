@@ -2,7 +2,7 @@ use Rattle.std.proofs.Common.{arith}
 use Rattle.osi_message.specs.Reading.{said_at}
 use Rattle.osi_judge.proofs.walked.sessions_after_a_unit.{unread_came}
 use Rattle.osi_judge.proofs.kept.all_sessions_are_walked_from.{if_ok_as}
-use Rattle.osi_judge.proofs.telling.behind_tsdu.Goals as goal
+use Rattle.osi_judge.proofs.telling.behind_read.Goals as goal
 
 pub returns-in-Err-clause-explains : goal.returns-in-Err-clause-explains
 unfolding said_at
