@@ -7,6 +7,7 @@ from osi_session import Judge, TapSide, VerdictKind
 from witnesses import disputes, pieces_of
 
 FIRST = re.compile(r"^(left|right) (?:broke the protocol|leaves the profile) first, packet \d+: .*$")
+ONE_DIRECTION = "not judged: only one direction is here"
 # Packets with a CR, a CC, a DR, a DC, an ER and a DT, with references that fit and others.
 PACKETS = [bytes.fromhex(digits) for digits in (
     "0300000b06e00000000100", "0300000b06e00000000200", "0300000b06d00001000100", "0300000b06d00002000100", "0300000e09d00001000100c00108",
@@ -95,9 +96,10 @@ class TwoJudges:
     @staticmethod
     def holds(last, verdict):
         """Whether the last line of `osi judge` names the side of the first verdict that the library gave. A verdict that is certain is
-        one that the last line says; what right sends before the first packet of left is certain later."""
+        one that the last line says; what right sends before the first packet of left is certain later. Of one direction alone the
+        library judges what it was fed, and no line blames anybody."""
         first = FIRST.match(last)
-        return verdict is None or bool(first) and first[1] == verdict.side.name.lower()
+        return verdict is None or last == ONE_DIRECTION or bool(first) and first[1] == verdict.side.name.lower()
 
     def run(self, pieces):
         text = text_of(pieces)

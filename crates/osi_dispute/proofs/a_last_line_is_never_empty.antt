@@ -6,7 +6,7 @@ use Rattle.osi_dispute.proofs.Vocabulary.{kept_last, NobodyIs, some_over}
 use Rattle.osi_judge.specs.declared.directions.Direction.TheVariants as side
 use Rattle.osi_tap.specs.declared.marks.Layer.TheVariants as layer
 use Rattle.osi_dispute.specs.declared.reports.Last.TheVariants.{BothKept, Broke, Left, Transport, TooManySessions, TooManyConnections}
-use Rattle.osi_dispute.specs.declared.reports.Last.TheVariants.{Limit, NoOctets, BeginsLate}
+use Rattle.osi_dispute.specs.declared.reports.Last.TheVariants.{Limit, NoOctets, OneDirection, BeginsLate}
 use Rattle.osi_dispute.specs.ReportTexts.{mark_first}
 use Rattle.osi_verdict.specs.declared.verdicts.Unjudged.TheVariants.{TooMany}
 use Rattle.osi_verdict.specs.Names.{unjudged_text}
@@ -42,6 +42,7 @@ last_words TooManySessions e = unjudged_words e
 last_words Limit e = grind arith
 last_words TooManyConnections e = grind arith
 last_words NoOctets e = grind arith
+last_words OneDirection e = grind arith
 last_words BeginsLate e = grind arith
 
 -- ---- both sides kept the protocol
