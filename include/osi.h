@@ -756,7 +756,10 @@ uint32_t osi_judge_feed(osi_judge *judge, uint32_t side, const uint8_t *piece, s
  *   a side of which nothing more is judged, OSI_VERDICT_NOT_JUDGED: the packet after which that is so.
  *
  * What right sends before the first packet of left is certain once that packet has passed: if it is no CR,
- * nothing is judged, since the capture begins in the middle of a connection (OSI_RULE_NO_OPENING). */
+ * nothing is judged, since the capture begins in the middle of a connection (OSI_RULE_NO_OPENING).
+ *
+ * A verdict says what the side did by what had passed until then. So it holds if you feed all octets of both
+ * directions in their order. If you feed one direction alone, don't use it. */
 uint32_t osi_judge_next(osi_judge *judge, osi_verdict *verdict) OSI_LOOK;
 
 /* Writes the verdict by what has passed so far to *verdict, whether it is certain or not: that on the session
@@ -772,7 +775,8 @@ uint32_t osi_judge_verdict(osi_judge *judge, uint64_t connection, uint32_t side,
 uint32_t osi_judge_connections(osi_judge *judge, uint64_t *connections) OSI_LOOK;
 
 /* Writes the text of the verdict on all that has passed so far, which osi_judge_text then lends: what `osi judge`
- * prints for it. Its last line is "both kept the protocol" only if all that passed was judged. OSI_OK,
+ * prints for it. Its last line is "both kept the protocol" only if all that passed was judged. Before an octet of
+ * each side has passed it blames nobody: its last line says that only one direction is here. OSI_OK,
  * OSI_SLOT_EMPTY, OSI_NO_MEMORY (the text that was written before is still there). */
 uint32_t osi_judge_write(osi_judge *judge) OSI_LOOK;
 

@@ -801,7 +801,7 @@ static void a_connection_takes_little_memory(void)
 #endif
 
 /* What is not a side, and slots that hold no judge or hold one already. A capture that begins in the middle of a connection is not
- * judged, and its text says so. */
+ * judged, and its text says so; before, that only one direction is here. */
 static void judges_that_are_refused(void)
 {
     osi_judge judge = OSI_JUDGE;
@@ -831,6 +831,10 @@ static void judges_that_are_refused(void)
     }
     CHECK(has_none(&judge));
     CHECK(says(&judge, "left packets 1 octets 19 rest 0\nright packets 0 octets 0 rest 0\n"
+                       "not judged: only one direction is here\n"));
+    pass(&judge, OSI_RIGHT, dt, sizeof dt);
+    CHECK(has_none(&judge));
+    CHECK(says(&judge, "left packets 1 octets 19 rest 0\nright packets 1 octets 19 rest 0\n"
                        "not judged: the capture begins in the middle of a connection\n"));
     osi_judge_free(&judge);
     osi_judge_free(&judge);

@@ -6,7 +6,7 @@ use Rattle.osi_dispute.proofs.Vocabulary.{kept_last, NobodyIs, some_over}
 use Rattle.osi_judge.specs.declared.directions.Direction.TheVariants as side
 use Rattle.osi_tap.specs.declared.marks.Layer.TheVariants as layer
 use Rattle.osi_dispute.specs.declared.reports.Last.TheVariants.{BothKept, Broke, Left, Transport, TooManySessions, TooManyConnections}
-use Rattle.osi_dispute.specs.declared.reports.Last.TheVariants.{Limit, NoOctets, BeginsLate}
+use Rattle.osi_dispute.specs.declared.reports.Last.TheVariants.{Limit, NoOctets, OneDirection, BeginsLate}
 use Rattle.osi_dispute.specs.ReportTexts.{mark_first}
 use Rattle.osi_dispute.specs.ToldTexts.{first_text, broke_first, left_first}
 
@@ -36,6 +36,7 @@ last_words TooManySessions e = grind arith
 last_words Limit e = grind arith
 last_words TooManyConnections e = grind arith
 last_words NoOctets e = grind arith
+last_words OneDirection e = grind arith
 last_words BeginsLate e = grind arith
 
 -- ---- both sides kept the protocol

@@ -4,8 +4,9 @@ use Rattle.osi_dispute.proofs.Vocabulary.{◌≡◌, ◌∙◌, refl, sym, ap, s
 use Rattle.osi_dispute.proofs.Vocabulary.{Stands, foremost, Watched, StandsBehind, one_stands, First, Layer, Mark, Joined, Sessions, spoken}
 use Rattle.osi_dispute.proofs.Vocabulary.{place_in, State, one_first, Last, Pair, Outcome, Connection, IsSession, Strayed, SaysSo, Tells}
 use Rattle.osi_dispute.proofs.Vocabulary.{state_of, IsPair, IsPairOf, ArePairs, IsFirstLast, IsLast, Report, IsReport, None, Capture}
-use Rattle.osi_dispute.proofs.Vocabulary.{comes_to, Judges, IsJudgement, last_status, unjudged}
+use Rattle.osi_dispute.proofs.Vocabulary.{carried, comes_to, Judges, IsJudgement, last_status, unjudged}
 use Rattle.osi_dispute.specs.ReportTexts.{report_text}
+use Rattle.osi_dispute.specs.Quiet.{unjudged_text}
 use Rattle.osi_judge.specs.declared.directions.Direction.TheVariants as side
 use Rattle.osi_tap.specs.Lines.{told}
 use Rattle.osi_tap.specs.declared.outcomes.Outcome.TheVariants as what
@@ -70,7 +71,7 @@ one_pair j p q h k =
     one_connection side.Right j h.right h.left k.right k.left p.right q.right h.of_right k.of_right left h.tells_right k.tells_right in
     grind arith
 
-one_pair_of : (o : Option Joined) (p q : Pair) → IsPairOf o p → IsPairOf o q → p ≡ q
+pub one_pair_of : (o : Option Joined) (p q : Pair) → IsPairOf o p → IsPairOf o q → p ≡ q
 one_pair_of o p q h k = grind (arith, one_pair)
 
 all_pairs : (ss : Sessions) (n : ℕ) (ps qs : List Pair) → length ps ≡ length qs → ArePairs ss n ps → ArePairs ss n qs → ps ≡ qs
@@ -116,7 +117,11 @@ one_of_both : (why : Option Last) (s : State) (lines others : List ℕ) (status 
 one_of_both None s lines others status other h k =
     let same = one_report s h.report k.report h.reported k.reported in
     (h.told ∙ ap report_text same ∙ sym k.told, h.answered ∙ ap (λ (r : Report). last_status r.last) same ∙ sym k.answered)
-one_of_both (Some last) s lines others status other h k = (h.told ∙ sym k.told, h.answered ∙ sym k.answered)
+one_of_both (Some last) s lines others status other h k =
+    let same = all_pairs s.course.sessions 0 h.pairs k.pairs (h.are.count ∙ sym k.are.count) h.are.each k.are.each in (
+      h.told ∙ ap (λ (ps : List Pair). unjudged_text (carried side.Left s) (carried side.Right s) ps last) same ∙ sym k.told,
+      h.answered ∙ sym k.answered,
+    )
 
 pub one_judgement : (text lines others : List ℕ) (status other : ℕ) → IsJudgement text lines status → IsJudgement text others other
     → (lines ≡ others) × (status ≡ other)

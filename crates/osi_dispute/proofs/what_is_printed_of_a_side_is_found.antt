@@ -15,7 +15,8 @@ use Rattle.osi_judge.specs.declared.directions.Direction.TheVariants as side
 use Rattle.osi_tap.specs.Courses.{is_break}
 use Rattle.osi_tap.specs.Lines.{heard, told}
 use Rattle.osi_tap.specs.declared.marks.Layer.TheVariants as layer
-use Rattle.osi_dispute.specs.Blaming.{BlameNowhere, IsBlameless, IsClearOf, blames_last, blames_mark, blames_on, blames_pair, blames_told}
+use Rattle.osi_dispute.specs.Blaming.{BlameNowhere, IsBlameless, IsClearOf, blames_last, blames_mark, blames_pair}
+use Rattle.osi_dispute.specs.Quiet.{blames_on, blames_told}
 use Rattle.osi_dispute.specs.Blaming.BlameNowhere.{not_judged, reported}
 use Rattle.osi_dispute.specs.Openings.{unjudged_by}
 use Rattle.osi_dispute.specs.ReportTexts.{is_side}
@@ -167,13 +168,14 @@ clear_report side.Right capture r clean h = record {
   last = not_true (blames_last side.Right r.last) (last_by side.Right (comes_to capture) clean h.last.first r.pairs r.last h.last.says);
 }
 
-reason_clear : (d : Direction) (empty late : Bool) (why : Last) → unjudged_by empty late ≡ Some why → blames_last d why ≡ false
-reason_clear d empty late why e = grind arith
+reason_clear : (d : Direction) (empty lacking late : Bool) (why : Last) → unjudged_by empty lacking late ≡ Some why
+    → blames_last d why ≡ false
+reason_clear d empty lacking late why e = grind arith
 
 judged_clear : (d : Direction) (capture : Capture) (why : Option Last) (lines : List ℕ) (status : ℕ) → unjudged capture ≡ why →
     IsBlameless d (comes_to capture) → Judges why (comes_to capture) lines status → BlameNowhere d lines
 judged_clear d capture None lines status e clean h = reported h.report h.told (clear_report d capture h.report clean h.reported)
-judged_clear d capture (Some why) lines status e clean h = not_judged _ _ why h.told (reason_clear d _ _ why e)
+judged_clear d capture (Some why) lines status e clean h = not_judged _ _ h.pairs why h.told (reason_clear d _ _ _ why e)
 
 pub printed_is_found : (d : Direction) (text lines : List ℕ) (status : ℕ) (j : IsJudgement text lines status) →
     IsBlameless d (comes_to j.capture) → BlameNowhere d lines

@@ -7,20 +7,21 @@ use Rattle.osi_judge.specs.declared.directions.Direction.TheVariants.{Left, Righ
 use Rattle.osi_dispute.specs.declared.reports.Last.{Last}
 use Rattle.osi_dispute.specs.declared.reports.Pair.{Pair}
 use Rattle.osi_dispute.specs.declared.reports.Together.{Together}
-use Rattle.osi_dispute.specs.Reports.{Report, IsReport, IsPairOf, ArePairs, all_keep, some_over, carried}
-use Rattle.osi_dispute.specs.ReportTexts.{pair_lines, read_lines, report_text, last_line, last_status}
+use Rattle.osi_dispute.specs.Reports.{Report, IsReport, IsPairOf, ArePairs, ArePairsOf, all_keep, some_over, carried}
+use Rattle.osi_dispute.specs.ReportTexts.{report_text, last_status}
+use Rattle.osi_dispute.specs.Quiet.{lines_if, unjudged_text}
 
--- the lines of one connection, of which this is reported
-pub record AddsPair (o : Option Joined) (old new : List ℕ) (pair : Pair) : Type 0 where
+-- the lines of one connection, of which this is reported, if the capture is judged or not
+pub record AddsPair (is_judged : Bool) (o : Option Joined) (old new : List ℕ) (pair : Pair) : Type 0 where
   pub is_pair : IsPairOf o pair
-  pub added : new ≡ old ++ pair_lines pair
+  pub added : new ≡ old ++ lines_if is_judged pair
 
 -- those of the first so many connections, of which this is reported together
-pub record AddsPairs (s : Sessions) (count : ℕ) (old new : List ℕ) (all : Together) : Type 0 where
+pub record AddsPairs (is_judged : Bool) (s : Sessions) (count : ℕ) (old new : List ℕ) (all : Together) : Type 0 where
   pub pairs : List Pair
   pub as_many : length pairs ≡ count
   pub each : ArePairs s 0 pairs
-  pub added : new ≡ old ++ flat_map pair_lines pairs
+  pub added : new ≡ old ++ flat_map (lines_if is_judged) pairs
   pub kept : all.keeps ≡ all_keep pairs
   pub over : all.over ≡ some_over pairs
 
@@ -31,9 +32,11 @@ pub record AddsReport (s : State) (old new : List ℕ) (status : ℕ) : Type 0 w
   pub added : new ≡ old ++ report_text report
   pub answered : status ≡ last_status report.last
 
--- what was read, and why nothing of it is judged
+-- what was read, what blames nobody, and why nothing of it is judged
 pub record AddsUnjudged (s : State) (why : Last) (old new : List ℕ) (status : ℕ) : Type 0 where
-  pub added : new ≡ old ++ read_lines (carried Left s) (carried Right s) ++ last_line why
+  pub pairs : List Pair
+  pub are : ArePairsOf s.course.sessions pairs
+  pub added : new ≡ old ++ unjudged_text (carried Left s) (carried Right s) pairs why
   pub answered : status ≡ last_status why
 
 abbrev pub AddsJudgement : Option Last → State → (old new : List ℕ) → ℕ → Type 0

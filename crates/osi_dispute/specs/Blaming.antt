@@ -1,5 +1,5 @@
 -- Which lines of a judgement say of a side that it broke the protocol or left the profile.
-use Rattle.std.specs.Prelude.{◌≡◌, ◌++◌, ◌⊎◌, ℕ, ◌&&◌, Bool, true, false, List, Option, Some, None, slice_get}
+use Rattle.std.specs.Prelude.{◌≡◌, ◌⊎◌, ℕ, ◌&&◌, Bool, true, false, List, Option, Some, None, slice_get}
 use Rattle.std.specs.List.{list_any}
 use Rattle.osi_judge.specs.declared.directions.Direction.{Direction}
 use Rattle.osi_judge.specs.declared.directions.Direction.TheVariants as side
@@ -13,11 +13,9 @@ use Rattle.osi_dispute.specs.declared.reports.Transport.{Transport as Carried}
 use Rattle.osi_dispute.specs.declared.reports.Last.{Last}
 use Rattle.osi_dispute.specs.declared.reports.Last.TheVariants.{Broke, Left, Transport}
 use Rattle.osi_dispute.specs.Reports.{Report}
-use Rattle.osi_dispute.specs.ReportTexts.{is_side, last_line, read_lines, report_text}
-use Rattle.osi_tap.specs.declared.outcomes.Outcome.{Outcome}
-use Rattle.osi_tap.specs.declared.outcomes.Outcome.TheVariants as outcome
+use Rattle.osi_dispute.specs.ReportTexts.{is_side, report_text}
+use Rattle.osi_dispute.specs.Quiet.{blames_on, unjudged_text}
 use Rattle.osi_dispute.specs.declared.told.Connection.{Connection}
-use Rattle.osi_dispute.specs.declared.told.Connection.TheVariants.{Session}
 
 -- ---- what is found
 
@@ -30,15 +28,6 @@ pub record IsBlameless (d : Direction) (s : State) : Type 0 where
 -- ---- what is printed
 
 -- the lines of a connection of a side
-abbrev pub blames_told : Outcome → Bool
-blames_told (outcome.Broke offset by) = true
-blames_told (outcome.Left offset by) = true
-blames_told t = false
-
-abbrev pub blames_on : Connection → Bool
-blames_on (Session reference t) = blames_told t
-blames_on c = false
-
 abbrev pub told_on : Direction → Pair → Connection
 told_on side.Left p = p.left
 told_on side.Right p = p.right
@@ -70,8 +59,9 @@ pub record IsClearOf (d : Direction) (r : Report) : Type 0 where
   pub connections : list_any (blames_pair d) r.pairs ≡ false
   pub last : blames_last d r.last ≡ false
 
--- These lines blame the side nowhere: they are those of a report that doesn't, or they say what was read, and why nothing is judged.
+-- These lines blame the side nowhere: they are those of a report that doesn't, or they say what was read, what blames nobody, and why
+-- nothing is judged.
 pub data BlameNowhere (d : Direction) (lines : List ℕ) : Type 0 where
   reported : (r : Report) → lines ≡ report_text r → IsClearOf d r → BlameNowhere d lines
-  not_judged : (left right : Carried) (why : Last) → lines ≡ read_lines left right ++ last_line why → blames_last d why ≡ false
-      → BlameNowhere d lines
+  not_judged : (left right : Carried) (pairs : List Pair) (why : Last) → lines ≡ unjudged_text left right pairs why
+      → blames_last d why ≡ false → BlameNowhere d lines

@@ -1,12 +1,14 @@
 -- What was found of a text of both sides of a capture.
-use Rattle.std.specs.Prelude.{◌≡◌, ◌++◌, ℕ, List, Option, Some, None}
+use Rattle.std.specs.Prelude.{◌≡◌, ℕ, List, Option, Some, None}
 use Rattle.osi_judge.specs.declared.directions.Direction.TheVariants.{Left, Right}
 use Rattle.osi_judge.specs.Captures.{Capture}
 use Rattle.osi_tap.specs.Tapping.{State, comes_to}
 use Rattle.osi_dispute.specs.declared.reports.Last.{Last}
 use Rattle.osi_dispute.specs.Openings.{unjudged}
-use Rattle.osi_dispute.specs.Reports.{Report, IsReport, carried}
-use Rattle.osi_dispute.specs.ReportTexts.{read_lines, report_text, last_line, last_status}
+use Rattle.osi_dispute.specs.declared.reports.Pair.{Pair}
+use Rattle.osi_dispute.specs.Reports.{Report, ArePairsOf, IsReport, carried}
+use Rattle.osi_dispute.specs.ReportTexts.{report_text, last_status}
+use Rattle.osi_dispute.specs.Quiet.{unjudged_text}
 use Rattle.osi_dispute.specs.Rows.{IsCaptureOf}
 
 -- they report all connections, by what a capture comes to
@@ -16,9 +18,11 @@ pub record Reported (s : State) (lines : List ℕ) (status : ℕ) : Type 0 where
   pub told : lines ≡ report_text report
   pub answered : status ≡ last_status report.last
 
--- they say what was read, and why nothing of it is judged
+-- they say what was read, what blames nobody, and why nothing of it is judged
 pub record NotJudged (s : State) (why : Last) (lines : List ℕ) (status : ℕ) : Type 0 where
-  pub told : lines ≡ read_lines (carried Left s) (carried Right s) ++ last_line why
+  pub pairs : List Pair
+  pub are : ArePairsOf s.course.sessions pairs
+  pub told : lines ≡ unjudged_text (carried Left s) (carried Right s) pairs why
   pub answered : status ≡ last_status why
 
 -- they say the one or the other

@@ -7,6 +7,7 @@ pub mod Reading
 pub mod Causes
 pub mod Reports
 pub mod ReportTexts
+pub mod Quiet
 pub mod Openings
 pub mod Adding
 pub mod Passing

@@ -1,4 +1,4 @@
--- Whether anything of a capture is judged: it has octets, and does not begin in the middle of a connection.
+-- Whether anything of a capture is judged: it has octets of both sides, and does not begin in the middle of a connection.
 use Rattle.std.specs.Prelude.{◌≡◌, ◌==◌, ◌/◌, ◌&&◌, ◌||◌, not, nat_lt, ℕ, Bool, true, false, List, length, Option, Some, None, is_some}
 use Rattle.std.specs.Prelude.{slice_get}
 use Rattle.osi_tpkt.specs.Stream.{offset_of}
@@ -11,7 +11,7 @@ use Rattle.osi_tap.specs.Courses.{marks_of}
 use Rattle.osi_tap.specs.Tapping.{State, comes_to}
 use Rattle.osi_dispute.specs.declared.openings.Opening.{Opening}
 use Rattle.osi_dispute.specs.declared.reports.Last.{Last}
-use Rattle.osi_dispute.specs.declared.reports.Last.TheVariants.{NoOctets, BeginsLate}
+use Rattle.osi_dispute.specs.declared.reports.Last.TheVariants.{NoOctets, OneDirection, BeginsLate}
 
 abbrev pub is_cr : Option UnitKind → Bool
 is_cr (Some Cr) = true
@@ -53,13 +53,19 @@ may_be_late s left = (s.left.packets == 0) && is_undecided (first_code left) && 
 abbrev pub has_no_octets : State → Bool
 has_no_octets s = (s.left.octets == 0) && (s.right.octets == 0)
 
-abbrev pub unjudged_by : (empty late : Bool) → Option Last
-unjudged_by true late = Some NoOctets
-unjudged_by false true = Some BeginsLate
-unjudged_by false false = None
+-- One direction alone is here, or none: a side sent no octet. What it sent may be missing, so nothing can be known of the other side:
+-- whoever has no answer yet, and whoever goes on without one, looks the same.
+abbrev pub lacks_a_side : State → Bool
+lacks_a_side s = (s.left.octets == 0) || (s.right.octets == 0)
+
+abbrev pub unjudged_by : (empty lacking late : Bool) → Option Last
+unjudged_by true lacking late = Some NoOctets
+unjudged_by false true late = Some OneDirection
+unjudged_by false false true = Some BeginsLate
+unjudged_by false false false = None
 
 abbrev pub unjudged_in : State → (left : List ℕ) → Option Last
-unjudged_in s left = unjudged_by (has_no_octets s) (begins_late s left)
+unjudged_in s left = unjudged_by (has_no_octets s) (lacks_a_side s) (begins_late s left)
 
 -- why nothing of a capture is judged, if that is so
 abbrev pub unjudged : Capture → Option Last

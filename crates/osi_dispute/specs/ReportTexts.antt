@@ -11,7 +11,7 @@ use Rattle.osi_dispute.specs.declared.reports.Pair.{Pair}
 use Rattle.osi_dispute.specs.declared.reports.Transport.{Transport as Carried}
 use Rattle.osi_dispute.specs.declared.reports.Last.{Last}
 use Rattle.osi_dispute.specs.declared.reports.Last.TheVariants.{BothKept, Broke, Left, Transport, TooManySessions, Limit}
-use Rattle.osi_dispute.specs.declared.reports.Last.TheVariants.{TooManyConnections, NoOctets, BeginsLate}
+use Rattle.osi_dispute.specs.declared.reports.Last.TheVariants.{TooManyConnections, NoOctets, OneDirection, BeginsLate}
 use Rattle.osi_dispute.specs.Reports.{Report}
 use Rattle.osi_dispute.specs.declared.told.Connection.{Connection}
 use Rattle.osi_dispute.specs.declared.told.Connection.TheVariants.{Session}
@@ -117,6 +117,7 @@ last_line TooManySessions = codes "not judged: too many sessions explain a side\
 last_line Limit = codes "not judged: more passed on a connection than is kept\n"
 last_line TooManyConnections = codes "not judged: there are more than 128 connections at once\n"
 last_line NoOctets = codes "not judged: no octets\n"
+last_line OneDirection = codes "not judged: only one direction is here\n"
 last_line BeginsLate = codes "not judged: the capture begins in the middle of a connection\n"
 
 -- ---- the report

@@ -1,16 +1,16 @@
 //! Laws of judgements: what one text can be judged to be. Each function does nothing; its clauses are the laws.
 
-ghost use Rattle.std.specs.Prelude.{◌≡◌, true, false, ℕ, List, []};
+ghost use Rattle.std.specs.Prelude.{◌≡◌, ◌++◌, true, false, ℕ, List, []};
 ghost use Rattle.osi_judge.specs.declared.directions.Direction.{Direction};
 ghost use Rattle.osi_judge.specs.declared.directions.Direction.TheVariants.{Left, Right};
-ghost use Rattle.osi_judge.specs.Captures.{Capture};
+ghost use Rattle.osi_judge.specs.Captures.{Capture, other, stream};
 ghost use Rattle.osi_judge.specs.Judging.{Watched};
 ghost use Rattle.osi_dispute.specs.Blaming.{BlameNowhere, IsBlameless};
 ghost use Rattle.osi_dispute.specs.Disputes.{IsJudgement};
 ghost use Rattle.osi_dispute.specs.Reports.{IsLast, IsReport, Report, all_keep, carried, is_clear, some_over};
 ghost use Rattle.osi_dispute.specs.ReportTexts.{last_line};
 ghost use Rattle.osi_dispute.specs.declared.reports.Last.{Last};
-ghost use Rattle.osi_dispute.specs.declared.reports.Last.TheVariants.{BothKept};
+ghost use Rattle.osi_dispute.specs.declared.reports.Last.TheVariants.{BothKept, OneDirection};
 ghost use Rattle.osi_dispute.specs.declared.reports.Pair.{Pair};
 ghost use Rattle.osi_dispute.specs.Rows.{IsCaptureOf};
 ghost use Rattle.osi_tap.specs.Blaming.{NobodyIs};
@@ -42,6 +42,15 @@ pub fn a_judgement_ends_with_a_line()
 pub fn both_kept_means_that_all_was_judged()
     ensures { (s : State) (pairs : List Pair) → IsLast s pairs BothKept → (is_clear (carried Left s) ≡ true)
         × (is_clear (carried Right s) ≡ true) × (all_keep pairs ≡ true) × (some_over pairs ≡ false) × NobodyIs s.course.sessions }
+{}
+
+/// If a side sent no octet, nothing is judged: no line of the judgement says of either side that it broke the protocol or left the
+/// profile, and the status is 1 (`quiet`). If the other side sent some, the last line says that only one direction is here (`last`).
+pub fn one_direction_is_not_judged()
+    ensures quiet { (d e : Direction) (text lines : List ℕ) (status : ℕ) (j : IsJudgement text lines status) → stream e j.capture ≡ []
+        → BlameNowhere d lines × (status ≡ 1) }
+    ensures last { (e : Direction) (text lines : List ℕ) (status : ℕ) (j : IsJudgement text lines status) → stream e j.capture ≡ []
+        → (stream (other e) j.capture ≡ [] → ⊥) → (front : List ℕ) × (lines ≡ front ++ last_line OneDirection) }
 {}
 
 /// What is printed of a side is found of it. If what the capture comes to has no break of the side, neither of its transport nor of a

@@ -10,8 +10,8 @@
 //! // left packets 1 octets 14 rest 0
 //! // right packets 0 octets 0 rest 0
 //! // left 1 unanswered
-//! // both kept the protocol
-//! let status = judgement.status;                       // 0: both kept the protocol
+//! // not judged: only one direction is here
+//! let status = judgement.status;                       // 1: nothing was judged, or a side broke the protocol
 //! ```
 //!
 //! A [`Hearing`] does the same with a text that comes in pieces, of any length, of which it keeps nothing:
@@ -37,8 +37,8 @@
 //! ```
 //!
 //! A report says what the capture comes to (`specs/Reports`), and its last line names the earliest break of all. So the text
-//! is a function of the capture (`laws::a_text_has_one_judgement`). Nothing is judged of a capture that has no octets, or that
-//! begins in the middle of a connection (`specs/Openings`). Numbers and offsets are those of the listing of that side
+//! is a function of the capture (`laws::a_text_has_one_judgement`). Nothing is judged of a capture that has no octets of
+//! one side, or that begins in the middle of a connection (`specs/Openings`). Numbers and offsets are those of the listing of that side
 //! (`osi_listing`), and names those of transcripts (`osi_names`).
 //!
 //! [`push_judgement`] writes the text of a tap that somebody else fed, as the library for C does, beside an [`Opening`] that passed the
@@ -57,6 +57,7 @@ mod names;
 mod openings;
 mod pieces;
 mod places;
+mod quiet;
 mod report_texts;
 mod reports;
 mod steps;

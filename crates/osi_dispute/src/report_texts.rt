@@ -11,10 +11,12 @@ ghost use Rattle.osi_dispute.specs.Reports.{HoldsReached, IsReached, carried};
 ghost use Rattle.osi_dispute.specs.ReportTexts.{mark_text, is_outside, mark_verb, mark_line, mark_lines, halt_line, halt_lines};
 ghost use Rattle.osi_dispute.specs.ReportTexts.{first_verb, mark_first, last_line, pair_lines, transport_lines, read_lines, last_status};
 ghost use Rattle.osi_dispute.specs.ReportTexts.{ends_itself, halt_told, is_at, is_of, is_side, limit_lines, over_lines};
+ghost use Rattle.osi_dispute.specs.Quiet.{lines_if};
 
 use crate::causes;
 use crate::lines::{push_reading, push_side, push_without};
 use crate::openings::Opening;
+use crate::quiet::push_quiet;
 use crate::reports::{Last, Pair, Together, Transport, last_of, pair_at, transport_of, unjudged};
 use crate::told::Connection;
 use crate::told_texts::{push_broke_first, push_connection, push_first, push_left_first};
@@ -62,7 +64,7 @@ fn push_mark(text: &mut Vec<u8>, direction: Direction, mark: &Mark) -> Result<()
     push_words(text, "\n")
 }
 
-fn push_marks(
+pub(crate) fn push_marks(
     text: &mut Vec<u8>,
     direction: Direction,
     broke: Option<Mark>,
@@ -77,7 +79,11 @@ fn push_marks(
 
 /// Adds the line of a side of which nothing more is judged.
 #[tactic(auto, unfolding(crate::specs::ReportTexts::halt_line))]
-fn push_halt(text: &mut Vec<u8>, direction: Direction, mark: &Mark) -> Result<(), AllocError>
+pub(crate) fn push_halt(
+    text: &mut Vec<u8>,
+    direction: Direction,
+    mark: &Mark,
+) -> Result<(), AllocError>
     ensures { OnOk result (text.new.items ≡ text.old.items ++ halt_line direction mark.now) }
 {
     push_side(text, direction)?;
@@ -147,7 +153,7 @@ fn ends_itself(direction: Direction, own: &Transport, other: &Transport) -> bool
 }
 
 /// After which packet nothing more of a side is judged, if the line of its break does not say so.
-fn halt_told(direction: Direction, own: &Transport, other: &Transport) -> Option<Mark>
+pub(crate) fn halt_told(direction: Direction, own: &Transport, other: &Transport) -> Option<Mark>
     ensures { result ≡ halt_told direction own.now other.now }
 {
     if ends_itself(direction, own, other) {
@@ -204,22 +210,38 @@ fn either(one: bool, other: bool) -> bool
     one || other
 }
 
+/// The same of a capture that is judged; of another one those that blame nobody.
+fn push_pair_if(text: &mut Vec<u8>, is_judged: bool, pair: &Pair) -> Result<(), AllocError>
+    ensures { OnOk result (text.new.items ≡ text.old.items ++ lines_if is_judged pair.now) }
+{
+    if is_judged {
+        push_pair(text, pair)
+    } else {
+        push_quiet(text, pair)
+    }
+}
+
 /// Adds the lines of the connection with this number. Returns what is reported of it.
-fn push_pair_at(text: &mut Vec<u8>, tap: &Tap, number: usize) -> Result<Pair, AllocError>
+fn push_pair_at(
+    text: &mut Vec<u8>,
+    tap: &Tap,
+    is_judged: bool,
+    number: usize,
+) -> Result<Pair, AllocError>
     ensures { IfOk result (λ pair. (s : State) → HoldsState tap.now s → IsSettled tap.now
-        → AddsPair (numbered number s.course.sessions) text.old.items text.new.items pair) }
+        → AddsPair is_judged (numbered number s.course.sessions) text.old.items text.new.items pair) }
 {
     let Ok(pair) = pair_at(tap, number) else {
         return Err(AllocError);
     };
-    push_pair(text, &pair)?;
+    push_pair_if(text, is_judged, &pair)?;
     Ok(pair)
 }
 
 /// Adds the lines of all connections. Returns what is reported of them together.
-fn push_pairs(text: &mut Vec<u8>, tap: &Tap) -> Result<Together, AllocError>
+fn push_pairs(text: &mut Vec<u8>, tap: &Tap, is_judged: bool) -> Result<Together, AllocError>
     ensures { IfOk result (λ all. (s : State) → HoldsState tap.now s → IsSettled tap.now
-        → AddsPairs s.course.sessions (offset_of (count s.course.sessions)) text.old.items text.new.items all) }
+        → AddsPairs is_judged s.course.sessions (offset_of (count s.course.sessions)) text.old.items text.new.items all) }
 {
     let count = tap.count();
     let mut all = Together {
@@ -228,7 +250,7 @@ fn push_pairs(text: &mut Vec<u8>, tap: &Tap) -> Result<Together, AllocError>
     };
     let mut number = 0;
     'connections: while number < count {
-        let Ok(pair) = push_pair_at(text, tap, number) else {
+        let Ok(pair) = push_pair_at(text, tap, is_judged, number) else {
             return Err(AllocError);
         };
         all = Together {
@@ -300,6 +322,7 @@ fn push_last(text: &mut Vec<u8>, last: &Last) -> Result<(), AllocError>
             "not judged: there are more than 128 connections at once\n",
         ),
         Last::NoOctets => push_words(text, "not judged: no octets\n"),
+        Last::OneDirection => push_words(text, "not judged: only one direction is here\n"),
         Last::BeginsLate => push_words(
             text,
             "not judged: the capture begins in the middle of a connection\n",
@@ -337,25 +360,28 @@ pub fn push_report(text: &mut Vec<u8>, tap: &Tap) -> Result<u8, AllocError>
     let left = transport_of(tap, Direction::Left);
     let right = transport_of(tap, Direction::Right);
     push_read(text, &left, &right)?;
-    let all = push_pairs(text, tap)?;
+    let all = push_pairs(text, tap, true)?;
     push_transport(text, &left, &right)?;
     let last = last_of(tap, &left, &right, all);
     push_last(text, &last)?;
     Ok(last_status(&last))
 }
 
-/// Adds what was read of both sides, and why nothing of it is judged.
+/// Adds what was read of both sides, the lines of connections that blame nobody, and why nothing is judged.
 fn push_why(
     text: &mut Vec<u8>,
+    tap: &Tap,
     left: &Transport,
     right: &Transport,
     why: &Last,
 ) -> Result<u8, AllocError>
-    ensures told { IfOk result (λ status. (s : State) → left.now ≡ carried Direction.Left s → right.now ≡ carried Direction.Right s
+    ensures told { IfOk result (λ status. (s : State) → HoldsState tap.now s → IsSettled tap.now
+        → left.now ≡ carried Direction.Left s → right.now ≡ carried Direction.Right s
         → AddsUnjudged s why.now text.old.items text.new.items status) }
     ensures small { IfOk result (λ status. status < 2) }
 {
     push_read(text, left, right)?;
+    push_pairs(text, tap, false)?;
     push_last(text, why)?;
     Ok(last_status(why))
 }
@@ -371,7 +397,7 @@ pub fn push_judgement(text: &mut Vec<u8>, tap: &Tap, opening: &Opening) -> Resul
     let left = transport_of(tap, Direction::Left);
     let right = transport_of(tap, Direction::Right);
     match unjudged(&left, &right, opening) {
-        Some(why) => push_why(text, &left, &right, &why),
+        Some(why) => push_why(text, tap, &left, &right, &why),
         None => push_report(text, tap),
     }
 }

@@ -16,7 +16,7 @@ ghost use Rattle.osi_dispute.specs.Telling.{connection_with, keeps, leaves, stra
 ghost use Rattle.osi_dispute.specs.Reports.{is_opened, is_refused_in, Tells, IsPair, IsPairOf, IsSummary};
 ghost use Rattle.osi_dispute.specs.Reports.{all_keep, some_over, carried, is_clear, kept_last, HoldsReached, IsFirstLast};
 ghost use Rattle.osi_dispute.specs.Reports.{IsLast, IsMarkLast, IsStrayLast};
-ghost use Rattle.osi_dispute.specs.Openings.{Opens, begins_late, called_back, has_no_octets, is_request, may_be_late, unjudged_in};
+ghost use Rattle.osi_dispute.specs.Openings.{Opens, begins_late, called_back, has_no_octets, is_request, lacks_a_side, may_be_late, unjudged_in};
 
 use crate::openings::Opening;
 use crate::told::Connection;
@@ -78,6 +78,8 @@ pub enum Last {
     TooManyConnections,
     /// There are no octets.
     NoOctets,
+    /// One side sent octets, and the other none.
+    OneDirection,
     /// The capture begins in the middle of a connection: the first unit of the side that called is no CR.
     BeginsLate,
 }
@@ -266,6 +268,16 @@ fn has_no_octets(left: &Transport, right: &Transport) -> bool
     right.reading.octets == 0
 }
 
+/// Whether a side sent no octet.
+fn lacks_a_side(left: &Transport, right: &Transport) -> bool
+    ensures { (s : State) → left.now ≡ carried Direction.Left s → right.now ≡ carried Direction.Right s → result ≡ lacks_a_side s }
+{
+    if right.reading.octets == 0 {
+        return true;
+    }
+    left.reading.octets == 0
+}
+
 fn is_request(mark: Option<Mark>) -> bool
     ensures { result ≡ is_request mark }
 {
@@ -335,6 +347,9 @@ pub(crate) fn unjudged(left: &Transport, right: &Transport, opening: &Opening) -
 {
     if has_no_octets(left, right) {
         return Some(Last::NoOctets);
+    }
+    if lacks_a_side(left, right) {
+        return Some(Last::OneDirection);
     }
     if begins_late(left, right, opening) {
         return Some(Last::BeginsLate);

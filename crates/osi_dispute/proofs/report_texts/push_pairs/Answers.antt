@@ -3,7 +3,7 @@ use Rattle.osi_dispute.proofs.a_report_is_added_part_by_part.{none_added, more_a
 use Rattle.osi_dispute.proofs.report_texts.push_pairs.Goals as goal
 
 pub connections-init : goal.connections-init
-connections-init c = (λ s h k. none_added s.course.sessions c.args.text.now.items, omega arith)
+connections-init c = (λ s h k. none_added c.args.is_judged s.course.sessions c.args.text.now.items, omega arith)
 
 pub connections-preserved : goal.connections-preserved
 connections-preserved c = grind (arith, more_added)
