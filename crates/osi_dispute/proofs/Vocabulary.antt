@@ -14,7 +14,7 @@ pub use Rattle.osi_tpdu.specs.declared.faults.TpduFault.{TpduFault}
 pub use Rattle.osi_session.specs.Standing.{Seen}
 pub use Rattle.osi_rules.specs.declared.findings.Meaning.{Meaning}
 pub use Rattle.osi_rules.specs.declared.findings.Reach.{Reach}
-pub use Rattle.osi_judge.proofs.captured.a_capture_goes_on.{stream_beside, stream_fed}
+pub use Rattle.osi_judge.proofs.a_capture_goes_on.{stream_beside, stream_fed}
 pub use Rattle.osi_judge.proofs.told.a_session_stands_in_one_way.{one_stands}
 pub use Rattle.osi_judge.proofs.told.a_side_strays_at_one_place.{Strays, never_strays, no_crowd}
 pub use Rattle.osi_judge.proofs.told.a_tsdu_is_broken_by_one_rule.{one_break}
@@ -28,8 +28,8 @@ pub use Rattle.osi_judge.specs.Kept.{kept}
 pub use Rattle.osi_judge.specs.Onward.{StandsBehind, StandsFor}
 pub use Rattle.osi_judge.specs.Profiles.{leaves}
 pub use Rattle.osi_judge.specs.Sides.{watched}
-pub use Rattle.osi_judge.specs.Stops.{broke_session}
-pub use Rattle.osi_judge.specs.Tapping.{begin_of}
+pub use Rattle.osi_judge.specs.Findings.{broke_session}
+pub use Rattle.osi_judge.specs.Sides.{begin_of}
 pub use Rattle.osi_judge.specs.declared.directions.Direction.{Direction}
 pub use Rattle.osi_judge.specs.declared.directions.Direction.TheVariants.{Right}
 pub use Rattle.osi_judge.specs.declared.findings.Finding.{Finding}

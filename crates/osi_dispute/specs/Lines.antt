@@ -2,7 +2,7 @@
 use Rattle.std.specs.Prelude.{ℕ, false, if◌then◌else◌, List, [], ◌∷◌, ◌++◌, codes, Option, Some, None}
 use Rattle.hex.specs.Hex.{encode_lower}
 use Rattle.osi_judge.specs.declared.directions.Direction.{Direction}
-use Rattle.osi_judge.specs.declared.judge.Reading.{Reading}
+use Rattle.osi_judge.specs.declared.readings.Reading.{Reading}
 use Rattle.osi_judge.specs.declared.rules.Rule.{Rule}
 use Rattle.osi_judge.specs.declared.rules.Rule.TheVariants as rule
 use Rattle.osi_listing.specs.Lines.{number_field}

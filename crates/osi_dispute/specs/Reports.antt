@@ -6,7 +6,7 @@ use Rattle.osi_judge.specs.declared.directions.Direction.{Direction}
 use Rattle.osi_judge.specs.declared.directions.Direction.TheVariants as side
 use Rattle.osi_judge.specs.Captures.{Capture}
 use Rattle.osi_judge.specs.Judging.{Watched}
-use Rattle.osi_judge.specs.Stops.{broke_session}
+use Rattle.osi_judge.specs.Findings.{broke_session}
 use Rattle.osi_tap.specs.declared.marks.First.{First}
 use Rattle.osi_tap.specs.declared.marks.Layer.{Layer}
 use Rattle.osi_tap.specs.declared.marks.Layer.TheVariants as layer
