@@ -36,8 +36,8 @@ ghost use Rattle.osi_judge.specs.Running.{IsSentFrom, IsHonest};
 pub fn a_side_is_found_in_one_way()
     ensures place { (begin : Seen) (us : List (List ℕ)) (told : List Told) (f g : Finding) → is_judged f ≡ true → is_judged g ≡ true
         → IsFound begin us told f → IsFound begin us told g → place_of f ≡ place_of g }
-    ensures judged { (begin : Seen) (us : List (List ℕ)) (told : List Told) (f g : Finding) → IsFound begin us told f → IsFound begin us told g
-        → HasRoom begin us told f → HasRoom begin us told g → is_judged f ≡ is_judged g }
+    ensures judged { (begin : Seen) (us : List (List ℕ)) (told : List Told) (f g : Finding) → IsFound begin us told f
+        → IsFound begin us told g → HasRoom begin us told f → HasRoom begin us told g → is_judged f ≡ is_judged g }
 {}
 
 /// Of a side that kept the protocol the foremost of the sessions that explain it is told: no other comes before it. Of a side

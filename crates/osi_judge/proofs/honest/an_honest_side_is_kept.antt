@@ -2,8 +2,8 @@
 -- For the law that an honest side is not blamed.
 use Rattle.std.proofs.Common.{arith}
 use Rattle.osi_judge.proofs.Vocabulary.{◌≡◌, ℕ, ◌+◌, true, false, List, take, None, take-append-drop, Opening, awaits, opens}
-use Rattle.osi_judge.proofs.Vocabulary.{refusal_of, Seen, seen_called, seen_calling, Direction, Finding, Told, IsExplained, IsSentFrom, IsHonest, IsFound}
-use Rattle.osi_judge.proofs.Vocabulary.{selects_outside, broke_session, begin_of}
+use Rattle.osi_judge.proofs.Vocabulary.{refusal_of, Seen, seen_called, seen_calling, Direction, Finding, Told, IsExplained, IsSentFrom}
+use Rattle.osi_judge.proofs.Vocabulary.{IsHonest, IsFound, selects_outside, broke_session, begin_of}
 use Rattle.osi_judge.specs.declared.directions.Direction.TheVariants.{Left as left, Right as right}
 use Rattle.osi_judge.proofs.honest.a_call_is_explained.{AsSent}
 use Rattle.osi_judge.proofs.honest.a_caller_is_explained.{front_told}
