@@ -46,7 +46,12 @@ pub use Rattle.osi_tap.specs.Blaming.{IsMarkOf, IsToBlame, NobodyIs, SomeIs, Som
 pub use Rattle.osi_tap.specs.Connections.{Joined, Sessions, asked_at, changed, count, has_number, meant, numbered, packet_begins}
 pub use Rattle.osi_tap.specs.Connections.{reference_of, source_of, spoken, taken, taken_at}
 pub use Rattle.osi_tap.specs.Courses.{Course, marked, marks_of, noted_by, packet_by, reached, unit_passes, units_pass, unread}
-pub use Rattle.osi_tap.specs.Holding.{HoldsFound, HoldsJoined, IsHeard, IsPlace, line_in}
+pub use Rattle.osi_tap.specs.Outcomes.{IsOutcomeOf, SaysSo, StandsSo, Strayed, state_of, violation_of}
+pub use Rattle.osi_tap.specs.declared.outcomes.Outcome.{Outcome}
+pub use Rattle.osi_tap.specs.declared.outcomes.Violation.{Violation}
+pub use Rattle.osi_tap.specs.declared.sessions.Found.{Found}
+pub use Rattle.osi_tap.specs.Rooms.{is_over}
+pub use Rattle.osi_tap.specs.Holding.{HoldsEither, HoldsFound, HoldsJoined, IsHeard, IsPlace, line_in}
 pub use Rattle.osi_tap.specs.KnownSessions.{IsSession}
 pub use Rattle.osi_tap.specs.Lines.{place_in}
 pub use Rattle.osi_tap.specs.Standing.{HoldsState, IsJudged, IsSettled, first_in}
@@ -70,7 +75,7 @@ pub use Rattle.osi_dispute.specs.Reading.{row, rows_left}
 pub use Rattle.osi_dispute.specs.ReportTexts.{last_line, last_status, pair_lines, read_lines, transport_lines}
 pub use Rattle.osi_dispute.specs.Reports.{ArePairs, IsFirstLast, IsLast, IsLastBy, IsMarkLast, IsPair, IsPairOf, IsReport, IsStrayLast}
 pub use Rattle.osi_dispute.specs.Reports.{HoldsReached, IsReached, Report, some_over}
-pub use Rattle.osi_dispute.specs.Reports.{SaysSo, Strayed, Tells, all_keep, carried, is_clear, is_opened, is_refused_in, kept_last, no_pair}
+pub use Rattle.osi_dispute.specs.Reports.{Tells, all_keep, carried, is_clear, is_opened, is_refused_in, kept_last, no_pair}
 pub use Rattle.osi_dispute.specs.Reports.{stray_last}
 pub use Rattle.osi_dispute.specs.Rows.{IsCaptureOf, Row, capture_of, digits_left, digits_on, rows_of, side_of}
 pub use Rattle.osi_dispute.specs.declared.reports.Last.{Last}
@@ -79,4 +84,3 @@ pub use Rattle.osi_dispute.specs.declared.reports.Together.{Together}
 pub use Rattle.osi_dispute.specs.declared.reports.Transport.{Transport}
 pub use Rattle.osi_dispute.specs.declared.disputes.Judgement.{Judgement}
 pub use Rattle.osi_dispute.specs.declared.told.Connection.{Connection}
-pub use Rattle.osi_dispute.specs.declared.told.Told.{Told}

@@ -1,6 +1,6 @@
 -- No last line is empty, and the one that says that both sides kept the protocol says that all was judged: for the laws.
 use Rattle.std.proofs.Common.{arith}
-use Rattle.osi_dispute.proofs.Vocabulary.{◌≡◌, true, false, ◌&&◌, Bool, ℕ, List, [], Option, Some, None, Direction, Break, Mark, First}
+use Rattle.osi_dispute.proofs.Vocabulary.{◌≡◌, true, false, ◌&&◌, Bool, ℕ, List, [], Option, Some, None, Direction, Violation, Mark, First}
 use Rattle.osi_dispute.proofs.Vocabulary.{Layer, State, Last, Pair, last_line, IsLast, IsLastBy, IsFirstLast, all_keep, carried, is_clear}
 use Rattle.osi_dispute.proofs.Vocabulary.{kept_last, NobodyIs, some_over}
 use Rattle.osi_judge.specs.declared.directions.Direction.TheVariants as side
@@ -15,11 +15,11 @@ use Rattle.osi_dispute.specs.ToldTexts.{first_text, broke_first, left_first}
 abbrev HasWords : List ℕ → Type 0
 HasWords line = line ≡ [] → ⊥
 
-broke_words : (d : Direction) (offset : ℕ) (by : Break) → HasWords (broke_first d offset by)
+broke_words : (d : Direction) (offset : ℕ) (by : Violation) → HasWords (broke_first d offset by)
 unfolding broke_first first_text
 broke_words d offset by e = grind arith
 
-left_words : (d : Direction) (offset : ℕ) (by : Break) → HasWords (left_first d offset by)
+left_words : (d : Direction) (offset : ℕ) (by : Violation) → HasWords (left_first d offset by)
 unfolding left_first first_text
 left_words d offset by e = grind arith
 

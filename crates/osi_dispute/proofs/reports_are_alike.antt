@@ -1,14 +1,14 @@
 -- What a capture comes to has one report: for the law that a text has one judgement.
 use Rattle.std.proofs.Common.{arith}
-use Rattle.osi_dispute.proofs.Vocabulary.{◌≡◌, ◌∙◌, refl, sym, ap, subst, ℕ, ◌+◌, List, [], ◌∷◌, length, Option, Some, Direction, Break}
+use Rattle.osi_dispute.proofs.Vocabulary.{◌≡◌, ◌∙◌, refl, sym, ap, subst, ℕ, ◌+◌, List, [], ◌∷◌, length, Option, Some, Direction, Violation}
 use Rattle.osi_dispute.proofs.Vocabulary.{Stands, foremost, Watched, StandsBehind, one_stands, First, Layer, Mark, Joined, Sessions, spoken}
-use Rattle.osi_dispute.proofs.Vocabulary.{place_in, State, one_first, Last, Pair, Told, Connection, IsSession, Strayed, SaysSo, Tells}
-use Rattle.osi_dispute.proofs.Vocabulary.{IsPair, IsPairOf, ArePairs, IsFirstLast, IsLast, Report, IsReport, None, Capture}
+use Rattle.osi_dispute.proofs.Vocabulary.{place_in, State, one_first, Last, Pair, Outcome, Connection, IsSession, Strayed, SaysSo, Tells}
+use Rattle.osi_dispute.proofs.Vocabulary.{state_of, IsPair, IsPairOf, ArePairs, IsFirstLast, IsLast, Report, IsReport, None, Capture}
 use Rattle.osi_dispute.proofs.Vocabulary.{comes_to, Judges, IsJudgement, last_status, unjudged}
 use Rattle.osi_dispute.specs.ReportTexts.{report_text}
 use Rattle.osi_judge.specs.declared.directions.Direction.TheVariants as side
 use Rattle.osi_tap.specs.Lines.{told}
-use Rattle.osi_dispute.specs.declared.told.Told.TheVariants as what
+use Rattle.osi_tap.specs.declared.outcomes.Outcome.TheVariants as what
 use Rattle.osi_dispute.proofs.a_session_is_told_in_one_way.{IsOne, one_session}
 use Rattle.osi_dispute.proofs.a_text_is_one_capture.{one_text}
 
@@ -25,26 +25,32 @@ kept_alike : (w v : Watched) (s t : Stands) → w.heard ≡ v.heard → w.member
     → StandsBehind v.heard (foremost v.members) t → s ≡ t
 kept_alike w v s t u m h k = grind (arith, one_stands)
 
-place_alike : (d : Direction) (j : Joined) (w v : Watched) (i l o p : ℕ) (b e : Break) → i ≡ l → Strayed d j w i o b → Strayed d j v l p e
+place_alike : (d : Direction) (j : Joined) (w v : Watched) (i l o p : ℕ) (b e : Violation) → i ≡ l → Strayed d j w i o b → Strayed d j v l p e
     → o ≡ p
 place_alike d j w v i l o p b e same h k = some_same o p (sym h.place ∙ ap (place_in (spoken d j).said) same ∙ k.place)
 
-one_told : (d : Direction) (j : Joined) (w v : Watched) (t u : Told) → IsSession d j w → IsSession d j v → SaysSo d j w t → SaysSo d j v u
+one_told : (d : Direction) (j : Joined) (w v : Watched) (t u : Outcome) → IsSession d j w → IsSession d j v → SaysSo d j w t → SaysSo d j v u
     → t ≡ u
-one_told d j w v (what.Kept n s) (what.Kept m r) h k (f, a, x) (g, b, y) = grind (arith, kept_alike, same_session d j w v h k)
+one_told d j w v (what.Kept n s p) (what.Kept m r q) h k (f, a, x) (g, b, y) =
+    let one = same_session d j w v h k in
+    let same = kept_alike w v x.stands y.stands (h.hears ∙ sym k.hears) (one.sessions f) x.stands_for.behind y.stands_for.behind in
+    let states : s ≡ r = x.state_is ∙ ap (λ (z : Stands). state_of z.standing) same ∙ sym y.state_is in
+    let owes : p ≡ q = x.owes_is ∙ ap (λ (z : Stands). z.owes) same ∙ sym y.owes_is in
+    let tsdus : n ≡ m = a ∙ sym b in
+    λ i. what.Kept (tsdus i) (states i) (owes i)
 one_told d j w v (what.Broke o b) (what.Broke p e) h k (i, f, x) (l, g, y) = grind (arith, place_alike, same_session d j w v h k)
 one_told d j w v (what.Left o b) (what.Left p e) h k (i, f, x) (l, g, y) = grind (arith, place_alike, same_session d j w v h k)
 one_told d j w v what.TooMany what.TooMany h k f g = refl
-one_told d j w v (what.Kept n s) (what.Broke p e) h k (f, a, x) (l, g, y) = grind (arith, same_session d j w v h k)
-one_told d j w v (what.Kept n s) (what.Left p e) h k (f, a, x) (l, g, y) = grind (arith, same_session d j w v h k)
-one_told d j w v (what.Kept n s) what.TooMany h k (f, a, x) g = grind (arith, same_session d j w v h k)
-one_told d j w v (what.Broke o b) (what.Kept m r) h k (i, f, x) (g, c, y) = grind (arith, same_session d j w v h k)
+one_told d j w v (what.Kept n s q) (what.Broke p e) h k (f, a, x) (l, g, y) = grind (arith, same_session d j w v h k)
+one_told d j w v (what.Kept n s q) (what.Left p e) h k (f, a, x) (l, g, y) = grind (arith, same_session d j w v h k)
+one_told d j w v (what.Kept n s q) what.TooMany h k (f, a, x) g = grind (arith, same_session d j w v h k)
+one_told d j w v (what.Broke o b) (what.Kept m r q) h k (i, f, x) (g, c, y) = grind (arith, same_session d j w v h k)
 one_told d j w v (what.Broke o b) (what.Left p e) h k (i, f, x) (l, g, y) = grind (arith, same_session d j w v h k)
 one_told d j w v (what.Broke o b) what.TooMany h k (i, f, x) g = grind (arith, same_session d j w v h k)
-one_told d j w v (what.Left o b) (what.Kept m r) h k (i, f, x) (g, c, y) = grind (arith, same_session d j w v h k)
+one_told d j w v (what.Left o b) (what.Kept m r q) h k (i, f, x) (g, c, y) = grind (arith, same_session d j w v h k)
 one_told d j w v (what.Left o b) (what.Broke p e) h k (i, f, x) (l, g, y) = grind (arith, same_session d j w v h k)
 one_told d j w v (what.Left o b) what.TooMany h k (i, f, x) g = grind (arith, same_session d j w v h k)
-one_told d j w v what.TooMany (what.Kept m r) h k f (g, c, y) = grind (arith, same_session d j w v h k)
+one_told d j w v what.TooMany (what.Kept m r q) h k f (g, c, y) = grind (arith, same_session d j w v h k)
 one_told d j w v what.TooMany (what.Broke p e) h k f (l, g, y) = grind (arith, same_session d j w v h k)
 one_told d j w v what.TooMany (what.Left p e) h k f (l, g, y) = grind (arith, same_session d j w v h k)
 

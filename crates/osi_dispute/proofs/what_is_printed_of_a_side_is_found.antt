@@ -3,7 +3,7 @@ use Rattle.std.proofs.Common.{arith, is_some}
 use Rattle.osi_dispute.proofs.Vocabulary.{◌≡◌, ◌∙◌, ◌⊎◌, inl, inr, ap, refl, subst, sym, ℕ, zero, suc, ◌+◌, Bool, false, true, List, []}
 use Rattle.osi_dispute.proofs.Vocabulary.{◌∷◌, ◌++◌, Option, Some, None, cond, find, slice_get, Capture, Direction, Watched, Mark}
 use Rattle.osi_dispute.proofs.Vocabulary.{broke_session, found_as, room_as, First, Layer, IsToBlame, Joined, has_number, numbered, spoken}
-use Rattle.osi_dispute.proofs.Vocabulary.{marks_of, other, IsSession, State, comes_to, Last, Pair, Told, Connection, IsJudgement, Judges}
+use Rattle.osi_dispute.proofs.Vocabulary.{marks_of, other, IsSession, State, comes_to, Last, Pair, Outcome, Connection, IsJudgement, Judges}
 use Rattle.osi_dispute.proofs.Vocabulary.{unjudged, connection_by, ArePairs, IsFirstLast, IsLastBy, IsPair, IsPairOf, IsReport, Report}
 use Rattle.osi_dispute.proofs.Vocabulary.{SaysSo, Tells, Transport, stray_last}
 use Rattle.std.proofs.lemmas.Bool.{and_parts}
@@ -19,7 +19,7 @@ use Rattle.osi_dispute.specs.Blaming.{BlameNowhere, IsBlameless, IsClearOf, blam
 use Rattle.osi_dispute.specs.Blaming.BlameNowhere.{not_judged, reported}
 use Rattle.osi_dispute.specs.Openings.{unjudged_by}
 use Rattle.osi_dispute.specs.ReportTexts.{is_side}
-use Rattle.osi_dispute.specs.declared.told.Told.TheVariants as what
+use Rattle.osi_tap.specs.declared.outcomes.Outcome.TheVariants as what
 use Rattle.osi_dispute.proofs.what_halts_a_side_is_told_of_its_sender.{halts_told}
 
 -- ---- a session
@@ -43,13 +43,13 @@ to_blame d j w h b =
     }
 
 -- and only of such a session a line says so
-says_blame : (d : Direction) (j : Joined) (w : Watched) (t : Told) → SaysSo d j w t → blames_told t ≡ true → broke_session w.finding ≡ true
-says_blame d j w (what.Kept n s) h b = absurd (cc)
+says_blame : (d : Direction) (j : Joined) (w : Watched) (t : Outcome) → SaysSo d j w t → blames_told t ≡ true → broke_session w.finding ≡ true
+says_blame d j w (what.Kept n s owes) h b = absurd (cc)
 says_blame d j w (what.Broke o by) (i, f, x) b = grind arith
 says_blame d j w (what.Left o by) (i, f, x) b = grind arith
 says_blame d j w what.TooMany h b = absurd (cc)
 
-on_blame : (dropped : Bool) (reference : Option ℕ) (blamed refused unanswered : Bool) (t : Told) →
+on_blame : (dropped : Bool) (reference : Option ℕ) (blamed refused unanswered : Bool) (t : Outcome) →
     blames_on (connection_by dropped reference blamed refused unanswered t) ≡ true → blames_told t ≡ true
 on_blame dropped reference blamed refused unanswered t b = grind arith
 
@@ -118,7 +118,7 @@ module _ (d : Direction) (s : State) (clean : IsBlameless d s) where
 
   -- ---- the last line
 
-  stray_blames : (e : Direction) (t : Told) (last : Last) → stray_last e t ≡ Some last → blames_last d last ≡ true →
+  stray_blames : (e : Direction) (t : Outcome) (last : Last) → stray_last e t ≡ Some last → blames_last d last ≡ true →
       (e ≡ d) × (blames_told t ≡ true)
   stray_blames e t last is b = grind (arith, same_side)
 

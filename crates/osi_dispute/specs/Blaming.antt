@@ -14,8 +14,8 @@ use Rattle.osi_dispute.specs.declared.reports.Last.{Last}
 use Rattle.osi_dispute.specs.declared.reports.Last.TheVariants.{Broke, Left, Transport}
 use Rattle.osi_dispute.specs.Reports.{Report}
 use Rattle.osi_dispute.specs.ReportTexts.{is_side, last_line, read_lines, report_text}
-use Rattle.osi_dispute.specs.declared.told.Told.{Told}
-use Rattle.osi_dispute.specs.declared.told.Told.TheVariants as told
+use Rattle.osi_tap.specs.declared.outcomes.Outcome.{Outcome}
+use Rattle.osi_tap.specs.declared.outcomes.Outcome.TheVariants as outcome
 use Rattle.osi_dispute.specs.declared.told.Connection.{Connection}
 use Rattle.osi_dispute.specs.declared.told.Connection.TheVariants.{Session}
 
@@ -30,9 +30,9 @@ pub record IsBlameless (d : Direction) (s : State) : Type 0 where
 -- ---- what is printed
 
 -- the lines of a connection of a side
-abbrev pub blames_told : Told → Bool
-blames_told (told.Broke offset by) = true
-blames_told (told.Left offset by) = true
+abbrev pub blames_told : Outcome → Bool
+blames_told (outcome.Broke offset by) = true
+blames_told (outcome.Left offset by) = true
 blames_told t = false
 
 abbrev pub blames_on : Connection → Bool

@@ -15,7 +15,7 @@ use Rattle.osi_dispute.specs.declared.reports.Last.TheVariants.{TooManyConnectio
 use Rattle.osi_dispute.specs.Reports.{Report}
 use Rattle.osi_dispute.specs.declared.told.Connection.{Connection}
 use Rattle.osi_dispute.specs.declared.told.Connection.TheVariants.{Session}
-use Rattle.osi_dispute.specs.declared.told.Told.TheVariants.{Kept}
+use Rattle.osi_tap.specs.declared.outcomes.Outcome.TheVariants.{Kept}
 use Rattle.osi_dispute.specs.Names.{side_name}
 use Rattle.osi_dispute.specs.Causes.{marked_at_name, cause_name}
 use Rattle.osi_dispute.specs.Lines.{reading_line, without_line}
@@ -88,7 +88,7 @@ transport_lines left right =
 
 -- of a session that kept the protocol as long as it was judged
 abbrev pub limit_lines : Direction → Connection → List ℕ
-limit_lines d (Session reference (Kept tsdus stands)) = without_line d reference (codes " not judged Limit")
+limit_lines d (Session reference (Kept tsdus state owes)) = without_line d reference (codes " not judged Limit")
 limit_lines d c = []
 
 abbrev pub over_lines : (over : Bool) → (left right : Connection) → List ℕ

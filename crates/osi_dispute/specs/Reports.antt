@@ -4,51 +4,36 @@ use Rattle.std.specs.List.{list_all, list_any}
 use Rattle.osi_tpkt.specs.Stream.{offset_of}
 use Rattle.osi_judge.specs.declared.directions.Direction.{Direction}
 use Rattle.osi_judge.specs.declared.directions.Direction.TheVariants as side
-use Rattle.osi_judge.specs.declared.findings.Finding.TheVariants as finding
-use Rattle.osi_judge.specs.declared.rules.Break.{Break}
 use Rattle.osi_judge.specs.Captures.{Capture}
 use Rattle.osi_judge.specs.Judging.{Watched}
-use Rattle.osi_judge.specs.Onward.{StandsFor}
 use Rattle.osi_judge.specs.Stops.{broke_session}
 use Rattle.osi_tap.specs.declared.marks.First.{First}
 use Rattle.osi_tap.specs.declared.marks.Layer.{Layer}
 use Rattle.osi_tap.specs.declared.marks.Layer.TheVariants as layer
 use Rattle.osi_tap.specs.declared.marks.Mark.{Mark}
+use Rattle.osi_tap.specs.declared.outcomes.Outcome.{Outcome}
+use Rattle.osi_tap.specs.declared.outcomes.Outcome.TheVariants as outcome
 use Rattle.osi_tap.specs.declared.rooms.Room.{Room}
 use Rattle.osi_tap.specs.declared.tap.Tap.{Tap}
 use Rattle.osi_tap.specs.Blaming.{IsFirstOf, NobodyIs}
-use Rattle.osi_tap.specs.Connections.{Joined, Sessions, spoken, reference_of, numbered, count}
+use Rattle.osi_tap.specs.Connections.{Joined, Sessions, reference_of, numbered, count}
 use Rattle.osi_tap.specs.Courses.{marks_of, first_of}
 use Rattle.osi_tap.specs.KnownSessions.{IsSession}
-use Rattle.osi_tap.specs.Lines.{told, place_in}
+use Rattle.osi_tap.specs.Outcomes.{IsOutcomeOf, SaysSo}
 use Rattle.osi_tap.specs.Rooms.{is_over}
 use Rattle.osi_tap.specs.Streams.{reading_of}
 use Rattle.osi_tap.specs.Standing.{HoldsState, IsSettled}
 use Rattle.osi_tap.specs.Tapping.{State, stream_of, after, begin_within}
 use Rattle.osi_dispute.specs.declared.reports.Pair.{Pair}
+use Rattle.osi_dispute.specs.declared.reports.Summary.{Summary}
 use Rattle.osi_dispute.specs.declared.reports.Transport.{Transport as Carried}
 use Rattle.osi_dispute.specs.declared.reports.Last.{Last}
 use Rattle.osi_dispute.specs.declared.reports.Last.TheVariants.{BothKept, Broke, Left, Transport, TooManySessions, Limit, TooManyConnections}
-use Rattle.osi_dispute.specs.declared.told.Told.{Told}
-use Rattle.osi_dispute.specs.declared.told.Told.TheVariants as told
 use Rattle.osi_dispute.specs.declared.told.Connection.{Connection}
 use Rattle.osi_dispute.specs.declared.told.Connection.TheVariants.{Silent}
 use Rattle.osi_dispute.specs.Telling.{is_kept, is_dropped, connection_by}
 
 -- ---- one connection
-
--- the TSDU that has this place ended in the packet at this offset, and the session strayed by this rule
-pub record Strayed (d : Direction) (j : Joined) (w : Watched) (i offset : ℕ) (by : Break) : Type 0 where
-  pub place : place_in (spoken d j).said i ≡ Some offset
-  pub rule : by ≡ w.by
-
--- this is told of it: how it stands that kept the protocol, or at which packet and by which rule it broke it or left the profile
-abbrev pub SaysSo : Direction → Joined → Watched → Told → Type 0
-SaysSo d j w (told.Kept tsdus stands) = (w.finding ≡ finding.Kept) × (tsdus ≡ length (told (spoken d j)))
-    × StandsFor w (told (spoken d j)) stands
-SaysSo d j w (told.Broke offset by) = (i : ℕ) × (w.finding ≡ finding.Broke i) × Strayed d j w i offset by
-SaysSo d j w (told.Left offset by) = (i : ℕ) × (w.finding ≡ finding.Left i) × Strayed d j w i offset by
-SaysSo d j w told.TooMany = w.finding ≡ finding.TooMany
 
 -- a CC opened the connection, or it was refused
 abbrev pub is_opened : Joined → Bool
@@ -57,9 +42,19 @@ is_opened j = is_some j.class
 abbrev pub is_refused_in : Joined → Bool
 is_refused_in j = j.closed && not (is_opened j)
 
+-- this is known of a connection
+pub record IsSummary (j : Joined) (s : Summary) : Type 0 where
+  pub left : IsOutcomeOf side.Left j s.left
+  pub right : IsOutcomeOf side.Right j s.right
+  pub calling : s.calling ≡ reference_of side.Left j
+  pub called : s.called ≡ reference_of side.Right j
+  pub opened : s.is_opened ≡ is_opened j
+  pub refused : s.is_refused ≡ is_refused_in j
+  pub over : s.is_over ≡ is_over j.room
+
 -- this is told of the connection of a side
 pub record Tells (d : Direction) (j : Joined) (own other : Watched) (c : Connection) : Type 0 where
-  pub session : Told
+  pub session : Outcome
   pub says : SaysSo d j own session
   pub is : c ≡ connection_by (is_dropped own.finding other.finding) (reference_of d j) (broke_session own.finding) (is_refused_in j)
       (not (is_opened j)) session
@@ -122,17 +117,17 @@ kept_last true true false = BothKept
 kept_last false true false = TooManyConnections
 
 -- the last line if a session of this side was the first, of which this is told
-abbrev pub stray_last : Direction → Told → Option Last
-stray_last d (told.Broke offset by) = Some (Broke d offset by)
-stray_last d (told.Left offset by) = Some (Left d offset by)
-stray_last d told = None
+abbrev pub stray_last : Direction → Outcome → Option Last
+stray_last d (outcome.Broke offset by) = Some (Broke d offset by)
+stray_last d (outcome.Left offset by) = Some (Left d offset by)
+stray_last d o = None
 
 -- The first break is of a session, that of its side on the connection with its number, and the last line is what is told of it.
 pub record IsStrayLast (s : State) (f : First) (last : Last) : Type 0 where
   pub number : ℕ
   pub connection : Joined
   pub session : Watched
-  pub told : Told
+  pub told : Outcome
   pub of_number : f.connection ≡ Some number
   pub numbered_so : numbered number s.course.sessions ≡ Some connection
   pub is_session : IsSession f.direction connection session

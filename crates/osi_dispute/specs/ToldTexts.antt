@@ -1,20 +1,20 @@
 -- The lines of what is told of a side of a connection, and the last line, if it names a session that was first.
 use Rattle.std.specs.Prelude.{ℕ, List, [], ◌++◌, codes}
 use Rattle.osi_judge.specs.declared.directions.Direction.{Direction}
-use Rattle.osi_judge.specs.declared.rules.Break.{Break}
 use Rattle.osi_listing.specs.Lines.{number_field}
-use Rattle.osi_dispute.specs.declared.told.Told.{Told}
-use Rattle.osi_dispute.specs.declared.told.Told.TheVariants as told
+use Rattle.osi_tap.specs.declared.outcomes.Outcome.{Outcome}
+use Rattle.osi_tap.specs.declared.outcomes.Outcome.TheVariants as outcome
+use Rattle.osi_tap.specs.declared.outcomes.Violation.{Violation}
 use Rattle.osi_dispute.specs.declared.told.Connection.{Connection}
 use Rattle.osi_dispute.specs.declared.told.Connection.TheVariants.{Silent, Refused, Unanswered, Session}
 use Rattle.osi_dispute.specs.Names.{side_name}
 use Rattle.osi_dispute.specs.Lines.{kept_line, broke_lines, leaves_line, without_line, break_text, outside_text}
 
-abbrev pub told_lines : Direction → (reference : ℕ) → Told → List ℕ
-told_lines d reference (told.Kept tsdus stands) = kept_line d reference tsdus stands
-told_lines d reference (told.Broke offset by) = broke_lines d reference offset by
-told_lines d reference (told.Left offset by) = leaves_line d reference offset by
-told_lines d reference told.TooMany = without_line d reference (codes " too many")
+abbrev pub told_lines : Direction → (reference : ℕ) → Outcome → List ℕ
+told_lines d reference (outcome.Kept tsdus state owes) = kept_line d reference tsdus state owes
+told_lines d reference (outcome.Broke offset by) = broke_lines d reference offset by
+told_lines d reference (outcome.Left offset by) = leaves_line d reference offset by
+told_lines d reference outcome.TooMany = without_line d reference (codes " too many")
 
 abbrev pub connection_lines : Direction → Connection → List ℕ
 connection_lines d Silent = []
@@ -33,8 +33,8 @@ where_text offset = number_field (codes " first, packet ") offset ++ codes ": "
 unfoldable pub first_text : Direction → (what : List ℕ) → (offset : ℕ) → List ℕ
 first_text d what offset = who_text d what ++ where_text offset
 
-unfoldable pub broke_first : Direction → (offset : ℕ) → Break → List ℕ
+unfoldable pub broke_first : Direction → (offset : ℕ) → Violation → List ℕ
 broke_first d offset by = first_text d (codes " broke the protocol") offset ++ break_text by ++ codes "\n"
 
-unfoldable pub left_first : Direction → (offset : ℕ) → Break → List ℕ
+unfoldable pub left_first : Direction → (offset : ℕ) → Violation → List ℕ
 left_first d offset by = first_text d (codes " leaves the profile") offset ++ outside_text by

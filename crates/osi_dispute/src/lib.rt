@@ -69,4 +69,4 @@ pub use openings::Opening;
 pub use pieces::{Piece, Pieces};
 pub use report_texts::{push_judgement, push_report};
 pub use reports::{Last, Pair, Together, Transport, is_late, is_undecided};
-pub use told::{Connection, Told};
+pub use told::Connection;

@@ -2,19 +2,20 @@
 
 ghost use Rattle.std.specs.Prelude.{◌≡◌, ◌++◌, OnOk};
 ghost use Rattle.osi_dispute.specs.Names.{side_name};
-ghost use Rattle.osi_dispute.specs.Lines.{own_text, reading_line, numbers_told, standing_text, owes_text, kept_line, break_text};
+ghost use Rattle.osi_dispute.specs.Lines.{own_text, reading_line, numbers_told, state_text, owes_text, kept_line, break_text};
 ghost use Rattle.osi_dispute.specs.Lines.{place_text, outside_text, broke_line, broke_lines, leaves_line, knew_line, fault_lines};
 ghost use Rattle.osi_dispute.specs.Lines.{without_line};
 
 use crate::names;
 use bitflags::Flags;
-use osi_judge::{Break, Direction, Reading, Rule, Stands};
+use osi_judge::{Direction, Reading, Rule};
 use osi_listing::{
     push_decimal, push_number_field, push_octet, push_session_fault_code, push_words,
     session_fault_name, session_fault_offset,
 };
 use osi_names::phase_name;
-use osi_session::{Numbers, Phase, Reply, Standing};
+use osi_session::{Numbers, Phase, Reply};
+use osi_tap::{SessionState, Violation};
 use std::alloc::AllocError;
 
 /// Adds the word for a side. `Err` means that memory ran out.
@@ -50,10 +51,10 @@ pub(crate) fn push_reading(
 }
 
 /// The numbers that are printed for a side: none if its connection is aborted or gone.
-fn numbers_told(standing: &Standing) -> Numbers
-    ensures { result ≡ numbers_told standing.now }
+fn numbers_told(state: &SessionState) -> Numbers
+    ensures { result ≡ numbers_told state.now }
 {
-    if matches!(standing.phase(), Phase::Aborting | Phase::Ended) {
+    if matches!(state.phase, Phase::Aborting | Phase::Ended) {
         return Numbers {
             next: 0,
             confirmed: 0,
@@ -61,19 +62,19 @@ fn numbers_told(standing: &Standing) -> Numbers
             answers: false,
         };
     }
-    standing.numbers()
+    state.numbers
 }
 
 /// Adds the state of a session.
-#[tactic(auto, unfolding(crate::specs::Lines::standing_text))]
-fn push_standing(text: &mut Vec<u8>, standing: &Standing) -> Result<(), AllocError>
-    ensures { OnOk result (text.new.items ≡ text.old.items ++ standing_text standing.now) }
+#[tactic(auto, unfolding(crate::specs::Lines::state_text))]
+fn push_state(text: &mut Vec<u8>, state: &SessionState) -> Result<(), AllocError>
+    ensures { OnOk result (text.new.items ≡ text.old.items ++ state_text state.now) }
 {
     push_words(text, " phase ")?;
-    push_words(text, phase_name(standing.phase()))?;
+    push_words(text, phase_name(state.phase))?;
     push_words(text, " held ")?;
-    push_octet(text, standing.held().bits())?;
-    let numbers = numbers_told(standing);
+    push_octet(text, state.held.bits())?;
+    let numbers = numbers_told(state);
     push_number_field(text, " next ", u64::from(numbers.next))?;
     push_number_field(text, " below ", u64::from(numbers.confirmed))?;
     push_number_field(text, " lowest ", u64::from(numbers.lowest))
@@ -99,19 +100,20 @@ pub(crate) fn push_kept(
     direction: Direction,
     reference: u16,
     tsdus: usize,
-    stands: &Stands,
+    state: &SessionState,
+    owes: Option<Reply>,
 ) -> Result<(), AllocError>
-    ensures { OnOk result (text.new.items ≡ text.old.items ++ kept_line direction reference tsdus stands.now) }
+    ensures { OnOk result (text.new.items ≡ text.old.items ++ kept_line direction reference tsdus state.now owes) }
 {
     push_own(text, direction, reference)?;
     push_number_field(text, " kept ", tsdus as u64)?;
-    push_standing(text, &stands.standing)?;
-    push_owed(text, stands.owes)?;
+    push_state(text, state)?;
+    push_owed(text, owes)?;
     push_words(text, "\n")
 }
 
 /// Adds what was sent, and the rule.
-pub(crate) fn push_break(text: &mut Vec<u8>, by: &Break) -> Result<(), AllocError>
+pub(crate) fn push_break(text: &mut Vec<u8>, by: &Violation) -> Result<(), AllocError>
     ensures { OnOk result (text.new.items ≡ text.old.items ++ break_text by.now) }
 {
     push_words(text, names::said(by.said))?;
@@ -142,7 +144,7 @@ fn push_broke_line(
     direction: Direction,
     reference: u16,
     offset: u64,
-    by: &Break,
+    by: &Violation,
 ) -> Result<(), AllocError>
     ensures { OnOk result (text.new.items ≡ text.old.items ++ broke_line direction reference offset by.now) }
 {
@@ -159,7 +161,7 @@ pub(crate) fn push_broke(
     direction: Direction,
     reference: u16,
     offset: u64,
-    by: &Break,
+    by: &Violation,
 ) -> Result<(), AllocError>
     ensures { OnOk result (text.new.items ≡ text.old.items ++ broke_lines direction reference offset by.now) }
 {
@@ -173,14 +175,14 @@ fn push_knew(
     text: &mut Vec<u8>,
     direction: Direction,
     reference: u16,
-    by: &Break,
+    by: &Violation,
 ) -> Result<(), AllocError>
     ensures { OnOk result (text.new.items ≡ text.old.items ++ knew_line direction reference by.now) }
 {
     push_own(text, direction, reference)?;
     push_number_field(text, " knew ", by.taken as u64)?;
     push_number_field(text, " of ", by.before as u64)?;
-    push_standing(text, &by.standing)?;
+    push_state(text, &by.state)?;
     push_words(text, "\n")
 }
 
@@ -205,7 +207,7 @@ fn push_fault(
 
 /// Adds what was sent outside of the profile.
 #[tactic(auto, unfolding(crate::specs::Lines::outside_text))]
-pub(crate) fn push_outside(text: &mut Vec<u8>, by: &Break) -> Result<(), AllocError>
+pub(crate) fn push_outside(text: &mut Vec<u8>, by: &Violation) -> Result<(), AllocError>
     ensures { OnOk result (text.new.items ≡ text.old.items ++ outside_text by.now) }
 {
     push_words(text, names::said(by.said))?;
@@ -219,7 +221,7 @@ pub(crate) fn push_leaves(
     direction: Direction,
     reference: u16,
     offset: u64,
-    by: &Break,
+    by: &Violation,
 ) -> Result<(), AllocError>
     ensures { OnOk result (text.new.items ≡ text.old.items ++ leaves_line direction reference offset by.now) }
 {

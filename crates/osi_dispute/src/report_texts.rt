@@ -16,11 +16,11 @@ use crate::causes;
 use crate::lines::{push_reading, push_side, push_without};
 use crate::openings::Opening;
 use crate::reports::{Last, Pair, Together, Transport, last_of, pair_at, transport_of, unjudged};
-use crate::told::{Connection, Told};
+use crate::told::Connection;
 use crate::told_texts::{push_broke_first, push_connection, push_first, push_left_first};
 use osi_judge::Direction;
 use osi_listing::{push_number_field, push_words};
-use osi_tap::{Cause, Mark, Tap};
+use osi_tap::{Cause, Mark, Outcome, Tap};
 use std::alloc::AllocError;
 
 /// Adds what a mark is at, and what was found there.
@@ -165,7 +165,7 @@ fn push_limit(
     ensures { OnOk result (text.new.items ≡ text.old.items ++ limit_lines direction connection.now) }
 {
     match *connection {
-        Connection::Session(reference, Told::Kept(..)) => {
+        Connection::Session(reference, Outcome::Kept(..)) => {
             push_without(text, direction, reference, " not judged Limit")
         }
         _ => Ok(()),

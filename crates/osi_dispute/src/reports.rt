@@ -1,26 +1,29 @@
 //! Asks a tap what it found of all connections on a byte connection, and puts it together as a report.
 
-ghost use Rattle.std.specs.Prelude.{◌≡◌, ◌&&◌, ℕ, List, None, Some, IfOk, IfSome};
+ghost use Rattle.std.specs.Prelude.{◌≡◌, ◌&&◌, not, ℕ, List, None, Some, IfOk, IfSome};
 ghost use Rattle.osi_judge.specs.Captures.{other};
-ghost use Rattle.osi_judge.specs.Stops.{broke_session};
-ghost use Rattle.osi_tap.specs.Connections.{Joined, numbered};
+ghost use Rattle.osi_judge.specs.Judging.{Watched};
+ghost use Rattle.osi_tap.specs.Connections.{Joined, numbered, reference_of};
 ghost use Rattle.osi_tap.specs.Blaming.{IsFirstOf, IsMarkOf, IsToBlame, NobodyIs, SomeoneIs};
-ghost use Rattle.osi_tap.specs.Holding.{line_in, HoldsJoined, IsHeard};
+ghost use Rattle.osi_tap.specs.Holding.{HoldsJoined, IsHeard};
+ghost use Rattle.osi_tap.specs.Outcomes.{SaysSo};
+ghost use Rattle.osi_tap.specs.Pasts.{HoldsPast};
 ghost use Rattle.osi_tap.specs.Standing.{HoldsState, IsSettled, first_in};
-ghost use Rattle.osi_tap.specs.Rooms.{is_over};
 ghost use Rattle.osi_tap.specs.Tapping.{State};
 ghost use Rattle.osi_tap.specs.declared.marks.First.{First as Breach};
 ghost use Rattle.osi_dispute.specs.declared.reports.Pair.{Pair as Couple};
-ghost use Rattle.osi_dispute.specs.Telling.{is_kept, is_left, is_dropped, connection_with};
-ghost use Rattle.osi_dispute.specs.Reports.{SaysSo, is_opened, is_refused_in, Tells, IsPair, IsPairOf};
+ghost use Rattle.osi_dispute.specs.Telling.{connection_with, keeps, leaves, strays};
+ghost use Rattle.osi_dispute.specs.Reports.{is_opened, is_refused_in, Tells, IsPair, IsPairOf, IsSummary};
 ghost use Rattle.osi_dispute.specs.Reports.{all_keep, some_over, carried, is_clear, kept_last, HoldsReached, IsFirstLast};
 ghost use Rattle.osi_dispute.specs.Reports.{IsLast, IsMarkLast, IsStrayLast};
 ghost use Rattle.osi_dispute.specs.Openings.{Opens, begins_late, called_back, has_no_octets, is_request, may_be_late, unjudged_in};
 
 use crate::openings::Opening;
-use crate::told::{Connection, Told};
-use osi_judge::{Break, Direction, Finding, Reading};
-use osi_tap::{Connection as Joint, First, Layer, Mark, Tap, UnitKind};
+use crate::told::Connection;
+use osi_judge::{Direction, Finding, Reading};
+use osi_tap::{
+    Connection as Joint, First, Found, Layer, Mark, Outcome, Past, Tap, UnitKind, Violation,
+};
 use std::alloc::AllocError;
 
 /// What is reported of one connection.
@@ -62,9 +65,9 @@ pub enum Last {
     /// Neither side did, on any connection.
     BothKept,
     /// The session of this side broke the protocol with the packet at this offset.
-    Broke(Direction, u64, Break),
+    Broke(Direction, u64, Violation),
     /// The session of this side left the profile with the packet at this offset.
-    Left(Direction, u64, Break),
+    Left(Direction, u64, Violation),
     /// The transport of this side broke a rule, or left the profile.
     Transport(Direction, Mark),
     /// It is not known: too many sessions explain a side.
@@ -79,60 +82,82 @@ pub enum Last {
     BeginsLate,
 }
 
-/// What is told of the session of a side.
-fn told_in(joint: &Joint, direction: Direction) -> Result<Told, AllocError>
-    ensures { IfOk result (λ t. (j : Joined) → HoldsJoined joint.now j → IsHeard joint.now
-        → SaysSo direction j (line_in direction joint.now).side t) }
-{
-    let side = joint.side(direction);
-    match joint.finding(direction) {
-        Finding::Kept => Ok(Told::Kept(side.told(), side.stands()?)),
-        Finding::Broke(_) => Ok(Told::Broke(joint.offset(direction), side.by())),
-        Finding::Left(_) => Ok(Told::Left(joint.offset(direction), side.by())),
-        Finding::TooMany => Ok(Told::TooMany),
-    }
+/// What is known of a connection, whether it has a place or is over.
+#[derive(Clone, Copy)]
+struct Summary {
+    left: Outcome,
+    right: Outcome,
+    calling: Option<u16>,
+    called: Option<u16>,
+    is_opened: bool,
+    is_refused: bool,
+    is_over: bool,
 }
 
-fn is_kept(finding: Finding) -> bool
-    ensures { result ≡ is_kept finding }
+fn keeps(outcome: &Outcome) -> bool
+    ensures { result ≡ keeps outcome.now }
 {
-    matches!(finding, Finding::Kept)
+    matches!(outcome, Outcome::Kept(..))
 }
 
-fn is_left(finding: Finding) -> bool
-    ensures { result ≡ is_left finding }
+fn leaves(outcome: &Outcome) -> bool
+    ensures { result ≡ leaves outcome.now }
 {
-    matches!(finding, Finding::Left(_))
+    matches!(outcome, Outcome::Left(..))
 }
 
-fn is_blamed(finding: Finding) -> bool
-    ensures { result ≡ broke_session finding }
+fn strays(outcome: &Outcome) -> bool
+    ensures { result ≡ strays outcome.now }
 {
-    matches!(finding, Finding::Broke(_) | Finding::Left(_))
+    matches!(outcome, Outcome::Broke(..) | Outcome::Left(..))
 }
 
 /// Whether a side is not told of: the other side left the profile, and this side did not.
-fn is_dropped(own: Finding, other: Finding) -> bool
-    ensures { result ≡ is_dropped own other }
+fn is_dropped(own: &Outcome, other: &Outcome) -> bool
+    ensures { result ≡ (leaves other.now && not (leaves own.now)) }
 {
-    is_left(other) && !is_left(own)
+    leaves(other) && !leaves(own)
 }
 
-/// Whether a CC opened the connection.
-fn is_opened(joint: &Joint) -> bool
-    ensures { (j : Joined) → HoldsJoined joint.now j → result ≡ is_opened j }
+/// Whether a connection was refused.
+fn is_refused(closed: bool, opened: bool) -> bool
+    ensures { result ≡ (closed && not opened) }
 {
-    joint.class().is_some()
+    closed && !opened
 }
 
-/// Whether the connection was refused.
-fn is_refused(joint: &Joint) -> bool
-    ensures { (j : Joined) → HoldsJoined joint.now j → result ≡ is_refused_in j }
+/// What is known of a connection that has a place.
+fn summary_of(joint: &Joint) -> Result<Summary, AllocError>
+    ensures { IfOk result (λ s. (j : Joined) → HoldsJoined joint.now j → IsHeard joint.now → IsSummary j s) }
 {
-    if !joint.is_closed() {
-        return false;
+    let left = joint.outcome(Direction::Left)?;
+    let right = joint.outcome(Direction::Right)?;
+    let is_opened = joint.class().is_some();
+    Ok(Summary {
+        left,
+        right,
+        calling: joint.reference(Direction::Left),
+        called: joint.reference(Direction::Right),
+        is_opened,
+        is_refused: is_refused(joint.is_closed(), is_opened),
+        is_over: joint.is_over(),
+    })
+}
+
+/// The same of one whose place was given to another.
+fn summary_past(past: &Past) -> Summary
+    ensures { (j : Joined) → HoldsPast past.now j → IsSummary j result }
+{
+    let is_opened = past.class().is_some();
+    Summary {
+        left: past.outcome(Direction::Left),
+        right: past.outcome(Direction::Right),
+        calling: past.reference(Direction::Left),
+        called: past.reference(Direction::Right),
+        is_opened,
+        is_refused: is_refused(past.is_closed(), is_opened),
+        is_over: past.is_over(),
     }
-    !is_opened(joint)
 }
 
 /// What is told of the connection of a side, which gave it this reference.
@@ -141,7 +166,7 @@ fn connection_with(
     blamed: bool,
     refused: bool,
     unanswered: bool,
-    told: Told,
+    told: Outcome,
 ) -> Connection
     ensures { result ≡ connection_with reference blamed refused unanswered told }
 {
@@ -157,51 +182,47 @@ fn connection_with(
     Connection::Session(reference, told)
 }
 
-/// What is told of the connection of a side.
-fn connection_in(joint: &Joint, direction: Direction) -> Result<Connection, AllocError>
-    ensures { IfOk result (λ c. (j : Joined) → HoldsJoined joint.now j → IsHeard joint.now
-        → Tells direction j (line_in direction joint.now).side (line_in (other direction) joint.now).side c) }
+/// What is told of the connection of a side, by what was found of its session and of that of the other side.
+fn connection_in(
+    own: &Outcome,
+    beside: &Outcome,
+    reference: Option<u16>,
+    refused: bool,
+    opened: bool,
+) -> Connection
+    ensures { (d : Direction) (j : Joined) (w v : Watched) → SaysSo d j w own.now → SaysSo (other d) j v beside.now
+        → reference ≡ reference_of d j → refused ≡ is_refused_in j → opened ≡ is_opened j → Tells d j w v result }
 {
-    let told = told_in(joint, direction)?;
-    let own = joint.finding(direction);
-    if is_dropped(own, joint.finding(direction.other())) {
-        return Ok(Connection::Silent);
+    if is_dropped(own, beside) {
+        return Connection::Silent;
     }
-    match joint.reference(direction) {
-        None => Ok(Connection::Silent),
-        Some(reference) => Ok(connection_with(
-            reference,
-            is_blamed(own),
-            is_refused(joint),
-            !is_opened(joint),
-            told,
-        )),
+    match reference {
+        None => Connection::Silent,
+        Some(reference) => connection_with(reference, strays(own), refused, !opened, *own),
     }
 }
 
 /// Whether the sessions of both sides kept the protocol.
-fn both_keep(joint: &Joint) -> bool
-    ensures { result ≡ (is_kept (line_in Direction.Left joint.now).side.finding
-        && is_kept (line_in Direction.Right joint.now).side.finding) }
+fn both_keep(left: &Outcome, right: &Outcome) -> bool
+    ensures { result ≡ (keeps left.now && keeps right.now) }
 {
-    if !is_kept(joint.finding(Direction::Left)) {
-        return false;
-    }
-    is_kept(joint.finding(Direction::Right))
+    keeps(left) && keeps(right)
 }
 
 /// What is reported of a connection.
-fn pair_of(joint: &Joint) -> Result<Pair, AllocError>
-    ensures { IfOk result (λ p. (j : Joined) → HoldsJoined joint.now j → IsHeard joint.now → IsPair j p) }
+fn pair_of(summary: &Summary) -> Pair
+    ensures { (j : Joined) → IsSummary j summary.now → IsPair j result }
 {
-    let left = connection_in(joint, Direction::Left)?;
-    let right = connection_in(joint, Direction::Right)?;
-    Ok(Pair {
-        left,
-        right,
-        keeps: both_keep(joint),
-        over: joint.is_over(),
-    })
+    let left = &summary.left;
+    let right = &summary.right;
+    let is_refused = summary.is_refused;
+    let is_opened = summary.is_opened;
+    Pair {
+        left: connection_in(left, right, summary.calling, is_refused, is_opened),
+        right: connection_in(right, left, summary.called, is_refused, is_opened),
+        keeps: both_keep(left, right),
+        over: summary.is_over,
+    }
 }
 
 /// What is reported of the connection with this number.
@@ -210,7 +231,11 @@ pub(crate) fn pair_at(tap: &Tap, number: usize) -> Result<Pair, AllocError>
         → IsPairOf (numbered number s.course.sessions) p) }
 {
     match tap.connection(number) {
-        Some(joint) => pair_of(joint),
+        Some(Found::Placed(joint)) => {
+            let summary = summary_of(joint)?;
+            Ok(pair_of(&summary))
+        }
+        Some(Found::Replaced(past)) => Ok(pair_of(&summary_past(past))),
         None => Ok(Pair {
             left: Connection::Silent,
             right: Connection::Silent,
@@ -346,12 +371,27 @@ fn stray_of(joint: &Joint, direction: Direction) -> Option<Last>
         → f.direction ≡ direction → f.connection ≡ Some number → HoldsJoined joint.now j → IsHeard joint.now → IsStrayLast s f last) }
     ensures none { (j : Joined) → HoldsJoined joint.now j → IsToBlame direction j → result ≡ None → ⊥ }
 {
-    let side = joint.side(direction);
+    let offset = joint.offset(direction);
+    let by = joint.violation(direction);
     match joint.finding(direction) {
-        Finding::Broke(_) => Some(Last::Broke(direction, joint.offset(direction), side.by())),
-        Finding::Left(_) => Some(Last::Left(direction, joint.offset(direction), side.by())),
+        Finding::Broke(_) => Some(Last::Broke(direction, offset, by)),
+        Finding::Left(_) => Some(Last::Left(direction, offset, by)),
         Finding::Kept => None,
         Finding::TooMany => None,
+    }
+}
+
+/// The same on one whose place was given to another.
+fn stray_past(past: &Past, direction: Direction) -> Option<Last>
+    ensures some { IfSome result (λ last. (s : State) (f : Breach) (number : ℕ) (j : Joined) → numbered number s.course.sessions ≡ Some j
+        → f.direction ≡ direction → f.connection ≡ Some number → HoldsPast past.now j → IsStrayLast s f last) }
+    ensures none { (j : Joined) → HoldsPast past.now j → IsToBlame direction j → result ≡ None → ⊥ }
+{
+    match past.outcome(direction) {
+        Outcome::Broke(offset, by) => Some(Last::Broke(direction, offset, by)),
+        Outcome::Left(offset, by) => Some(Last::Left(direction, offset, by)),
+        Outcome::Kept(..) => None,
+        Outcome::TooMany => None,
     }
 }
 
@@ -363,7 +403,8 @@ fn session_last(tap: &Tap, direction: Direction, number: usize) -> Option<Last>
 {
     match tap.connection(number) {
         None => None,
-        Some(joint) => stray_of(joint, direction),
+        Some(Found::Placed(joint)) => stray_of(joint, direction),
+        Some(Found::Replaced(past)) => stray_past(past, direction),
     }
 }
 

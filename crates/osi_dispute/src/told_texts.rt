@@ -6,24 +6,27 @@ ghost use Rattle.osi_dispute.specs.ToldTexts.{told_lines, connection_lines, who_
 use crate::lines::{
     push_break, push_broke, push_kept, push_leaves, push_outside, push_side, push_without,
 };
-use crate::told::{Connection, Told};
-use osi_judge::{Break, Direction};
+use crate::told::Connection;
+use osi_judge::Direction;
 use osi_listing::{push_number_field, push_words};
+use osi_tap::{Outcome, Violation};
 use std::alloc::AllocError;
 
 fn push_told(
     text: &mut Vec<u8>,
     direction: Direction,
     reference: u16,
-    told: &Told,
+    told: &Outcome,
 ) -> Result<(), AllocError>
     ensures { OnOk result (text.new.items ≡ text.old.items ++ told_lines direction reference told.now) }
 {
     match *told {
-        Told::Kept(tsdus, stands) => push_kept(text, direction, reference, tsdus, &stands),
-        Told::Broke(offset, by) => push_broke(text, direction, reference, offset, &by),
-        Told::Left(offset, by) => push_leaves(text, direction, reference, offset, &by),
-        Told::TooMany => push_without(text, direction, reference, " too many"),
+        Outcome::Kept(tsdus, state, owes) => {
+            push_kept(text, direction, reference, tsdus, &state, owes)
+        }
+        Outcome::Broke(offset, by) => push_broke(text, direction, reference, offset, &by),
+        Outcome::Left(offset, by) => push_leaves(text, direction, reference, offset, &by),
+        Outcome::TooMany => push_without(text, direction, reference, " too many"),
     }
 }
 
@@ -83,7 +86,7 @@ pub(crate) fn push_broke_first(
     text: &mut Vec<u8>,
     direction: Direction,
     offset: u64,
-    by: &Break,
+    by: &Violation,
 ) -> Result<(), AllocError>
     ensures { OnOk result (text.new.items ≡ text.old.items ++ broke_first direction offset by.now) }
 {
@@ -99,7 +102,7 @@ pub(crate) fn push_left_first(
     text: &mut Vec<u8>,
     direction: Direction,
     offset: u64,
-    by: &Break,
+    by: &Violation,
 ) -> Result<(), AllocError>
     ensures { OnOk result (text.new.items ≡ text.old.items ++ left_first direction offset by.now) }
 {

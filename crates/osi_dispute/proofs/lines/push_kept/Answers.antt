@@ -7,4 +7,4 @@ unfolding kept_line
 returns c =
     rw (← append_assoc, ← append_assoc, ← append_assoc, ← append_assoc)
     (rw (← c.in_ok-push_own.ensures, ← c.in_ok-push_number_field.ensures)
-    (rw (← c.in_ok-push_standing.ensures, ← c.in_ok-push_owed.ensures) c.push_words.ensures))
+    (rw (← c.in_ok-push_state.ensures, ← c.in_ok-push_owed.ensures) c.push_words.ensures))
