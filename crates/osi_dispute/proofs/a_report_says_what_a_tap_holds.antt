@@ -105,10 +105,6 @@ more_pairs ss n (q ∷ ps) p h k = grind (arith, more_pairs ss (n + 1) ps p h.1 
 pub joined_at : (o : Option Joined) (f : Found) → HoldsFound (Some f) o → (j : Joined) × (o ≡ Some j) × HoldsEither f j
 joined_at o f h = search arith
 
-pub pair_held : (o : Option Joined) (f : Found) (p : Pair) → HoldsFound (Some f) o → ((j : Joined) → HoldsEither f j → IsPair j p)
-    → IsPairOf o p
-pair_held o f p h k = grind arith
-
 pub pair_missing : (o : Option Joined) (p : Pair) → HoldsFound None o → p ≡ no_pair → IsPairOf o p
 pair_missing o p h k = grind arith
 
@@ -142,11 +138,6 @@ pub stray_held : (s : State) (d : Direction) (c : Joint) (t : Outcome) (last : L
 stray_held s d c t last f number j e w n h k says is = grind (arith, session_at)
 
 -- on one that is over
-pub past_stray_held : (s : State) (d : Direction) (t : Outcome) (last : Last) (f : First) (number : ℕ) (j : Joined)
-    → numbered number s.course.sessions ≡ Some j → f.direction ≡ d → f.connection ≡ Some number → IsOutcomeOf d j t
-    → stray_last d t ≡ Some last → IsStrayLast s f last
-past_stray_held s d t last f number j e w n h is = grind arith
-
 pub past_or_blamed : (d : Direction) (j : Joined) (t : Outcome) → strays t ≡ false → IsOutcomeOf d j t → IsToBlame d j → ⊥
 past_or_blamed d j t e h b =
     let k : strays t ≡ true = sym (found_strays d j h.session t h.says) ∙ session_blamed d j h.session h.is_session b in cc
