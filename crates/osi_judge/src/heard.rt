@@ -1,6 +1,6 @@
 //! The TSDUs of the other side of a connection, in order, without their user data.
 
-ghost use Rattle.std.specs.Prelude.{◌≡◌, ◌<◌, ◌+◌, ◌++◌, ◌∷◌, [], true, IfSome, OnOk, OnErr, get_or, length};
+ghost use Rattle.std.specs.Prelude.{◌≡◌, ◌<◌, ◌+◌, ◌++◌, ◌∷◌, [], true, false, IfSome, OnOk, OnErr, get_or, length};
 ghost use Rattle.osi_judge.specs.Keeping.{is_same, once, room_in};
 ghost use Rattle.osi_judge.specs.Runs.{AreFrom, HasPlace, last_in};
 
@@ -140,5 +140,33 @@ impl Heard {
         self.count = from + 1;
         self.room = room;
         Ok(())
+    }
+
+    /// Counts a TSDU once more, if it is the last one again. Says whether it is.
+    fn again(&mut self, tsdu: &[u8]) -> bool
+        ensures same { result ≡ true → self.new ≡ self.old ++ tsdu.now ∷ [] }
+        ensures other { result ≡ false → self.new ≡ self.old }
+    {
+        let from = self.count;
+        if from == usize::MAX {
+            return false;
+        }
+        if !ends_with(&self.runs, tsdu) {
+            return false;
+        }
+        self.count = from + 1;
+        true
+    }
+
+    /// One more TSDU, of which a copy is kept if it is not the last one again. `Err` changes nothing.
+    pub(crate) fn push_copy(&mut self, alloc: Global, tsdu: &[u8]) -> Result<(), AllocError>
+        ensures ok { OnOk result (self.new ≡ self.old ++ tsdu.now ∷ []) }
+        ensures err { OnErr result (self.new ≡ self.old) }
+    {
+        if self.again(tsdu) {
+            return Ok(());
+        }
+        let copy = Octets::copy(alloc, tsdu)?;
+        self.push(copy)
     }
 }

@@ -1,6 +1,6 @@
 //! The outline of a TSDU: one without user data that has the same effect on every session.
 
-ghost use Rattle.std.specs.Prelude.{◌≡◌, ◌<◌, ◌∷◌, [], ℕ, List, Ok, Some, IfOk, IfSome, true, false, length, option_map};
+ghost use Rattle.std.specs.Prelude.{◌≡◌, ◌<◌, ◌∷◌, ◌++◌, [], ℕ, List, Ok, Some, IfOk, IfSome, OnOk, OnErr, true, false, length, option_map};
 ghost use Rattle.osi_message.specs.Meanings.{meant_by};
 ghost use Rattle.osi_message.specs.Reading.{said_by_units, word};
 ghost use Rattle.osi_message.specs.Words.{enclosure_of, part, part_octets, says};
@@ -10,6 +10,7 @@ ghost use Rattle.osi_spdu.specs.Groups.{units_of};
 ghost use Rattle.osi_spdu.specs.Units.{said_by};
 ghost use Rattle.osi_judge.specs.Outlines.{bare, no_data, outline_as, outline_behind, outline_by, outline};
 
+use crate::heard::Heard;
 use osi_message::{Message, Octets, Place, PlainUnit, Sent, Tsdus, data_head};
 use osi_spdu::{Group, Spdu, read_group};
 use std::alloc::{AllocError, Global};
@@ -254,20 +255,40 @@ fn is_bare_point(tsdu: &[u8]) -> bool
     }
 }
 
-/// The outline of a TSDU. Data and points in their written form are looked at first, because they are the most frequent.
-#[tactic(auto, unfolding(osi_message::specs::Reading::said_at, crate::specs::Outlines::outline))]
-pub(crate) fn outline(alloc: Global, tsdu: &[u8]) -> Result<Octets, AllocError>
-    ensures { IfOk result (λ o. o ≡ outline tsdu.now) }
+/// The outline of data, and of a minor point or its confirmation without user data, in their written form: no units are read.
+fn known_outline(tsdu: &[u8]) -> Option<&[u8]>
+    ensures { IfSome result (λ octets. octets.now ≡ outline tsdu.now) }
 {
     if let Some(_user_data) = PlainUnit::data(tsdu) {
-        return Octets::copy(alloc, data_head());
+        return Some(data_head());
     }
     if is_bare_point(tsdu) {
-        return Octets::copy(alloc, tsdu);
+        return Some(tsdu);
     }
+    None
+}
+
+/// The outline of a TSDU, by its units.
+#[tactic(auto, unfolding(osi_message::specs::Reading::said_at, crate::specs::Outlines::outline))]
+fn outline(alloc: Global, tsdu: &[u8]) -> Result<Octets, AllocError>
+    ensures { IfOk result (λ o. o ≡ outline tsdu.now) }
+{
     let read = read_group(tsdu);
     match &read {
         Ok(group) => outline_of(alloc, tsdu, group),
         Err(_) => Octets::copy(alloc, tsdu),
     }
+}
+
+/// One more TSDU is heard: its outline. Those that are known without its units are looked at first, because they are the most
+/// frequent. `Err` changes nothing.
+pub(crate) fn hear(alloc: Global, heard: &mut Heard, tsdu: &[u8]) -> Result<(), AllocError>
+    ensures ok { OnOk result (heard.new ≡ heard.old ++ outline tsdu.now ∷ []) }
+    ensures err { OnErr result (heard.new ≡ heard.old) }
+{
+    if let Some(octets) = known_outline(tsdu) {
+        return heard.push_copy(alloc, octets);
+    }
+    let kept = outline(alloc, tsdu)?;
+    heard.push(kept)
 }

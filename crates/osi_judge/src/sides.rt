@@ -14,7 +14,7 @@ ghost use Rattle.osi_judge.specs.Sides.{watched, EndsAt};
 use crate::findings::Finding;
 use crate::heard::Heard;
 use crate::members::{Member, none_is_left};
-use crate::outlines::outline;
+use crate::outlines::hear;
 use crate::profiles::{leaves, selects_outside};
 use crate::rules::{Break, break_at, selection_at};
 use crate::standings::{Stands, foremost, stands_behind};
@@ -118,8 +118,7 @@ impl Side {
         ensures watches { OnOk result ((told : List Told) → Watches (watched self.old) told → Watches (watched self.new) told) }
         ensures err { OnErr result (watched self.new ≡ watched self.old) }
     {
-        let kept = outline(self.alloc, tsdu)?;
-        self.heard.push(kept)?;
+        hear(self.alloc, &mut self.heard, tsdu)?;
         Ok(())
     }
 

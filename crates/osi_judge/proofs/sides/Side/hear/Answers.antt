@@ -6,5 +6,5 @@ use Rattle.osi_judge.proofs.sides.Side.hear.Goals as goal
 pub returns-clause-watches : goal.returns-clause-watches
 returns-clause-watches c = λ told k.
     let w = watched c.args.self.now in
-    hears_as w (record w { heard = c.push.new.self }) (outline c.args.tsdu.now) told
+    hears_as w (record w { heard = c.hear.new.heard }) (outline c.args.tsdu.now) told
     (grind arith) k
