@@ -10,3 +10,4 @@ pub mod Passing
 pub mod Hearing
 pub mod Disputes
 pub mod Blaming
+pub mod News

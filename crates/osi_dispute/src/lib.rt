@@ -53,6 +53,7 @@ mod causes;
 mod disputes;
 mod hearing;
 pub mod laws;
+mod news;
 mod openings;
 mod pieces;
 mod places;
