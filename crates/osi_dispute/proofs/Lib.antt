@@ -19,3 +19,4 @@ pub mod a_report_is_added_part_by_part
 pub mod what_halts_a_side_is_told_of_its_sender
 pub mod what_is_printed_of_a_side_is_found
 pub mod what_passed_of_a_side_is_counted
+pub mod what_is_told_is_of_the_report

@@ -14,3 +14,4 @@ pub mod Passing
 pub mod Hearing
 pub mod Disputes
 pub mod Blaming
+pub mod News

@@ -4,12 +4,13 @@ ghost use Rattle.std.specs.Prelude.{◌≡◌, ◌<◌};
 ghost use Rattle.osi_dispute.specs.Passing.{digit_of};
 
 use crate::disputes::{Judgement, judgement_by, pass, pass_if};
+use crate::news::{News, is_decided};
 use crate::openings::Opening;
 use crate::places::Place;
 use crate::steps::{is_plain, read_octets, start_of_text, step};
 use osi_listing::CaptureFault;
 use osi_tap::Tap;
-use std::alloc::Global;
+use std::alloc::{AllocError, Global};
 
 /// The text of a capture of both sides, heard piece by piece. You feed it the text in pieces of any size, and ask for the
 /// judgement at its end. What it keeps is what the tap keeps, and at most 4,096 octets; it keeps nothing of the text.
@@ -21,21 +22,24 @@ pub struct Hearing {
     place: Place,
     /// Octets that pass together.
     octets: Vec<u8>,
+    /// Of what something was told.
+    news: News,
     /// Why it failed, if it did.
     fault: Option<CaptureFault>,
     ghost small: { digit_of place.half < 16 },
 }
 
 impl Hearing {
-    ghost use Rattle.std.specs.Prelude.{◌++◌, ◌∷◌, [], ℕ, List, Err, IfErr, IfOk, OnOk, length, ◌≤◌};
+    ghost use Rattle.std.specs.Prelude.{◌++◌, ◌∷◌, [], ℕ, List, Err, IfErr, IfOk, OnOk, length, ◌≤◌, ◌⊎◌};
     ghost use Rattle.osi_judge.specs.Captures.{Capture, piece, stream};
     ghost use Rattle.osi_judge.specs.declared.directions.Direction.TheVariants.{Left};
     ghost use Rattle.osi_listing.specs.Capture.{IsNoCapture};
     ghost use Rattle.osi_listing.specs.declared.capture.CaptureFault.{CaptureFault};
     ghost use Rattle.osi_tap.specs.Standing.{HoldsState};
-    ghost use Rattle.osi_tap.specs.Tapping.{comes_to};
+    ghost use Rattle.osi_tap.specs.Tapping.{State, comes_to};
     ghost use Rattle.osi_dispute.specs.Disputes.{IsJudgement};
     ghost use Rattle.osi_dispute.specs.Hearing.{Fails, IsHeard};
+    ghost use Rattle.osi_dispute.specs.News.{Announces};
     ghost use Rattle.osi_dispute.specs.Openings.{Opens};
 
     /// Nothing was heard.
@@ -48,6 +52,7 @@ impl Hearing {
             opening: Opening::new(),
             place: start_of_text(),
             octets: Vec::new(alloc),
+            news: News::new(alloc),
             fault: None,
         }
     }
@@ -126,6 +131,49 @@ impl Hearing {
             octets,
         )?;
         Ok(rest)
+    }
+
+    /// Adds to a text what has become certain since the last call, a line for each finding: a session or the transport of a side
+    /// broke the protocol or left the profile, or is judged no further since there are too many sessions or connections. Each is a line
+    /// of the report of what has passed. The break that passed first comes first; the others come in the order of a report.
+    ///
+    /// Nothing is told before octets of both sides have passed, nor as long as what follows may show that the capture begins in the
+    /// middle of a connection. It looks at each connection that may still get units, and once at each other. After a fault every call
+    /// answers the same.
+    pub fn news(&mut self, text: &mut Vec<u8>) -> Result<(), CaptureFault>
+        ensures kept { OnOk result ((whole rest : List ℕ) → IsHeard self.old whole rest → IsHeard self.new whole rest) }
+        ensures told { OnOk result ((whole rest : List ℕ) (heard : IsHeard self.old whole rest)
+            → Announces heard.capture text.old.items text.new.items) }
+        ensures failed { IfErr result (λ fault. Fails self.new fault) }
+        ensures over { (fault : CaptureFault) → Fails self.old fault → result ≡ Err fault }
+        ensures sound { (fault : CaptureFault) → result ≡ Err fault → (fault ≡ CaptureFault.OutOfMemory) ⊎ Fails self.old fault }
+    {
+        if let Some(fault) = self.fault {
+            return Err(fault);
+        }
+        match self.add_news(text) {
+            Ok(()) => Ok(()),
+            Err(_) => {
+                self.fault = Some(CaptureFault::OutOfMemory);
+                Err(CaptureFault::OutOfMemory)
+            }
+        }
+    }
+
+    /// The same, if nothing has failed.
+    fn add_news(&mut self, text: &mut Vec<u8>) -> Result<(), AllocError>
+        ensures holds { (s : State) → HoldsState self.old.tap s → HoldsState self.new.tap s }
+        ensures opening { self.new.opening ≡ self.old.opening }
+        ensures place { self.new.place ≡ self.old.place }
+        ensures fault { self.new.fault ≡ self.old.fault }
+        ensures told { OnOk result ((capture : Capture) → HoldsState self.old.tap (comes_to capture)
+            → Opens self.old.opening (stream Left capture) → Announces capture text.old.items text.new.items) }
+    {
+        self.tap.settle()?;
+        if !is_decided(&self.tap, &self.opening) {
+            return Ok(());
+        }
+        self.news.add(text, &self.tap)
     }
 
     /// The judgement of the text that was heard. Ask once, at its end.

@@ -8,7 +8,8 @@ ghost use Rattle.osi_judge.specs.Judging.{Watched};
 ghost use Rattle.osi_dispute.specs.Blaming.{BlameNowhere, IsBlameless};
 ghost use Rattle.osi_dispute.specs.Disputes.{IsJudgement};
 ghost use Rattle.osi_dispute.specs.Reports.{IsLast, IsReport, Report, all_keep, carried, is_clear, some_over};
-ghost use Rattle.osi_dispute.specs.ReportTexts.{last_line};
+ghost use Rattle.osi_dispute.specs.News.{Announces, IsNews, IsPartOf};
+ghost use Rattle.osi_dispute.specs.ReportTexts.{last_line, report_text};
 ghost use Rattle.osi_dispute.specs.declared.reports.Last.{Last};
 ghost use Rattle.osi_dispute.specs.declared.reports.Last.TheVariants.{BothKept, OneDirection};
 ghost use Rattle.osi_dispute.specs.declared.reports.Pair.{Pair};
@@ -51,6 +52,14 @@ pub fn one_direction_is_not_judged()
         → BlameNowhere d lines × (status ≡ 1) }
     ensures last { (e : Direction) (text lines : List ℕ) (status : ℕ) (j : IsJudgement text lines status) → stream e j.capture ≡ []
         → (stream (other e) j.capture ≡ [] → ⊥) → (front : List ℕ) × (lines ≡ front ++ last_line OneDirection) }
+{}
+
+/// What a hearing tells of a capture while it is heard ([`crate::Hearing::news`]): each line is one of the report of what has passed by
+/// then (`line`). As long as a side has sent no octet, nothing is told (`quiet`).
+pub fn what_is_told_is_a_line_of_the_report()
+    ensures line { (s : State) (r : Report) (line : List ℕ) → IsNews s line → IsReport s r → IsPartOf line (report_text r) }
+    ensures quiet { (e : Direction) (capture : Capture) (old new : List ℕ) → stream e capture ≡ [] → Announces capture old new
+        → new ≡ old }
 {}
 
 /// What is printed of a side is found of it. If what the capture comes to has no break of the side, neither of its transport nor of a

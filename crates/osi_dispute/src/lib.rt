@@ -54,6 +54,7 @@ mod hearing;
 pub mod laws;
 mod lines;
 mod names;
+mod news;
 mod openings;
 mod pieces;
 mod places;
