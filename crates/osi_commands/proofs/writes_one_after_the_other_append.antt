@@ -34,17 +34,17 @@ appends_keeps (Some x) None c xs h k = absurd h
 appends_keeps (Some x) (Some y) None xs h k = absurd k
 appends_keeps (Some x) (Some y) (Some z) xs h k = k ∙ h
 
-appends_both : (a b c : Option (List ℕ)) (xs ys : List ℕ) → Appends a b xs → Appends b c ys → Appends a c (xs ++ ys)
+pub appends_both : (a b c : Option (List ℕ)) (xs ys : List ℕ) → Appends a b xs → Appends b c ys → Appends a c (xs ++ ys)
 appends_both None b c xs ys h k = tt
 appends_both (Some x) None c xs ys h k = absurd h
 appends_both (Some x) (Some y) None xs ys h k = absurd k
 appends_both (Some x) (Some y) (Some z) xs ys h k = k ∙ ap (λ t. t ++ ys) h ∙ append_assoc x xs ys
 
-appends_none : (a : Option (List ℕ)) → Appends a a []
+pub appends_none : (a : Option (List ℕ)) → Appends a a []
 appends_none None = tt
 appends_none (Some x) = sym (append-nil x)
 
-same_appends : (a b : Option (List ℕ)) (xs ys : List ℕ) → xs ≡ ys → Appends a b xs → Appends a b ys
+pub same_appends : (a b : Option (List ℕ)) (xs ys : List ℕ) → xs ≡ ys → Appends a b xs → Appends a b ys
 same_appends None b xs ys e h = tt
 same_appends (Some x) None xs ys e h = absurd h
 same_appends (Some x) (Some y) xs ys e h = h ∙ ap (λ t. x ++ t) e

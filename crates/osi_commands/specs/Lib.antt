@@ -1,3 +1,4 @@
 pub mod Judging
+pub mod Live
 pub mod Pairing
 pub mod Show

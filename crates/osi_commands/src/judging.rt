@@ -15,10 +15,10 @@ use std::alloc::Global;
 use std::io::{Read, Write};
 
 /// How many octets of the text are read at once.
-const PIECE: usize = 65_536;
+pub(crate) const PIECE: usize = 65_536;
 
 /// Hears a piece of a text.
-fn hear(hearing: &mut Hearing, piece: &[u8]) -> Result<(), ToolFault>
+pub(crate) fn hear(hearing: &mut Hearing, piece: &[u8]) -> Result<(), ToolFault>
     ensures ok { OnOk result ((whole more : List ℕ) → IsHeard hearing.old whole (piece.now ++ more) → IsHeard hearing.new whole more) }
     ensures bad_hex { IfErr result (λ fault. fault ≡ ToolFault.BadHex → (whole more : List ℕ)
         → IsHeard hearing.old whole (piece.now ++ more) → IsNoCapture whole) }
@@ -32,7 +32,7 @@ fn hear(hearing: &mut Hearing, piece: &[u8]) -> Result<(), ToolFault>
 }
 
 /// The judgement of a text that was heard.
-fn judgement_of(hearing: &mut Hearing) -> Result<Judgement, ToolFault>
+pub(crate) fn judgement_of(hearing: &mut Hearing) -> Result<Judgement, ToolFault>
     ensures judged { IfOk result (λ j. (text : List ℕ) → IsHeard hearing.old text [] → IsJudgement text j.lines.items j.status) }
     ensures status { IfOk result (λ j. j.status < 2) }
     ensures bad_hex { IfErr result (λ fault. fault ≡ ToolFault.BadHex → (text : List ℕ) → IsHeard hearing.old text []

@@ -9,12 +9,13 @@
 //!
 //! - [`show`] and [`pair`] read all of the input, at most 16,777,216 octets, make the whole text, and then write it.
 //!   [`judge`] hears an input of any length piece by piece, keeps nothing of it, and writes what was found at its end. So
-//!   nothing is written for an input that can't be read, and a write that fails leaves a prefix of the text.
+//!   nothing is written for an input that can't be read, and a write that fails leaves a prefix of the text. [`judge_live`]
+//!   also writes each finding as soon as it is certain, while the input is read.
 //! - [`ToolFault`] says why nothing, or not all, was done. It comes in a [`Failure`], with what the [`Watch`] remembers: whether a
 //!   read failed, and whether a write did. So the contracts can say when a fault is reported. An interrupted call is
 //!   repeated.
 //!
-//! Any reader and any writer will do. A [`Watch`] passes beside them from call to call; it is made in each of the three.
+//! Any reader and any writer will do. A [`Watch`] passes beside them from call to call; it is made in each of the four.
 //!
 //! What it leaves to others: the script of a capture, and which job comes when (`osi_tool`), and the words of the command
 //! line (`osi_words`).
@@ -22,6 +23,7 @@
 
 mod faults;
 mod judging;
+mod live;
 mod pairing;
 mod showing;
 mod texts;
@@ -29,6 +31,7 @@ mod watched;
 
 pub use faults::{Failure, ToolFault};
 pub use judging::judge;
+pub use live::judge_live;
 pub use pairing::pair;
 pub use showing::{read_input, show};
 pub use texts::LONGEST_INPUT;

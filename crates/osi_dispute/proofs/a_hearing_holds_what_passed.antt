@@ -3,7 +3,7 @@ use Rattle.std.proofs.Common.{is_some, OnOk, Result, Ok, Err}
 use Rattle.osi_dispute.proofs.Vocabulary.{◌≡◌, ◌∙◌, refl, sym, ap, subst, ℕ, true, false, List, [], ◌∷◌, ◌++◌}
 use Rattle.osi_dispute.proofs.Vocabulary.{Option, Some, None, arith, append-nil}
 use Rattle.osi_dispute.proofs.Vocabulary.{Capture, stream, Tap, HoldsState, comes_to, Opening, Opens, IsCaptureOf, Judges}
-use Rattle.osi_dispute.proofs.Vocabulary.{IsJudgement, State, unjudged}
+use Rattle.osi_dispute.proofs.Vocabulary.{IsJudgement, unjudged}
 use Rattle.osi_judge.specs.declared.directions.Direction.TheVariants as side
 use Rattle.osi_listing.specs.Capture.{IsNoCapture}
 use Rattle.osi_dispute.specs.declared.hearing.Hearing.{Hearing}
@@ -79,17 +79,6 @@ heard_at_once h text f = subst (IsHeard h text) (sym (append-nil text)) (f text)
 no_end : (o : Option Half) → is_some o ≡ true → at_end o ≡ None
 no_end None e = absurd (grind (arith, e))
 no_end (Some half) e = refl
-
--- what is told changes none of it
-pub heard_still : (old new : Hearing) → ((s : State) → HoldsState old.tap s → HoldsState new.tap s) → new.opening ≡ old.opening
-    → new.place ≡ old.place → new.fault ≡ old.fault → (whole rest : List ℕ) → IsHeard old whole rest → IsHeard new whole rest
-heard_still old new holds opening place fault whole rest k = record {
-  capture = k.capture;
-  passed = k.passed ∙ ap (λ (p : Place). after_passed k.capture (passed_from p rest)) (sym place);
-  holds = holds (comes_to k.capture) k.holds;
-  opens = subst (λ (o : Opening). Opens o (stream side.Left k.capture)) (sym opening) k.opens;
-  sound = fault ∙ k.sound;
-}
 
 pub half_heard : (h : Hearing) (text : List ℕ) → is_some h.place.half ≡ true → IsHeard h text [] → IsNoCapture text
 half_heard h text e k = is_none text (k.passed ∙ none_after k.capture (at_end h.place.half) (no_end h.place.half e))

@@ -1,11 +1,12 @@
 //! Which job runs what.
 
-ghost use Rattle.std.specs.Prelude.{◌≡◌, ◌+◌, ◌<◌, ◌⊎◌, true, length, IfOk, IfErr, IfSome, IsErrAnd};
-ghost use Rattle.osi_tool.specs.Doing.{Does, BeginsToDo, FailsToTake, IsUnreadable, longest};
+ghost use Rattle.std.specs.Prelude.{◌≡◌, ◌+◌, ◌<◌, ◌⊎◌, true, false, length, IfOk, IfErr, IfSome, IsErrAnd};
+ghost use Rattle.osi_tool.specs.Doing.{Does, BeginsToDo, FailsToTake, IsUnreadable, is_live, longest};
+ghost use Rattle.osi_commands.specs.Live.{Announces};
 ghost use Rattle.osi_commands.specs.Show.{TakesAtMost};
 
 use crate::witnessing::witness;
-use osi_commands::{Failure, ToolFault, judge, pair, show};
+use osi_commands::{Failure, ToolFault, judge, judge_live, pair, show};
 use osi_words::Job;
 use std::alloc::Global;
 use std::io::{Read, Write};
@@ -14,7 +15,7 @@ use std::io::{Read, Write};
 ///
 /// [`ToolFault::Input`] means that a read failed or the input is too long, [`ToolFault::BadHex`] that the text is not
 /// a capture, and [`ToolFault::Write`] that a write failed: what was written then is a prefix of the text. After
-/// another fault nothing was written.
+/// another fault nothing was written, but for what `judge --live` had found by then.
 pub fn do_job<R: Read, W: Write>(
     alloc: Global,
     job: Job,
@@ -28,17 +29,20 @@ pub fn do_job<R: Read, W: Write>(
     ensures long { IfSome (longest job) (λ most. IfSome (R.remaining reader.old) (λ text. most < length text →
         IsErrAnd result (λ f. (f.fault ≡ ToolFault.Input) ⊎ (f.fault ≡ ToolFault.OutOfMemory)))) }
     ensures input { IfErr result (λ f. f.fault ≡ ToolFault.Input →
-        FailsToTake job f.watch.read_failed (R.remaining reader.old) × (writer.new ≡ writer.old)) }
+        FailsToTake job f.watch.read_failed (R.remaining reader.old) × (is_live job ≡ false → writer.new ≡ writer.old)) }
     ensures bad_hex { IfErr result (λ f. f.fault ≡ ToolFault.BadHex →
-        IfSome (R.remaining reader.old) (IsUnreadable job) × (writer.new ≡ writer.old)) }
+        IfSome (R.remaining reader.old) (IsUnreadable job) × (is_live job ≡ false → writer.new ≡ writer.old)) }
     ensures write { IfErr result (λ f. f.fault ≡ ToolFault.Write → (f.watch.write_failed ≡ true)
         × IfSome (R.remaining reader.old) (λ text. BeginsToDo job text (W.contents writer.old) (W.contents writer.new))) }
-    ensures memory { IfErr result (λ f. f.fault ≡ ToolFault.OutOfMemory → writer.new ≡ writer.old) }
+    ensures memory { IfErr result (λ f. f.fault ≡ ToolFault.OutOfMemory → is_live job ≡ false → writer.new ≡ writer.old) }
+    ensures live { IfErr result (λ f. (f.fault ≡ ToolFault.Write → ⊥) → is_live job ≡ true → IfSome (R.remaining reader.old) (λ text.
+        Announces text (W.contents writer.old) (W.contents writer.new))) }
 {
     match job {
         Job::Show => show(alloc, reader, writer),
         Job::Pair => pair(alloc, reader, writer),
         Job::Judge => judge(alloc, reader, writer),
+        Job::Live => judge_live(alloc, reader, writer),
         Job::Witness => witness(alloc, reader, writer),
     }
 }

@@ -10,7 +10,8 @@ use Rattle.clap.specs.declared.error.kind.ErrorKind.TheVariants as kind
 use Rattle.osi_words.specs.declared.faults.WordsFault.{WordsFault}
 use Rattle.osi_words.specs.declared.faults.WordsFault.TheVariants as fault
 use Rattle.osi_words.specs.declared.jobs.Job.{Job}
-use Rattle.osi_words.specs.declared.jobs.Job.TheVariants.{Show, Pair, Judge, Witness}
+use Rattle.osi_words.specs.declared.jobs.Job.TheVariants.{Show, Pair, Judge, Live, Witness}
+use Rattle.osi_words.specs.declared.jobs.Options.{Options}
 
 -- the command `osi`, which needs a subcommand and has a version
 abbrev pub top : App
@@ -23,35 +24,46 @@ top = record {
 abbrev pub script : Rule
 script = record (new_rule (codes "script")) { long = Some (codes "script"); action = Some SetTrue }
 
+-- and the one for findings as soon as they are certain
+abbrev pub live : Rule
+live = record (new_rule (codes "live")) { long = Some (codes "live"); action = Some SetTrue }
+
 -- `judge`
 abbrev pub judging : App
-judging = with_rule (new_app (codes "judge")) script
+judging = with_rule (with_rule (new_app (codes "judge")) script) live
 
 -- the command with its subcommands
 unfoldable pub osi : App
 osi = with_subcommand (with_subcommand (with_subcommand top (new_app (codes "show")).top) (new_app (codes "pair")).top) judging.top
 
--- the subcommand of a job, and whether it wants a script
-abbrev pub asked_of : Job → List ℕ × Bool
-asked_of Show = (codes "show", false)
-asked_of Pair = (codes "pair", false)
-asked_of Judge = (codes "judge", false)
-asked_of Witness = (codes "judge", true)
+-- the subcommand of a job, and its options; no job has both
+abbrev pub with_options : (script live : Bool) → Options
+with_options script live = record { script = script; live = live }
+
+abbrev pub asked_of : Job → List ℕ × Options
+asked_of Show = (codes "show", with_options false false)
+asked_of Pair = (codes "pair", with_options false false)
+asked_of Judge = (codes "judge", with_options false false)
+asked_of Live = (codes "judge", with_options false true)
+asked_of Witness = (codes "judge", with_options true false)
 
 -- that is what is asked for in a job
-abbrev pub IsJob : Option (List ℕ × Bool) → Type 0
+abbrev pub IsJob : Option (List ℕ × Options) → Type 0
 IsJob asked = (job : Job) × (asked ≡ Some (asked_of job))
 
--- the option for a script is there
-abbrev pub wants_script : List Row → Bool
-wants_script rows = option_map_or (λ text. bytes_eq text (codes "true")) (first_of (codes "script") rows) false
+-- an option is there
+abbrev pub is_set : (name : List ℕ) → List Row → Bool
+is_set name rows = option_map_or (λ text. bytes_eq text (codes "true")) (first_of name rows) false
+
+abbrev pub options_in : List Row → Options
+options_in rows = with_options (is_set (codes "script") rows) (is_set (codes "live") rows)
 
 -- a subcommand by its rows
-abbrev pub asked_in : Option (Text × List Row) → Option (List ℕ × Bool)
-asked_in = option_map (λ p. (p.0, wants_script p.1))
+abbrev pub asked_in : Option (Text × List Row) → Option (List ℕ × Options)
+asked_in = option_map (λ p. (p.0, options_in p.1))
 
--- the subcommand that clap's matches give for the words, and whether it wants a script
-unfoldable pub asked_by : List Text → Option (List ℕ × Bool)
+-- the subcommand that clap's matches give for the words, and its options
+unfoldable pub asked_by : List Text → Option (List ℕ × Options)
 asked_by words = asked_in (subcommand_of osi words)
 
 -- the fault of arguments in which clap finds no job; a request for help or the version is no fault

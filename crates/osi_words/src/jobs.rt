@@ -9,6 +9,17 @@ pub enum Job {
     Pair,
     /// Judges the capture of both sides on standard input.
     Judge,
+    /// The same, and writes each finding as soon as it is certain.
+    Live,
     /// Writes a script that tells what both sides of that capture did.
     Witness,
+}
+
+/// Which options of a subcommand were met.
+#[derive(Clone, Copy)]
+pub(crate) struct Options {
+    /// The one for a script.
+    pub(crate) script: bool,
+    /// The one for findings as soon as they are certain.
+    pub(crate) live: bool,
 }

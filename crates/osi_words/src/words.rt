@@ -3,10 +3,10 @@
 ghost use Rattle.std.specs.Prelude.{◌≡◌, ◌≢◌, true, false, Some, map, codes, option_map, IfOk, IfErr, IfSome, IfNone};
 ghost use Rattle.clap.specs.Words.{app_of, kind_of, new_app, shape_of, rows_of, found_of, subcommand_rows_of, takes};
 ghost use Rattle.clap.specs.declared.builder.command.Command.TheViews.{out-Command as fields_of};
-ghost use Rattle.osi_words.specs.Words.{osi, top, judging, asked_of, asked_by, asked_in, wants_script, words_fault, IsJob};
+ghost use Rattle.osi_words.specs.Words.{osi, top, judging, asked_of, asked_by, asked_in, is_set, options_in, words_fault, IsJob};
 
 use crate::faults::WordsFault;
-use crate::jobs::Job;
+use crate::jobs::{Job, Options};
 use clap::error::ErrorKind;
 use clap::{Arg, ArgAction, ArgMatches, Command, Error};
 use std::alloc::{AllocError, Global};
@@ -60,6 +60,10 @@ length, and with --script at most 16,777,216 octets:
 
   tshark -r run.pcap -q -z follow,tcp,raw,0 | sed -n '/^[0-9a-f\\t]*$/p' | osi judge
 
+With --live a capture may be judged while it grows. --live and --script exclude each other:
+
+  tail -n +1 -f capture.hex | osi judge --live
+
 The status is 0 if both sides kept the protocol, and 1 if one broke it or left the profile, or if the
 capture was not judged. With --script it is 0 if the script tells all that both sides sent, and 1 if it
 stops before, as its last line says.";
@@ -67,6 +71,9 @@ stops before, as its last line says.";
 /// What the option for a script does.
 const SCRIPT: &str =
     "Write a script for osi pair that does what both sides did, as far as a session can do it";
+
+/// What the option for findings does.
+const LIVE: &str = "Write each finding as soon as it is certain, and the whole text at the end";
 
 /// The job that the program's arguments name; the first of them is the program's name. A request for help or for the
 /// version, and arguments that name no job, are an error of `clap`.
@@ -87,8 +94,11 @@ pub fn job<'a, S: AsStr>(alloc: Global, words: &'a [S]) -> Result<Job, Error>
     }
 }
 
-/// The subcommand that the words ask for, and whether they ask for a script.
-fn subcommand<'a, S: AsStr>(alloc: Global, words: &'a [S]) -> Result<Option<(&'a str, bool)>, Error>
+/// The subcommand that the words ask for, and its options.
+fn subcommand<'a, S: AsStr>(
+    alloc: Global,
+    words: &'a [S],
+) -> Result<Option<(&'a str, Options)>, Error>
     ensures named { IfOk result (λ asked. option_map (λ p. (p.0.now, p.1)) asked ≡ asked_by (map S.text words.entry.now)) }
     ensures taken { IfErr result (λ e. takes osi (map S.text words.entry.now) ≡ true →
         kind_of e ≡ ErrorKind.OutOfMemory) }
@@ -99,21 +109,31 @@ fn subcommand<'a, S: AsStr>(alloc: Global, words: &'a [S]) -> Result<Option<(&'a
     }
 }
 
-/// The subcommand that was met, and whether its option for a script was.
-fn asked_in<'a>(matches: &ArgMatches<'a>) -> Option<(&'a str, bool)>
+/// The subcommand that was met, and its options.
+fn asked_in<'a>(matches: &ArgMatches<'a>) -> Option<(&'a str, Options)>
     ensures { option_map (λ p. (p.0.now, p.1)) result ≡ asked_in (subcommand_rows_of matches.now) }
 {
     match matches.subcommand() {
         None => None,
-        Some((name, inner)) => Some((name, is_script(inner))),
+        Some((name, inner)) => Some((name, options_in(inner))),
     }
 }
 
-/// Whether a subcommand is asked for a script.
-fn is_script(matches: &ArgMatches<'_>) -> bool
-    ensures { result ≡ wants_script (rows_of (found_of matches.now)) }
+/// Which options of a subcommand were met.
+fn options_in(matches: &ArgMatches<'_>) -> Options
+    ensures { result ≡ options_in (rows_of (found_of matches.now)) }
 {
-    match matches.get_str("script") {
+    Options {
+        script: is_set(matches, "script"),
+        live: is_set(matches, "live"),
+    }
+}
+
+/// Whether an option of a subcommand was met.
+fn is_set(matches: &ArgMatches<'_>, name: &str) -> bool
+    ensures { result ≡ is_set name.now (rows_of (found_of matches.now)) }
+{
+    match matches.get_str(name) {
         None => false,
         Some(text) => text == "true",
     }
@@ -176,37 +196,45 @@ fn judge<'a>(alloc: Global) -> Result<Command<'a>, AllocError>
         .long("script")
         .action(ArgAction::SetTrue)
         .help(SCRIPT);
+    let live = Arg::new(alloc, "live")
+        .long("live")
+        .action(ArgAction::SetTrue)
+        .help(LIVE);
     Command::new(alloc, "judge")
         .about("Say which side of the capture on standard input first broke the protocol")
         .after_help(CAPTURES)
-        .arg(script)
+        .arg(script)?
+        .arg(live)
 }
 
-/// The job of a subcommand, which is asked for a script or is not.
-fn job_named(name: &str, wants_script: bool) -> Option<Job>
-    ensures some { IfSome result (λ job. (name.now, wants_script) ≡ asked_of job) }
-    ensures not_show { IfNone result ((name.now, wants_script) ≢ asked_of Job.Show) }
-    ensures not_pair { IfNone result ((name.now, wants_script) ≢ asked_of Job.Pair) }
-    ensures not_judge { IfNone result (name.now ≢ codes "judge") }
+/// The job of a subcommand with these options. Those of `judge` exclude each other.
+fn job_named(name: &str, options: Options) -> Option<Job>
+    ensures some { IfSome result (λ job. (name.now, options) ≡ asked_of job) }
+    ensures not_show { IfNone result ((name.now, options) ≢ asked_of Job.Show) }
+    ensures not_pair { IfNone result ((name.now, options) ≢ asked_of Job.Pair) }
+    ensures not_judge { IfNone result ((name.now, options) ≢ asked_of Job.Judge) }
+    ensures not_live { IfNone result ((name.now, options) ≢ asked_of Job.Live) }
+    ensures not_witness { IfNone result ((name.now, options) ≢ asked_of Job.Witness) }
 {
-    match (name, wants_script) {
-        ("show", false) => Some(Job::Show),
-        ("pair", false) => Some(Job::Pair),
-        ("judge", false) => Some(Job::Judge),
-        ("judge", true) => Some(Job::Witness),
+    match (name, options.script, options.live) {
+        ("show", false, false) => Some(Job::Show),
+        ("pair", false, false) => Some(Job::Pair),
+        ("judge", false, false) => Some(Job::Judge),
+        ("judge", false, true) => Some(Job::Live),
+        ("judge", true, false) => Some(Job::Witness),
         _ => None,
     }
 }
 
 /// The job that is asked for.
-fn job_asked(asked: Option<(&str, bool)>) -> Option<Job>
+fn job_asked(asked: Option<(&str, Options)>) -> Option<Job>
     ensures some { IfSome result (λ job. option_map (λ p. (p.0.now, p.1)) asked.entry ≡ Some (asked_of job)) }
     ensures none { IfNone result (IsJob (option_map (λ p. (p.0.now, p.1)) asked.entry) → ⊥) }
 {
-    let Some((name, wants_script)) = asked else {
+    let Some((name, options)) = asked else {
         return None;
     };
-    job_named(name, wants_script)
+    job_named(name, options)
 }
 
 /// The fault of words that name no job; none if they ask for help or for the version.
