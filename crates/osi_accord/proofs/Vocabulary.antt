@@ -61,7 +61,7 @@ pub use Rattle.osi_tap.proofs.a_piece_comes_to_what_its_octets_do.{after_more}
 pub use Rattle.osi_tap.proofs.what_is_kept_of_a_side_is_what_passed.{found_at}
 pub use Rattle.osi_tap.specs.Connections.{Joined, Sessions, adds_all, adds_if, all_begin, asked, changed, count, has_number, meant}
 pub use Rattle.osi_tap.specs.Connections.{none, numbered, packet_begins, placed, source_of, spoken, taken, taken_at}
-pub use Rattle.osi_tap.specs.Holding.{HoldsFound, line_in}
+pub use Rattle.osi_tap.specs.Holding.{HoldsJoined, line_in}
 pub use Rattle.osi_tap.specs.Lines.{Spoken, before, begun_octets, heard, silent, told, told_of}
 pub use Rattle.osi_tap.specs.Tapping.{begin_within}
 pub use Rattle.osi_tap.specs.declared.connections.Connection.{Connection}
@@ -72,6 +72,6 @@ pub use Rattle.osi_accord.specs.Liberties.{IsCall, as_called, has_size_of, has_s
 pub use Rattle.osi_accord.specs.Machines.{AreWritten, IsByCall, IsCoreCall, IsMessage, Plays, TakesNoLiberty, Utterance, connect_of}
 pub use Rattle.osi_accord.specs.Machines.{is_connect, sent_at, side_at, utters}
 pub use Rattle.osi_accord.specs.Pairs.{Pair, Party, channel_of, has_taken, pair_of, party_of, session_of, with_channel, with_session}
-pub use Rattle.osi_accord.specs.Taps.{AreTold, BeginWith, IsAccord, IsFoundOn, connection_in}
+pub use Rattle.osi_accord.specs.Taps.{AreTold, BeginWith, IsAccord, IsFoundOn, IsToldOn, connection_in}
 pub use Rattle.osi_accord.specs.Wholes.{CallsAndAnswers, IsAnyCall, IsByAnyCall, PlaysWhole, end_if, its_own, start_0, uttered_at}
 pub use Rattle.osi_accord.specs.Wholes.{uttered_by, uttered_in}

@@ -2,9 +2,21 @@
 -- For the law that two kept sides are a pair.
 use Rattle.osi_accord.proofs.Vocabulary.{[], ap, arith, List, map, None, Option, refl, Some, subst, sym, take-append-drop, ℕ, ◌+◌, ◌-◌, ◌<◌}
 use Rattle.osi_accord.proofs.Vocabulary.{◌^◌, ◌∙◌, ◌∷◌, ◌≡◌, seen_called, seen_calling, front_told, Told, Capture, IsExplained, Direction}
-use Rattle.osi_accord.proofs.Vocabulary.{Left, Right, Broke, Kept, begin_within, Connection, found_at, heard, HoldsFound, Joined, line_in}
-use Rattle.osi_accord.proofs.Vocabulary.{Room, Spoken, told, told_of, connection_in, IsAccord, IsFoundOn, AreTold, octets_told, told_by}
+use Rattle.osi_accord.proofs.Vocabulary.{Left, Right, Broke, Kept, begin_within, Connection, found_at, heard, HoldsJoined, Joined, line_in}
+use Rattle.osi_accord.proofs.Vocabulary.{Room, Spoken, told, told_of, connection_in, IsAccord, IsFoundOn, IsToldOn, AreTold, octets_told, told_by}
 use Rattle.osi_accord.proofs.Vocabulary.{Turn, tsdus_by}
+use Rattle.osi_judge.specs.declared.findings.Finding.{Finding}
+use Rattle.osi_judge.specs.declared.findings.Finding.TheVariants as finding
+use Rattle.osi_judge.specs.Captures.{other}
+use Rattle.osi_judge.specs.Judging.{IsFound}
+use Rattle.osi_judge.specs.Tapping.{begin_of}
+use Rattle.osi_tap.specs.declared.outcomes.Outcome.{Outcome}
+use Rattle.osi_tap.specs.declared.outcomes.Outcome.TheVariants as outcome
+use Rattle.osi_tap.specs.declared.pasts.Past.{Past}
+use Rattle.osi_tap.specs.Connections.{spoken}
+use Rattle.osi_tap.specs.Outcomes.{IsOutcomeOf, SaysSo}
+use Rattle.osi_tap.specs.Pasts.{HoldsPast, outcome_in}
+use Rattle.osi_tap.proofs.the_session_of_a_side_is_known.{session_found}
 use Rattle.osi_tap.specs.Lines.{Said, octets_of}
 use Rattle.osi_tap.specs.Tapping.{after}
 use Rattle.osi_accord.proofs.a_pair_explains_both_sides.{both_explained}
@@ -76,11 +88,30 @@ not_blamed Right room number capture turns i a f =
 
 -- ---- what a tap tells
 
-pub tap_tells : (d : Direction) (room : Room) (number : ℕ) (capture : Capture) (c : Connection) →
-    HoldsFound (Some c) (connection_in room number capture) → IsFoundOn d room number capture (line_in d c).side.finding
-tap_tells d room number capture c h = by (connection_in room number capture) refl h
+pub tap_tells : (d : Direction) (room : Room) (number : ℕ) (capture : Capture) (c : Connection) (j : Joined) →
+    connection_in room number capture ≡ Some j → HoldsJoined c j → IsFoundOn d room number capture (line_in d c).side.finding
+tap_tells d room number capture c j e h = record { connection = j; there = e; found = found_at d c j h }
+
+-- of a connection that is over
+
+told_on : (d : Direction) (room : Room) (number : ℕ) (capture : Capture) (j : Joined) (o : Outcome) →
+    connection_in room number capture ≡ Some j → IsOutcomeOf d j o → IsToldOn d room number capture o
+told_on d room number capture j o e h = by o h.says
   where
-    by : (o : Option Joined) → connection_in room number capture ≡ o → HoldsFound (Some c) o →
-        IsFoundOn d room number capture (line_in d c).side.finding
-    by None e k = absurd k
-    by (Some j) e k = record { connection = j; there = e; found = found_at d c j k }
+    found : (f : Finding) → h.session.finding ≡ f → IsFoundOn d room number capture f
+    found f is = record {
+      connection = j;
+      there = e;
+      found = subst (IsFound (begin_of d) (heard (spoken (other d) j)) (told (spoken d j))) is (session_found d j h.session h.is_session);
+    }
+
+    by : (o : Outcome) → SaysSo d j h.session o → IsToldOn d room number capture o
+    by (outcome.Kept tsdus state owes) (is, count, stands) = found Kept is
+    by (outcome.Broke offset broke) (i, is, strayed) = (i, found (Broke i) is)
+    by (outcome.Left offset left) (i, is, strayed) = (i, found (finding.Left i) is)
+    by outcome.TooMany is = found finding.TooMany is
+
+pub past_tells : (d : Direction) (room : Room) (number : ℕ) (capture : Capture) (p : Past) (j : Joined) →
+    connection_in room number capture ≡ Some j → HoldsPast p j → IsToldOn d room number capture (outcome_in d p)
+past_tells Left room number capture p j e h = told_on Left room number capture j (outcome_in Left p) e h.left
+past_tells Right room number capture p j e h = told_on Right room number capture j (outcome_in Right p) e h.right

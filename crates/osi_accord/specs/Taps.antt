@@ -4,9 +4,12 @@ use Rattle.osi_session.specs.Standing.{seen_called, seen_calling}
 use Rattle.osi_judge.specs.declared.directions.Direction.{Direction}
 use Rattle.osi_judge.specs.declared.directions.Direction.TheVariants.{Left, Right}
 use Rattle.osi_judge.specs.declared.findings.Finding.{Finding}
+use Rattle.osi_judge.specs.declared.findings.Finding.TheVariants as finding
 use Rattle.osi_judge.specs.Captures.{Capture, other}
 use Rattle.osi_judge.specs.Judging.{IsFound}
 use Rattle.osi_judge.specs.Sides.{begin_of}
+use Rattle.osi_tap.specs.declared.outcomes.Outcome.{Outcome}
+use Rattle.osi_tap.specs.declared.outcomes.Outcome.TheVariants as outcome
 use Rattle.osi_tap.specs.declared.rooms.Room.{Room}
 use Rattle.osi_tap.specs.Connections.{Joined, numbered, spoken}
 use Rattle.osi_tap.specs.Lines.{heard, told}
@@ -23,6 +26,13 @@ pub record IsFoundOn (d : Direction) (room : Room) (number : ℕ) (capture : Cap
   pub connection : Joined
   pub there : connection_in room number capture ≡ Some connection
   pub found : IsFound (begin_of d) (heard (spoken (other d) connection)) (told (spoken d connection)) f
+
+-- the same, as it is told of a connection that is over
+abbrev pub IsToldOn : Direction → Room → (number : ℕ) → Capture → Outcome → Type 0
+IsToldOn d room number capture (outcome.Kept tsdus state owes) = IsFoundOn d room number capture finding.Kept
+IsToldOn d room number capture (outcome.Broke offset by) = (i : ℕ) × IsFoundOn d room number capture (finding.Broke i)
+IsToldOn d room number capture (outcome.Left offset by) = (i : ℕ) × IsFoundOn d room number capture (finding.Left i)
+IsToldOn d room number capture outcome.TooMany = IsFoundOn d room number capture finding.TooMany
 
 -- these are the TSDUs of both sides of a connection
 pub record AreTold (turns : List Turn) (j : Joined) : Type 0 where

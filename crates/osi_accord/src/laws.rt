@@ -21,12 +21,15 @@ ghost use Rattle.osi_judge.specs.Captures.{Capture};
 ghost use Rattle.osi_judge.specs.Explaining.{IsExplained};
 ghost use Rattle.osi_tap.specs.declared.connections.Connection.{Connection};
 ghost use Rattle.osi_tap.specs.declared.rooms.Room.{Room};
-ghost use Rattle.osi_tap.specs.Holding.{HoldsFound, line_in};
+ghost use Rattle.osi_tap.specs.declared.pasts.Past.{Past};
+ghost use Rattle.osi_tap.specs.Connections.{Joined};
+ghost use Rattle.osi_tap.specs.Holding.{HoldsJoined, line_in};
+ghost use Rattle.osi_tap.specs.Pasts.{HoldsPast, outcome_in};
 ghost use Rattle.osi_accord.specs.Accords.{Accords, AreInOrder, Sending, Turn, end_of, sending_of, told_by, tsdus_by};
 ghost use Rattle.osi_accord.specs.Liberties.{IsCall, as_called, is_called};
 ghost use Rattle.osi_accord.specs.Machines.{AreWritten, IsMessage, Plays, TakesNoLiberty, Utterance, connect_of, side_at, utters};
 ghost use Rattle.osi_accord.specs.Pairs.{Pair, pair_of};
-ghost use Rattle.osi_accord.specs.Taps.{IsAccord, IsFoundOn, connection_in};
+ghost use Rattle.osi_accord.specs.Taps.{IsAccord, IsFoundOn, IsToldOn, connection_in};
 ghost use Rattle.osi_accord.specs.Wholes.{CallsAndAnswers, PlaysWhole, start_0, uttered_by, uttered_in};
 
 use osi_message::laws::what_is_sent_is_read;
@@ -50,7 +53,8 @@ pub fn two_explained_sides_are_a_pair()
 /// the tap judges, in the order in which these had passed as a whole. A side takes a TSDU after the other side has sent it, and before
 /// it sends a TSDU it takes only those that had passed as a whole before the first packet of that one. And if there are two such
 /// sessions, the tap blames neither side (`only`). What the tap finds of a side is what it tells of a connection that it has with
-/// this number (`told`, [`osi_tap::Tap::connection`], [`osi_tap::Connection::finding`]).
+/// this number: one that has a place (`told`, [`osi_tap::Tap::connection`], [`osi_tap::Connection::finding`]), or one that is over and
+/// whose place another has (`over`, [`osi_tap::Past::outcome`]).
 ///
 /// A tap judges all TSDUs that passed, but for those after a break of transport that ends the judging of their side or of the
 /// connection, and those beyond its bound, if it has one ([`osi_tap::Connection::is_over`]). It is assumed that the number of the
@@ -61,8 +65,10 @@ pub fn two_kept_sides_are_a_pair()
         (turns : List Turn) × IsAccord room number capture turns }
     ensures only { (d : Direction) (room : Room) (number : ℕ) (capture : Capture) (turns : List Turn) (i : ℕ) →
         IsAccord room number capture turns → IsFoundOn d room number capture (Finding.Broke i) → ⊥ }
-    ensures told { (d : Direction) (room : Room) (number : ℕ) (capture : Capture) (c : Connection) →
-        HoldsFound (Some c) (connection_in room number capture) → IsFoundOn d room number capture (line_in d c).side.finding }
+    ensures told { (d : Direction) (room : Room) (number : ℕ) (capture : Capture) (c : Connection) (j : Joined) →
+        connection_in room number capture ≡ Some j → HoldsJoined c j → IsFoundOn d room number capture (line_in d c).side.finding }
+    ensures over { (d : Direction) (room : Room) (number : ℕ) (capture : Capture) (p : Past) (j : Joined) →
+        connection_in room number capture ≡ Some j → HoldsPast p j → IsToldOn d room number capture (outcome_in d p) }
 {}
 
 /// If a side may send a message, a session of this product in the same state allows a call that sends this message, and the call

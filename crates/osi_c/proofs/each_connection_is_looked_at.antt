@@ -9,13 +9,15 @@ use Rattle.osi_judge.specs.Captures.{Capture}
 use Rattle.osi_judge.specs.declared.directions.Direction.{Direction}
 use Rattle.osi_judge.specs.declared.directions.Direction.TheVariants.{Left, Right}
 use Rattle.osi_tap.specs.declared.connections.Connection.{Connection}
+use Rattle.osi_tap.specs.declared.pasts.Past.{Past}
 use Rattle.osi_tap.specs.Connections.{Joined, has_number, numbered}
+use Rattle.osi_tap.specs.Pasts.{AllPast, HoldsPast}
 use Rattle.osi_tap.specs.Holding.{AreHeard, HoldAll, HoldsJoined, IsHeard}
 use Rattle.osi_tap.specs.Standing.{HoldsState, IsJudged, IsSettled}
 use Rattle.osi_tap.specs.Tapping.{State}
 use Rattle.osi_c.specs.Judges.{fed, Knows}
-use Rattle.osi_c.specs.Notes.{IsNoteAt, IsNoteOf, IsStill, IsStillOf, StillIf, is_certain}
-use Rattle.osi_c.specs.Fetching.{is_among, HasNone, HasNoneBy, HasNoneByEach, HasNoneOf, HasNoneOfSessions}
+use Rattle.osi_c.specs.Notes.{IsNoteAt, IsNoteOf, IsStill, IsStillOf, IsStillPast, StillIf, StillPastIf, is_certain}
+use Rattle.osi_c.specs.Fetching.{is_among, HasNone, HasNoneBy, HasNoneByEach, HasNoneByPast, HasNoneByPasts, HasNoneOf, HasNoneOfSessions}
 use Rattle.osi_c.specs.declared.judges.Judge.{Judge}
 use Rattle.osi_c.specs.declared.notes.Note.{Note}
 use Rattle.osi_c.specs.declared.notes.Note.TheVariants as note
@@ -31,6 +33,13 @@ still_both c n m left right e f j h k = ((n, left j h k, e), (m, right j h k, f)
 pub still_if : (b : Bool) (c : Connection) → b ≡ true → StillIf b c → IsStill c
 still_if b c e h = grind arith
 
+pub past_still_both : (p : Past) (n m : Note) → ((j : Joined) → HoldsPast p j → IsNoteOf Left j n)
+    → ((j : Joined) → HoldsPast p j → IsNoteOf Right j m) → is_certain n ≡ false → is_certain m ≡ false → IsStillPast p
+past_still_both p n m left right e f j h = ((n, left j h, e), (m, right j h, f))
+
+pub past_still_if : (b : Bool) (p : Past) → b ≡ true → StillPastIf b p → IsStillPast p
+past_still_if b p e h = grind arith
+
 pub none_as : {X : Type 0} (r : Option X) (A B : Type 0) → (A → B) → IfNone r A → IfNone r B
 none_as h h2 h3 f h4 = grind arith
 
@@ -39,28 +48,32 @@ pub by_its_number : (w : Judge) (told : List Subject) (c : Connection) (n : ℕ)
     → HasNoneOf w told n → HasNoneBy w told c
 by_its_number w told c n is h = inr (λ j holds. subst (λ (m : ℕ). HasNoneOf w told m) (is j holds) h)
 
+pub past_by_its_number : (w : Judge) (told : List Subject) (p : Past) (n : ℕ) → ((j : Joined) → HoldsPast p j → n ≡ j.number)
+    → HasNoneOf w told n → HasNoneByPast w told p
+past_by_its_number w told p n is h = inr (λ j holds. subst (λ (m : ℕ). HasNoneOf w told m) (is j holds) h)
+
 -- ---- one after the other
 
-at_place : (cs : List Connection) (m : ℕ) (d c : Connection) → m < length cs → slice_get cs m ≡ Some c → get_or cs m d ≡ c
+at_place : {X : Type 0} → (cs : List X) (m : ℕ) (d c : X) → m < length cs → slice_get cs m ≡ Some c → get_or cs m d ≡ c
 at_place [] m d c lt e = absurd (omega arith)
 at_place (x ∷ cs) zero d c lt e = cc
 at_place (x ∷ cs) (suc m) d c lt e = at_place cs m d c (omega arith) e
 
-within : (cs : List Connection) (i : ℕ) (c : Connection) → slice_get cs i ≡ Some c → i < length cs
+within : {X : Type 0} → (cs : List X) (i : ℕ) (c : X) → slice_get cs i ≡ Some c → i < length cs
 within [] i c e = absurd (cc)
 within (x ∷ cs) zero c e = omega arith
 within (x ∷ cs) (suc i) c e = let r = within cs i c e in omega (arith, r)
 
 -- what holds of each before a place
-abbrev pub EachBefore : (P : Connection → Type 0) → List Connection → ℕ → Type 0
-EachBefore P cs m = (i : ℕ) (c : Connection) → i < m → slice_get cs i ≡ Some c → P c
+abbrev pub EachBefore : {X : Type 0} → (P : X → Type 0) → List X → ℕ → Type 0
+EachBefore {X} P cs m = (i : ℕ) (c : X) → i < m → slice_get cs i ≡ Some c → P c
 
-pub one_more_place : (P : Connection → Type 0) (cs : List Connection) (m : ℕ) (d : Connection) → m < length cs → EachBefore P cs m
+pub one_more_place : {X : Type 0} → (P : X → Type 0) (cs : List X) (m : ℕ) (d : X) → m < length cs → EachBefore P cs m
     → P (get_or cs m d) → EachBefore P cs (m + 1)
 one_more_place P cs m d lt h k i c below e = search (arith, at_place)
 
-pub each_place : (P : Connection → Type 0) (cs : List Connection) (m : ℕ) → length cs ≤ m → EachBefore P cs m
-    → (i : ℕ) (c : Connection) → slice_get cs i ≡ Some c → P c
+pub each_place : {X : Type 0} → (P : X → Type 0) (cs : List X) (m : ℕ) → length cs ≤ m → EachBefore P cs m
+    → (i : ℕ) (c : X) → slice_get cs i ≡ Some c → P c
 each_place P cs m le h i c e = let lt = within cs i c e in h i c (omega (arith, lt, le)) e
 
 -- ---- the one with a number
@@ -95,6 +108,25 @@ all_silent d w told [] (j ∷ js) h k each = absurd h
 all_silent d w told (c ∷ cs) [] h k each = absurd h
 all_silent d w told (c ∷ cs) (j ∷ js) h k each =
     (silent d w told c j h.0 k.0 (each zero c refl), all_silent d w told cs js h.1 k.1 (λ i x e. each (suc i) x e))
+
+past_still_of : (d : Direction) (p : Past) (j : Joined) → IsStillPast p → HoldsPast p j → IsStillOf d j
+past_still_of Left p j still h = (still j h).0
+past_still_of Right p j still h = (still j h).1
+
+past_silent : (d : Direction) (w : Judge) (told : List Subject) (p : Past) (j : Joined) → HoldsPast p j → HasNoneByPast w told p
+    → Silent d w told j
+past_silent d w told p j h none = elim none [
+  | inl still ↦ inl (past_still_of d p j still h)
+  | inr due ↦ inr (none_of_a_side d w told j.number (due j h))
+]
+
+pasts_silent : (d : Direction) (w : Judge) (told : List Subject) (ps : List Past) (js : List Joined) → AllPast ps js
+    → HasNoneByPasts w told ps → AreSilent d w told js
+pasts_silent d w told [] [] h each = tt
+pasts_silent d w told [] (j ∷ js) h each = absurd h
+pasts_silent d w told (p ∷ ps) [] h each = absurd h
+pasts_silent d w told (p ∷ ps) (j ∷ js) h each =
+    (past_silent d w told p j h.0 (each zero p refl), pasts_silent d w told ps js h.1 (λ i x e. each (suc i) x e))
 
 both_silent : (d : Direction) (w : Judge) (told : List Subject) (js ks : List Joined) → AreSilent d w told js → AreSilent d w told ks
     → AreSilent d w told (js ++ ks)
@@ -137,11 +169,11 @@ note_of_silent d w told capture number (Some j) e h k fresh is = elim is.1 [
 
 -- ---- any number
 
-module _ (w : Judge) (told : List Subject) (cs ds : List Connection)
+module _ (w : Judge) (told : List Subject) (cs : List Connection) (ps : List Past)
     (placed : (s : State) → HoldsState w.tap s → IsJudged w.tap → HoldAll cs s.course.sessions.live)
     (heard : IsSettled w.tap → AreHeard cs)
-    (replaced : (s : State) → HoldsState w.tap s → IsJudged w.tap → HoldAll ds s.course.sessions.done)
-    (gone : IsSettled w.tap → AreHeard ds) (each : HasNoneByEach w told cs) (other : HasNoneByEach w told ds) where
+    (replaced : (s : State) → HoldsState w.tap s → IsJudged w.tap → AllPast ps s.course.sessions.done)
+    (each : HasNoneByEach w told cs) (gone : HasNoneByPasts w told ps) where
   by_number : (d : Direction) (number : ℕ) (capture : Capture) → Knows w capture → IsSettled w.tap
       → is_among told (Session number d) ≡ false → IsStillAt d (numbered number (fed capture).course.sessions)
   by_number d number capture h k fresh =
@@ -150,7 +182,7 @@ module _ (w : Judge) (told : List Subject) (cs ds : List Connection)
       (silent_found d w told number (all.live ++ all.done)
       (both_silent d w told all.live all.done
       (all_silent d w told cs all.live (placed (fed capture) h.holds k.judged) (heard k) each)
-      (all_silent d w told ds all.done (replaced (fed capture) h.holds k.judged) (gone k) other)))
+      (pasts_silent d w told ps all.done (replaced (fed capture) h.holds k.judged) gone)))
 
   none_by : (d : Direction) (number : ℕ) (b : Bool) → is_among told (Session number d) ≡ b → HasNone w told (Session number d)
   none_by d number true e = inl e

@@ -1,10 +1,9 @@
 -- What is shown of a judge by what has passed so far, and the text of its judgement. For the functions of `asking` and `judgements`.
 use Rattle.std.proofs.Common.{◌≡◌, ◌∙◌, refl, sym, subst, ℕ, Bool, true, false, is_some, List, [], Option, Some, None}
-use Rattle.std.specs.Prelude.{option_copied}
 use Rattle.osi_judge.specs.Captures.{Capture, stream}
 use Rattle.osi_judge.specs.declared.directions.Direction.{Direction}
 use Rattle.osi_judge.specs.declared.directions.Direction.TheVariants.{Left}
-use Rattle.osi_tap.specs.declared.connections.Connection.{Connection}
+use Rattle.osi_tap.specs.declared.sessions.Found.{Found}
 use Rattle.osi_tap.specs.declared.rooms.Room.TheVariants.{Octets}
 use Rattle.osi_tap.specs.Connections.{Joined}
 use Rattle.osi_tap.specs.Holding.{HoldsFound}
@@ -41,7 +40,7 @@ shows_rest w d n v tells e shows = record {
 
 -- ---- the number of a connection
 
-pub found_some : (o : Option Connection) (p : Option Joined) → HoldsFound o p → is_some p ≡ is_some o
+pub found_some : (o : Option Found) (p : Option Joined) → HoldsFound o p → is_some p ≡ is_some o
 found_some None None h = refl
 found_some (Some c) (Some j) h = refl
 found_some None (Some j) h = absurd h

@@ -6,12 +6,14 @@ use Rattle.osi_judge.specs.Captures.{Capture, stream}
 use Rattle.osi_judge.specs.declared.directions.Direction.TheVariants.{Left, Right}
 use Rattle.osi_tap.specs.declared.connections.Connection.{Connection}
 use Rattle.osi_tap.specs.Connections.{Joined, count}
+use Rattle.osi_tap.specs.declared.pasts.Past.{Past}
 use Rattle.osi_tap.specs.Holding.{HoldsJoined}
+use Rattle.osi_tap.specs.Pasts.{HoldsPast}
 use Rattle.osi_tap.specs.Standing.{IsSettled, first_in}
 use Rattle.osi_dispute.specs.Openings.{may_be_late}
 use Rattle.osi_c.specs.Codes.{coded}
 use Rattle.osi_c.specs.Judges.{fed, Knows, Keeps, Settles}
-use Rattle.osi_c.specs.Notes.{IsStill, Tells, TellsNothing, is_certain}
+use Rattle.osi_c.specs.Notes.{IsStill, IsStillPast, Tells, TellsNothing, is_certain}
 use Rattle.osi_c.specs.Subjects.{same, leading}
 use Rattle.osi_c.specs.Verdicts.{Shows, nothing}
 use Rattle.osi_c.specs.declared.fetching.Fetched.{Fetched}
@@ -54,6 +56,13 @@ HasNoneBy w told c = IsStill c ⊎ ((j : Joined) → HoldsJoined c j → HasNone
 -- of each of these
 abbrev pub HasNoneByEach : Judge → List Subject → List Connection → Type 0
 HasNoneByEach w told cs = (i : ℕ) (c : Connection) → slice_get cs i ≡ Some c → HasNoneBy w told c
+
+-- of one whose place was given to another
+abbrev pub HasNoneByPast : Judge → List Subject → Past → Type 0
+HasNoneByPast w told p = IsStillPast p ⊎ ((j : Joined) → HoldsPast p j → HasNoneOf w told j.number)
+
+abbrev pub HasNoneByPasts : Judge → List Subject → List Past → Type 0
+HasNoneByPasts w told ps = (i : ℕ) (p : Past) → slice_get ps i ≡ Some p → HasNoneByPast w told p
 
 pub record HasNoneOfTransport (w : Judge) (told : List Subject) : Type 0 where
   pub left : HasNone w told (Transport Left)

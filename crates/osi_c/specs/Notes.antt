@@ -4,15 +4,20 @@ use Rattle.osi_judge.specs.declared.directions.Direction.{Direction}
 use Rattle.osi_judge.specs.declared.directions.Direction.TheVariants.{Left, Right}
 use Rattle.osi_judge.specs.declared.findings.Finding.{Finding}
 use Rattle.osi_judge.specs.declared.findings.Finding.TheVariants as finding
-use Rattle.osi_judge.specs.declared.rules.Break.{Break}
 use Rattle.osi_judge.specs.Captures.{Capture, other, stream}
 use Rattle.osi_judge.specs.Judging.{Watched}
 use Rattle.osi_tap.specs.declared.connections.Connection.{Connection}
 use Rattle.osi_tap.specs.declared.marks.Mark.{Mark}
+use Rattle.osi_tap.specs.declared.outcomes.Outcome.{Outcome}
+use Rattle.osi_tap.specs.declared.outcomes.Outcome.TheVariants as outcome
+use Rattle.osi_tap.specs.declared.outcomes.Violation.{Violation}
+use Rattle.osi_tap.specs.declared.pasts.Past.{Past}
 use Rattle.osi_tap.specs.Connections.{Joined, spoken, numbered}
 use Rattle.osi_tap.specs.Courses.{marks_of}
 use Rattle.osi_tap.specs.Holding.{HoldsJoined, IsHeard, IsPlace}
 use Rattle.osi_tap.specs.KnownSessions.{IsSession}
+use Rattle.osi_tap.specs.Outcomes.{violation_of}
+use Rattle.osi_tap.specs.Pasts.{HoldsPast}
 use Rattle.osi_tap.specs.Rooms.{is_over}
 use Rattle.osi_tap.specs.Standing.{IsSettled}
 use Rattle.osi_tap.specs.Tapping.{State}
@@ -27,14 +32,24 @@ use Rattle.osi_c.specs.declared.subjects.Subject.TheVariants.{Session, Transport
 
 -- ---- of a session
 
--- by what was found of what passed on its connection, up to the bound of a connection; if it kept the protocol, and more passed,
--- it is judged no further
-abbrev pub note_of_found : (is_over : Bool) → Finding → (offset : ℕ) → Break → Note
-note_of_found true finding.Kept offset by = Over
-note_of_found false finding.Kept offset by = Kept
+-- if it kept the protocol, and more passed than the bound of a connection, it is judged no further
+abbrev pub note_of_kept : (is_over : Bool) → Note
+note_of_kept true = Over
+note_of_kept false = Kept
+
+-- by what was found of what passed on its connection, up to that bound
+abbrev pub note_of_found : (is_over : Bool) → Finding → (offset : ℕ) → Violation → Note
+note_of_found is_over finding.Kept offset by = note_of_kept is_over
 note_of_found is_over (finding.Broke i) offset by = Broke offset by
 note_of_found is_over (finding.Left i) offset by = Leaves offset by
 note_of_found is_over finding.TooMany offset by = TooMany
+
+-- the same, by what is told of it
+abbrev pub note_of_outcome : (is_over : Bool) → Outcome → Note
+note_of_outcome is_over (outcome.Kept tsdus state owes) = note_of_kept is_over
+note_of_outcome is_over (outcome.Broke offset by) = Broke offset by
+note_of_outcome is_over (outcome.Left offset by) = Leaves offset by
+note_of_outcome is_over outcome.TooMany = TooMany
 
 -- after the other side left the profile, nothing is told of a side
 abbrev pub note_unless : (is_dropped : Bool) → Note → Note
@@ -49,7 +64,7 @@ pub record IsNoteOf (d : Direction) (j : Joined) (n : Note) : Type 0 where
   pub of_beside : IsSession (other d) j beside
   pub offset : ℕ
   pub place : IsPlace own.finding (spoken d j).said offset
-  pub tells : n ≡ note_unless (is_dropped own.finding beside.finding) (note_of_found (is_over j.room) own.finding offset own.by)
+  pub tells : n ≡ note_unless (is_dropped own.finding beside.finding) (note_of_found (is_over j.room) own.finding offset (violation_of own.by))
 
 abbrev pub IsNoteAt : Direction → Option Joined → Note → Type 0
 IsNoteAt d None n = n ≡ Silent
@@ -101,6 +116,14 @@ IsStill c = (j : Joined) → HoldsJoined c j → IsHeard c → IsStillOf Left j 
 abbrev pub StillIf : Bool → Connection → Type 0
 StillIf true c = IsStill c
 StillIf false c = Unit {0}
+
+-- of either side of a connection whose place was given to another
+abbrev pub IsStillPast : Past → Type 0
+IsStillPast p = (j : Joined) → HoldsPast p j → IsStillOf Left j × IsStillOf Right j
+
+abbrev pub StillPastIf : Bool → Past → Type 0
+StillPastIf true p = IsStillPast p
+StillPastIf false p = Unit {0}
 
 -- of a subject, whatever the judge was fed
 abbrev pub TellsNothing : Judge → Subject → Type 0

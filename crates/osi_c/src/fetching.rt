@@ -3,18 +3,18 @@
 ghost use Rattle.std.specs.Prelude.{◌≡◌, false, Some, IfSome, IfNone};
 ghost use Rattle.osi_tap.specs.Standing.{IsSettled, first_in};
 ghost use Rattle.osi_c.specs.Subjects.{leading};
-ghost use Rattle.osi_c.specs.Fetching.{HasNoneBy, HasNoneByEach};
+ghost use Rattle.osi_c.specs.Fetching.{HasNoneBy, HasNoneByEach, HasNoneByPast, HasNoneByPasts};
 ghost use Rattle.osi_c.specs.Fetching.{IsDue, HasNone, HasNoneOf, HasNoneOfTransport, HasNoneOfSessions, HasNoLeading, InTurn};
 ghost use Rattle.osi_c.specs.Fetching.{HasNothing, HasFetched, MayBeLate, Fetches, fetching_of};
 
 use crate::codes::{CLOSED, NO_MEMORY, NOTHING, OK};
 use crate::judge_slots::OsiJudge;
 use crate::judges::Judge;
-use crate::notes::{Note, is_certain, is_still, note_of};
+use crate::notes::{Note, is_certain, is_still, is_still_past, note_of};
 use crate::subjects::{Subject, is_among, leading};
 use crate::verdicts::{OsiVerdict, nothing, shown};
 use osi_judge::Direction;
-use osi_tap::Connection;
+use osi_tap::{Connection, Past};
 use std::alloc::AllocError;
 
 /// What is to be told, and of what.
@@ -72,6 +72,17 @@ fn due_by(judge: &Judge, joint: &Connection) -> Option<Due>
     session_due(judge, joint.number())
 }
 
+/// The same of one whose place was given to another.
+fn due_by_past(judge: &Judge, past: &Past) -> Option<Due>
+    ensures some { IfSome result (λ d. IsDue judge.now judge.now.told.items d.subject d.note) }
+    ensures none { IfNone result (HasNoneByPast judge.now judge.now.told.items past.now) }
+{
+    if is_still_past(past) {
+        return None;
+    }
+    session_due(judge, past.number())
+}
+
 /// What is to be told of these connections, one after the other.
 fn due_of_each(judge: &Judge, joints: &[Connection]) -> Option<Due>
     ensures some { IfSome result (λ d. IsDue judge.now judge.now.told.items d.subject d.note) }
@@ -88,6 +99,22 @@ fn due_of_each(judge: &Judge, joints: &[Connection]) -> Option<Due>
     None
 }
 
+/// The same of those whose place was given to another.
+fn due_of_pasts(judge: &Judge, pasts: &[Past]) -> Option<Due>
+    ensures some { IfSome result (λ d. IsDue judge.now judge.now.told.items d.subject d.note) }
+    ensures none { IfNone result (HasNoneByPasts judge.now judge.now.told.items pasts.now) }
+{
+    let mut place = 0;
+    'connections: while place < pasts.len() {
+        let due = due_by_past(judge, &pasts[place]);
+        if due.is_some() {
+            return due;
+        }
+        place += 1;
+    }
+    None
+}
+
 /// What is to be told of a connection: first of those that may still get units.
 fn sessions_due(judge: &Judge) -> Option<Due>
     ensures some { IfSome result (λ d. IsDue judge.now judge.now.told.items d.subject d.note) }
@@ -95,7 +122,7 @@ fn sessions_due(judge: &Judge) -> Option<Due>
 {
     match due_of_each(judge, judge.tap.placed()) {
         Some(due) => Some(due),
-        None => due_of_each(judge, judge.tap.replaced()),
+        None => due_of_pasts(judge, judge.tap.replaced()),
     }
 }
 

@@ -1,20 +1,21 @@
 //! What C is told of a byte connection.
 
-ghost use Rattle.std.specs.Prelude.{◌≡◌};
+ghost use Rattle.std.specs.Prelude.{◌≡◌, ◌&&◌, not};
 ghost use Rattle.osi_judge.specs.Captures.{Capture};
 ghost use Rattle.osi_tap.specs.Connections.{Joined, numbered};
 ghost use Rattle.osi_tap.specs.Holding.{HoldsJoined, IsHeard};
+ghost use Rattle.osi_tap.specs.Pasts.{HoldsPast};
 ghost use Rattle.osi_tap.specs.Standing.{HoldsState, IsSettled};
 ghost use Rattle.osi_tap.specs.Tapping.{State};
-ghost use Rattle.osi_dispute.specs.Telling.{is_left, is_dropped};
+ghost use Rattle.osi_dispute.specs.Telling.{is_left, is_dropped, leaves};
 ghost use Rattle.osi_c.specs.Judges.{Knows};
-ghost use Rattle.osi_c.specs.Notes.{note_of_found, note_unless, note_of_break, note_of_halt, is_certain, is_late_in};
-ghost use Rattle.osi_c.specs.Notes.{IsNoteOf, IsNoteAt, StillIf, Tells};
+ghost use Rattle.osi_c.specs.Notes.{note_of_found, note_of_kept, note_of_outcome, note_unless, note_of_break, note_of_halt, is_certain, is_late_in};
+ghost use Rattle.osi_c.specs.Notes.{IsNoteOf, IsNoteAt, StillIf, StillPastIf, Tells};
 
 use crate::judges::Judge;
 use crate::subjects::Subject;
-use osi_judge::{Break, Direction, Finding};
-use osi_tap::{Connection, Mark, Tap};
+use osi_judge::{Direction, Finding};
+use osi_tap::{Connection, Found, Mark, Outcome, Past, Tap, Violation};
 
 /// What is told.
 #[derive(Clone, Copy)]
@@ -24,9 +25,9 @@ pub(crate) enum Note {
     /// It kept the protocol so far.
     Kept,
     /// The session of the side broke the protocol by the packet at this offset.
-    Broke(u64, Break),
+    Broke(u64, Violation),
     /// It left the profile by the packet at this offset.
-    Leaves(u64, Break),
+    Leaves(u64, Violation),
     /// Too many sessions explain it, so it is judged no further.
     TooMany,
     /// It is judged no further, since more passed on its connection than is judged.
@@ -52,17 +53,22 @@ fn is_dropped(own: Finding, other: Finding) -> bool
     is_left(other) && !is_left(own)
 }
 
+/// What is told of a session that kept the protocol.
+fn note_of_kept(is_over: bool) -> Note
+    ensures { result ≡ note_of_kept is_over }
+{
+    if is_over {
+        return Note::Over;
+    }
+    Note::Kept
+}
+
 /// What is told of a session of which this was found.
-fn note_of_found(is_over: bool, finding: Finding, offset: u64, by: Break) -> Note
+fn note_of_found(is_over: bool, finding: Finding, offset: u64, by: Violation) -> Note
     ensures { result ≡ note_of_found is_over finding offset by }
 {
     match finding {
-        Finding::Kept => {
-            if is_over {
-                return Note::Over;
-            }
-            Note::Kept
-        }
+        Finding::Kept => note_of_kept(is_over),
         Finding::Broke(_) => Note::Broke(offset, by),
         Finding::Left(_) => Note::Leaves(offset, by),
         Finding::TooMany => Note::TooMany,
@@ -85,11 +91,48 @@ fn note_of_joint(joint: &Connection, direction: Direction) -> Note
     let own = joint.finding(direction);
     let beside = joint.finding(direction.other());
     let offset = joint.offset(direction);
-    let by = joint.side(direction).by();
+    let by = joint.violation(direction);
     let is_over = joint.is_over();
     note_unless(
         is_dropped(own, beside),
         note_of_found(is_over, own, offset, by),
+    )
+}
+
+/// What is told of a session with this outcome.
+fn note_of_outcome(is_over: bool, outcome: Outcome) -> Note
+    ensures { result ≡ note_of_outcome is_over outcome }
+{
+    match outcome {
+        Outcome::Kept(..) => note_of_kept(is_over),
+        Outcome::Broke(offset, by) => Note::Broke(offset, by),
+        Outcome::Left(offset, by) => Note::Leaves(offset, by),
+        Outcome::TooMany => Note::TooMany,
+    }
+}
+
+fn leaves(outcome: Outcome) -> bool
+    ensures { result ≡ leaves outcome }
+{
+    matches!(outcome, Outcome::Left(..))
+}
+
+/// Whether nothing is told of a side with this outcome, where the other side has that.
+fn is_dropped_by(own: Outcome, beside: Outcome) -> bool
+    ensures { result ≡ (leaves beside && not (leaves own)) }
+{
+    leaves(beside) && !leaves(own)
+}
+
+/// The same of the session of a side of a connection whose place was given to another.
+fn note_of_past(past: &Past, direction: Direction) -> Note
+    ensures { (j : Joined) → HoldsPast past.now j → IsNoteOf direction j result }
+{
+    let own = past.outcome(direction);
+    let beside = past.outcome(direction.other());
+    note_unless(
+        is_dropped_by(own, beside),
+        note_of_outcome(past.is_over(), own),
     )
 }
 
@@ -99,7 +142,8 @@ fn note_of_session(tap: &Tap, number: usize, direction: Direction) -> Note
 {
     match tap.connection(number) {
         None => Note::Silent,
-        Some(joint) => note_of_joint(joint, direction),
+        Some(Found::Placed(joint)) => note_of_joint(joint, direction),
+        Some(Found::Replaced(past)) => note_of_past(past, direction),
     }
 }
 
@@ -112,6 +156,21 @@ pub(crate) fn is_still(joint: &Connection) -> bool
         return false;
     }
     let right = note_of_joint(joint, Direction::Right);
+    if is_certain(&right) {
+        return false;
+    }
+    true
+}
+
+/// The same of one whose place was given to another.
+pub(crate) fn is_still_past(past: &Past) -> bool
+    ensures { StillPastIf result past.now }
+{
+    let left = note_of_past(past, Direction::Left);
+    if is_certain(&left) {
+        return false;
+    }
+    let right = note_of_past(past, Direction::Right);
     if is_certain(&right) {
         return false;
     }

@@ -3,6 +3,7 @@
 ghost use Rattle.std.specs.Prelude.{◌≡◌, Some};
 ghost use Rattle.osi_tap.specs.Connections.{Joined, numbered, reference_of};
 ghost use Rattle.osi_tap.specs.Holding.{HoldsJoined};
+ghost use Rattle.osi_tap.specs.Pasts.{HoldsPast};
 ghost use Rattle.osi_tap.specs.Standing.{HoldsState, IsSettled};
 ghost use Rattle.osi_tap.specs.Tapping.{State};
 ghost use Rattle.osi_c.specs.Verdicts.{transport_rule_code, cause_code, unit_said_code, unread_said_code, mark_said_code};
@@ -19,7 +20,7 @@ use crate::rules::{packet_code, rule_code, said_code, unit_code};
 use crate::subjects::Subject;
 use osi_judge::Direction;
 use osi_rules::Rule;
-use osi_tap::{Cause, Connection, Tap, UnitKind};
+use osi_tap::{Cause, Connection, Found, Past, Tap, UnitKind};
 
 /// A verdict on a side of a byte connection, in the numbers of C.
 #[repr(C)]
@@ -299,20 +300,32 @@ fn number_code(number: Option<usize>) -> u64
     }
 }
 
-/// The reference that a side gave a connection.
-fn reference_in(joint: &Connection, direction: Direction) -> u16
-    ensures { (j : Joined) → HoldsJoined joint.now j → result ≡ reference_code (reference_of direction j) }
+/// The references that both sides gave a connection.
+fn references_by(left: Option<u16>, right: Option<u16>) -> References
+    ensures { (j : Joined) → left ≡ reference_of Direction.Left j → right ≡ reference_of Direction.Right j → result ≡ named_in (Some j) }
 {
-    reference_code(joint.reference(direction))
+    References {
+        left: reference_code(left),
+        right: reference_code(right),
+    }
 }
 
 /// The references of a connection.
 fn references_in(joint: &Connection) -> References
     ensures { (j : Joined) → HoldsJoined joint.now j → result ≡ named_in (Some j) }
 {
-    let left = reference_in(joint, Direction::Left);
-    let right = reference_in(joint, Direction::Right);
-    References { left, right }
+    let left = joint.reference(Direction::Left);
+    let right = joint.reference(Direction::Right);
+    references_by(left, right)
+}
+
+/// The same of one whose place was given to another.
+fn references_past(past: &Past) -> References
+    ensures { (j : Joined) → HoldsPast past.now j → result ≡ named_in (Some j) }
+{
+    let left = past.reference(Direction::Left);
+    let right = past.reference(Direction::Right);
+    references_by(left, right)
 }
 
 /// The same of the connection with this number.
@@ -321,7 +334,8 @@ fn references_at(tap: &Tap, number: usize) -> References
 {
     match tap.connection(number) {
         None => References { left: 0, right: 0 },
-        Some(joint) => references_in(joint),
+        Some(Found::Placed(joint)) => references_in(joint),
+        Some(Found::Replaced(past)) => references_past(past),
     }
 }
 

@@ -4,7 +4,7 @@ use crate::checks::{Checks, OUT_OF_MEMORY};
 use crate::sessions::cut;
 use Direction::{Left, Right};
 use osi_judge::{Direction, Finding};
-use osi_tap::Tap;
+use osi_tap::{Found, Outcome, Tap};
 use std::alloc::Global;
 use std::test::Fail;
 
@@ -59,6 +59,10 @@ const DR_2: &[u8] = &[
 ];
 
 const DC_2: &[u8] = &[0x03, 0x00, 0x00, 0x0A, 0x05, 0xC0, 0x00, 0x01, 0x00, 0x02];
+/// A point on it, before any CN.
+const MIP_2: &[u8] = &[
+    0x03, 0x00, 0x00, 0x10, 0x04, 0xF0, 0x00, 0x02, 0x80, 0x01, 0x00, 0x31, 0x03, 0x2A, 0x01, 0x31,
+];
 /// The header of a packet with 300 AKs, and one of them: none of left's DTs has passed.
 const AKS: &[u8] = &[0x03, 0x00, 0x05, 0xE0];
 
@@ -100,13 +104,13 @@ fn feed_all(checks: &Checks, tap: &mut Tap, pieces: &[(Direction, &[u8])]) {
 /// Whether the first connection is judged on, this is found of left, and it said this many TSDUs.
 fn is_found(checks: &Checks, tap: &Tap, is_over: bool, left: Finding, told: usize) {
     match tap.connection(0) {
-        Some(connection) => checks.that(
+        Some(Found::Placed(connection)) => checks.that(
             connection.is_over() == is_over
                 && connection.finding(Left) == left
                 && connection.side(Left).told() == told,
             "the first connection is judged otherwise",
         ),
-        None => checks.fail("there is no connection"),
+        _ => checks.fail("there is no connection"),
     }
 }
 
@@ -147,6 +151,15 @@ fn many_units_pass(checks: &Checks, tap: &mut Tap, packet: &[u8]) {
     );
 }
 
+/// How one begins and ends on which left breaks the protocol.
+const BROKEN: &[(Direction, &[u8])] = &[
+    (Left, CR_2),
+    (Right, CC_2),
+    (Left, MIP_2),
+    (Left, DR_2),
+    (Right, DC_2),
+];
+
 /// Connections pass one after the other.
 fn connections_pass(checks: &Checks, tap: &mut Tap) {
     for _ in 0..300u16 {
@@ -159,6 +172,33 @@ fn connections_pass(checks: &Checks, tap: &mut Tap) {
     checks.that(
         tap.connection(299).is_some() && tap.connection(300).is_none(),
         "the last connection is not found",
+    );
+    feed_all(checks, tap, BROKEN);
+    feed_all(checks, tap, IN_TURN);
+    is_past(checks, tap);
+}
+
+/// What was found of the connections whose place was given to another is told: left broke the protocol on the last of them.
+fn is_past(checks: &Checks, tap: &Tap) {
+    checks.that(
+        tap.placed().len() == 1 && tap.replaced().len() == 301,
+        "another place is given to a connection",
+    );
+    let Some(Found::Replaced(past)) = tap.connection(300) else {
+        checks.fail("the connection that is over is not found");
+        return;
+    };
+    checks.that(
+        past.number() == 300 && past.is_closed() && past.reference(Right) == Some(2),
+        "another connection is told",
+    );
+    checks.that(
+        matches!(past.outcome(Left), Outcome::Broke(offset, _) if offset == 8_417),
+        "the break of a connection that is over is not told",
+    );
+    checks.that(
+        matches!(past.outcome(Right), Outcome::Kept(0, ..)),
+        "another side is told to have broken the protocol",
     );
 }
 

@@ -1,5 +1,4 @@
 use Rattle.std.proofs.Common.{arith}
-use Rattle.std.specs.Prelude.{option_copied}
 use Rattle.osi_tap.specs.Connections.{numbered}
 use Rattle.osi_c.specs.Judges.{fed}
 use Rattle.osi_c.proofs.what_is_asked_of_a_judge.{found_some}
@@ -9,6 +8,6 @@ pub returns : goal.returns
 returns c = λ settled capture k.
     grind (
       arith,
-      found_some (option_copied c.connection.result) (numbered c.args.number (fed capture).course.sessions)
+      found_some c.connection.result (numbered c.args.number (fed capture).course.sessions)
           (c.connection.ensures.held (fed capture) k.holds settled.judged),
     )

@@ -1,10 +1,10 @@
-use Rattle.osi_c.specs.Fetching.{HasNoneByEach, HasNoneOfSessions}
+use Rattle.osi_c.specs.Fetching.{HasNoneByPasts, HasNoneOfSessions}
 use Rattle.osi_c.proofs.each_connection_is_looked_at.{none_as, of_any_number}
 use Rattle.osi_c.proofs.fetching.sessions_due.Goals as goal
 
 pub returns-in-None-clause-none : goal.returns-in-None-clause-none
 returns-in-None-clause-none c =
-    none_as c.due_of_each-in-None.result (HasNoneByEach c.args.judge.now c.args.judge.now.told.items c.replaced.result.now)
+    none_as c.due_of_pasts.result (HasNoneByPasts c.args.judge.now c.args.judge.now.told.items c.replaced.result.now)
     (HasNoneOfSessions c.args.judge.now c.args.judge.now.told.items)
     (of_any_number c.args.judge.now c.args.judge.now.told.items c.placed.result.now c.replaced.result.now c.placed.ensures.held c.placed.ensures.heard
-    c.replaced.ensures.held c.replaced.ensures.heard c.in-None.ensures.none) c.due_of_each-in-None.ensures.none
+    c.replaced.ensures c.in-None.ensures.none) c.due_of_pasts.ensures.none
