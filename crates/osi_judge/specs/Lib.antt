@@ -1,6 +1,7 @@
 pub mod Captures
 pub mod Stops
 pub mod Straight
+pub mod Still
 pub mod Transport
 pub mod Explaining
 pub mod Outlines
