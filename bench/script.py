@@ -54,3 +54,28 @@ def judged_data(turns):
 def judged_points(turns):
     """The capture of so many minor points of left, each confirmed."""
     return JUDGED_OPENING + "".join(point(number) for number in range(1, turns + 1))
+
+
+def unit_packet(unit):
+    """The line of a packet with this unit of transport."""
+    return f"0300{len(unit) // 2 + 4:04x}{unit}\n"
+
+
+def judged_many(connections):
+    """The captures of so many connections of class 2 on one byte connection, by how many DTs left sends when all are open: each has
+    data of 100 octets, on one connection after the other, and right acknowledges it."""
+    numbers = range(1, connections + 1)
+    _, _, connect, accept = (line.strip()[14:] for line in JUDGED_OPENING.splitlines())
+    opening = []
+    for number in numbers:
+        calling, called = f"{number:04x}", f"{0x1000 + number:04x}"
+        opening += [unit_packet(f"09ef0000{calling}20c0010a"), "\t", unit_packet(f"09df{calling}{called}20c0010a"),
+                    unit_packet(f"04f0{called}80{connect}"), "\t", unit_packet(f"046f{calling}01"),
+                    "\t", unit_packet(f"04f0{calling}80{accept}"), unit_packet(f"046f{called}01")]
+
+    def turn(done):
+        number, sent = done % connections + 1, done // connections + 1
+        return (unit_packet(f"04f0{0x1000 + number:04x}{0x80 | sent % 128:02x}01000100{'41' * 100}")
+                + "\t" + unit_packet(f"046f{number:04x}{(sent + 1) % 128:02x}"))
+
+    return lambda turns: "".join(opening) + "".join(turn(done) for done in range(turns))

@@ -1,6 +1,7 @@
 pub mod Captures
 pub mod Findings
 pub mod Straight
+pub mod Still
 pub mod Explaining
 pub mod Outlines
 pub mod Keeping

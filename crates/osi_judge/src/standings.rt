@@ -1,9 +1,10 @@
 //! The state of a side that kept the protocol.
 
-ghost use Rattle.std.specs.Prelude.{◌≡◌, ◌<◌, ◌⊎◌, false, length, IfOk};
+ghost use Rattle.std.specs.Prelude.{◌≡◌, ◌<◌, ◌⊎◌, true, false, length, IfOk, IfSome};
 ghost use Rattle.osi_judge.specs.Foremost.{is_ahead, is_before, before_of, first_of, foremost};
 ghost use Rattle.osi_judge.specs.Judging.{is_empty};
-ghost use Rattle.osi_judge.specs.Onward.{IsAmong, GoesOn, StandsBehind};
+ghost use Rattle.osi_judge.specs.Onward.{IsAmong, GoesOn, Quietly, StandsBehind};
+ghost use Rattle.osi_judge.specs.Still.{LeavesAsItIs};
 
 use crate::first_places::tsdu_at;
 use crate::heard::Heard;
@@ -107,7 +108,42 @@ pub(crate) fn take_next(alloc: Global, heard: &Heard, at: &Member) -> Result<Tur
     }))
 }
 
-/// The state of a member after all TSDUs that passed.
+/// Whether two TSDUs are the same.
+fn is_same_tsdu(one: &[u8], other: &[u8]) -> bool
+    ensures { result ≡ true → one.now ≡ other.now }
+{
+    one == other
+}
+
+/// A member after its next TSDU, if that is the same as one that left it as it is.
+fn remains(heard: &Heard, at: &Member, still: Option<usize>) -> Option<Member>
+    requires taken { at.now.taken < length heard.now }
+    requires still { IfSome still (λ place. LeavesAsItIs heard.now place at.now.standing) }
+    ensures { IfSome result (λ next. Quietly heard.now at.now next × (next.standing ≡ at.now.standing)) }
+{
+    let place = still?;
+    let before = tsdu_at(heard, place);
+    let tsdu = tsdu_at(heard, at.taken);
+    if !is_same_tsdu(before, tsdu) {
+        return None;
+    }
+    Some(Member {
+        taken: at.taken + 1,
+        standing: at.standing,
+    })
+}
+
+/// The place of the TSDU that a member took, if that left it as it was.
+fn still_at(at: &Member, next: &Member) -> Option<usize>
+    ensures { IfSome result (λ place. (place ≡ at.now.taken) × (next.now.standing ≡ at.now.standing)) }
+{
+    if !next.standing.is_same(&at.standing) {
+        return None;
+    }
+    Some(at.taken)
+}
+
+/// The state of a member after all TSDUs that passed. One that is the same as the last one that left it as it is isn't read.
 pub(crate) fn stands_behind(
     alloc: Global,
     heard: &Heard,
@@ -116,9 +152,17 @@ pub(crate) fn stands_behind(
     ensures { IfOk result (λ stands. StandsBehind heard.now member stands) }
 {
     let mut at = member;
+    let mut still = None;
     'takes: while at.taken < heard.len() {
+        if let Some(next) = remains(heard, &at, still) {
+            at = next;
+            continue;
+        }
         match take_next(alloc, heard, &at)? {
-            Turn::Goes(next) => at = next,
+            Turn::Goes(next) => {
+                still = still_at(&at, &next);
+                at = next;
+            }
             Turn::Stops(owes) => return Ok(stands_at(at, owes)),
         }
     }
