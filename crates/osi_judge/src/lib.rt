@@ -56,6 +56,7 @@ mod walks;
 pub use directions::Direction;
 pub use findings::Finding;
 pub use judge::{Judge, Reading};
+pub use members::Member;
 pub use rules::{Break, Rule};
 pub use sides::{Side, TellError};
 pub use standings::Stands;
