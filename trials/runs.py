@@ -1,4 +1,4 @@
-"""Two ends in class 0 over the library for C: scripts, what passes a tap, and calls at random."""
+"""Two ends over the library for C: scripts, what passes a tap, and calls at random."""
 from osi_session import Classes, End, Opening, Phase, SessionError, Side, Sides, Sizes, Terms, Tokens, Units
 
 SIDES = ("left", "right")
@@ -149,32 +149,33 @@ def limits(random):
     return "" if random.random() < 0.6 else f" {random.choice((0, 64, 100, 300))} {random.choice((0, 64, 80, 500))}"
 
 
-def is_there(run, side):
+def is_there(run, side, reference):
     """Whether a side has the connection."""
-    return side == "left" or run.carried["left"] >= 14
+    return side == "left" or run.ends[side].phase(reference) != Phase.NONE
 
 
-def verb_at_random(random, run, side):
+def verb_at_random(random, run, side, reference):
     """A call, mostly one of those that the phase of its side has."""
     if random.random() < 0.01:
         return "abort"
-    if random.random() < 0.05 or not is_there(run, side):
+    if random.random() < 0.05 or not is_there(run, side, reference):
         return random.choice(VERBS)
     end = run.ends[side]
-    phase = end.phase(1)
+    phase = end.phase(reference)
     if phase == Phase.READY:
-        return random.choice(SENDS if run.units == 2 or end.held(1) & Tokens.DATA else WAITS)
+        return random.choice(SENDS if run.units[reference] == 2 or end.held(reference) & Tokens.DATA else WAITS)
     return random.choice(CALLS.get(phase, VERBS))
 
 
-def call_at_random(random, run, side):
+def call_at_random(random, run, side, reference):
     """A call of a user."""
-    end, verb = run.ends[side], verb_at_random(random, run, side)
-    held = int(end.held(1)) if is_there(run, side) else 0x55
-    near = max(0, end.next_serial(1) + random.choice((-3, -2, -1, -1, -1, 0, 0))) if is_there(run, side) else 0
+    end, verb, asked = run.ends[side], verb_at_random(random, run, side, reference), run.units[reference]
+    there = is_there(run, side, reference)
+    held = int(end.held(reference)) if there else 0x55
+    near = max(0, end.next_serial(reference) + random.choice((-3, -2, -1, -1, -1, 0, 0))) if there else 0
     some = random.choice((0x55, 0x55, 0x01, 0x04, 0x10, 0x40, 0x05))
     words = {
-        "accept": lambda: f"{run.units if random.random() < 0.7 else run.units & units(random):04x} {random.choice((0, 1, 7, 999990))} "
+        "accept": lambda: f"{asked if random.random() < 0.7 else asked & units(random):04x} {random.choice((0, 1, 7, 999990))} "
                           f"{letters(random, 'ar')} {data(random)}{limits(random)}",
         "data": lambda: data(random, 1),
         "give": lambda: f"{held & some or some:02x}",
@@ -184,7 +185,7 @@ def call_at_random(random, run, side):
         "restart": lambda: f"{near} {letters(random, 'arc')} {data(random)}",
         "restartconfirm": lambda: f"{letters(random, 'ar')} {data(random)}",
     }.get(verb, lambda: data(random))()
-    run.line(f"{side} 1 {verb} {words}")
+    run.line(f"{side} {reference} {verb} {words}")
 
 
 def carry_at_random(random, run):
@@ -194,20 +195,34 @@ def carry_at_random(random, run):
         run.line(f"carry {side} {waiting if random.random() < 0.7 else random.randint(1, waiting)}")
 
 
-def run_at_random(random):
-    """Two ends, whose users call at random."""
+def connect_at_random(random, run, asked):
+    """The left end asks for another connection, if it may."""
+    if run.line(f"connect {asked:04x} {random.choice((0, 1, 5, 999995))} {letters(random, 'arc')} {data(random)}{limits(random)}"):
+        run.units[len(run.units) + 1] = asked
+
+
+def step_at_random(random, run, most):
+    """Octets are carried, or a user calls on one of at most so many connections."""
+    if random.random() < 0.45:
+        carry_at_random(random, run)
+    elif len(run.units) < most and random.random() < 0.05:
+        connect_at_random(random, run, units(random))
+    else:
+        side = random.choice(SIDES)
+        call_at_random(random, run, side, random.randint(1, len(run.units)) if len(run.units) > 1 else 1)
+
+
+def run_at_random(random, classes="0"):
+    """Two ends of this class, whose users call at random: on one connection in class 0, on at most four in class 2."""
     run = Run(random.choice(("left", "right", "between")))
-    run.units = units(random)
-    run.line(f"ends 0 0 {random.choice((7, 7, 8, 10, 13))} {random.randint(1, 15)}")
-    run.line(f"connect {run.units:04x} {random.choice((0, 1, 5, 999995))} {letters(random, 'arc')} {data(random)}{limits(random)}")
+    run.units, asked = {}, units(random)
+    run.line(f"ends {classes} {classes} {random.choice((7, 7, 8, 10, 13))} {random.randint(1, 15)}")
+    connect_at_random(random, run, asked)
     opening = random.choice((0, 1, 3, 3, 3, 3, 3, 3))
     for side in ("left", "right", "left")[:opening]:
         run.line(f"carry {side} 99999")
     for _ in range(random.choice((10, 40, 120, 300))):
-        if random.random() < 0.45:
-            carry_at_random(random, run)
-        else:
-            call_at_random(random, run, random.choice(SIDES))
+        step_at_random(random, run, 4 if classes == "2" else 1)
     if random.random() < 0.5:
         for side in SIDES * 2:
             run.line(f"carry {side} 9999999")

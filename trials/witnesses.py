@@ -13,11 +13,8 @@ from runs import OTHER, SIDES, played, run_at_random
 UNFINISHED = re.compile(r"# (left|right) packet \d+: no call of a script sends this\n\Z")
 # The captures in which a side kept the protocol by a unit that no call of a script sends.
 BEYOND_CALLS = {"in_flight.disputes an abort of a provider without resources", "transport_of_class_0.disputes an ER in answer to a CR"}
-# Those of class 2, or of several connections: a script has one connection of class 0, and stops before anything else.
-BEYOND_CLASS_0 = {"kept_and_outside.disputes a request of class 2, which nobody answers",
-                  "transport_of_class_0.disputes data of class 2, where the CR offers class 0 too"}
-# The files in which each capture is so, or breaks a rule of transport that no script shows: one of sizes or references.
-REPORTED = ("class_2.disputes ", "class_2_after_a_break.disputes ", "sizes_and_references.disputes ")
+# That in which a unit before the break has no call.
+BEFORE_A_BREAK = {"sizes_and_references.disputes a refusal, and then octets that are no packet"}
 
 
 def disputes(top):
@@ -53,8 +50,13 @@ def packets(stream):
 
 
 def has_disconnect_confirm(stream):
-    """Whether a direction has a DC."""
-    return any(unit[1] & 0xF0 == 0xC0 for _, _, unit in packets(stream))
+    """Whether a direction has a DC before its first DT of class 2."""
+    for _, _, unit in packets(stream):
+        if unit[0] == 4 and unit[1] & 0xF0 == 0xF0:
+            return False
+        if unit[1] & 0xF0 == 0xC0:
+            return True
+    return False
 
 
 def whole(stream):
@@ -74,6 +76,16 @@ def data_in_parts(stream):
             found = re.match(rb"\x01\x00\x01\x03\x19\x01(.)", tsdu, re.S)
             begun, tsdu = (begun if found is None else not found.group(1)[0] & 2), b""
     return begun
+
+
+# What an end sends by itself when it takes an AB: AA.
+ANSWER = b"\x1a\x00"
+
+
+def is_same(had, ran, is_cut):
+    """Whether a side sends the TSDUs of the capture, or the first of them if the script stops. It may have answered an AB since."""
+    held, sent = [octets for _, octets in had], [octets for _, octets in ran]
+    return sent in (held, held + [ANSWER]) or is_cut and held[:len(sent)] == sent
 
 
 def streams(pieces):
@@ -102,28 +114,91 @@ def is_in_order(pieces, run, side):
     return True
 
 
-def tsdus(stream):
-    """Where each TSDU of a direction begins and ends; a CR, CC or DR counts as one."""
-    begun, found = None, []
-    for at, end, unit in packets(stream):
-        begun = at if begun is None else begun
-        if unit[1] & 0xF0 != 0xF0 or unit[2] & 0x80:
-            found.append((begun, end))
-            begun = None
-    return found
+# ---- TSDUs by connections
+
+UNITS = {0xE0: "CR", 0xD0: "CC", 0x80: "DR", 0xC0: "DC", 0xF0: "DT", 0x60: "AK", 0x70: "ER"}
 
 
-def are_in_order(pieces, run, side):
-    """The same for TSDUs, whose lengths may differ."""
-    had = streams(pieces)
-    rows, ends = passed_before(pieces, side), [end for _, end in tsdus(had[OTHER[side]])]
-    known = [sum(end <= max(other for at, other in rows if at <= begun) for end in ends) for begun, _ in tsdus(had[side])]
-    sent = [end for _, end in tsdus(run.sent[OTHER[side]])]
-    for number, (begun, _) in enumerate(tsdus(run.sent[side])):
-        received = max(got for at, got in run.made[side] if at <= begun)
-        if sum(end <= received for end in sent) > known[number]:
-            return False
-    return True
+def units_of(packet):
+    """The transport units of a packet, from their length indicators on. What follows a DT is its data."""
+    while packet:
+        kind = UNITS.get(packet[1] & 0xF0) if len(packet) > 1 else None
+        if kind in (None, "DT", "CR", "CC", "DR", "ER"):
+            yield kind, packet
+            return
+        yield kind, packet[:packet[0] + 1]
+        packet = packet[packet[0] + 1:]
+
+
+class Connections:
+    """The TSDUs of each connection of a capture, with how many of the other side's had passed before the packet in which each began."""
+
+    def __init__(self, pieces):
+        self.found = []
+        self.named = {side: {} for side in SIDES}
+        self.held = {side: b"" for side in SIDES}
+        self.known = {side: [] for side in SIDES}
+        for side, more in pieces:
+            self.pass_piece(side, more)
+
+    def counts(self, side):
+        """How many TSDUs of a side have passed on each connection."""
+        return [len(connection[side]) for connection in self.found]
+
+    def pass_piece(self, side, more):
+        if not more:
+            return
+        if not self.held[side]:
+            self.known[side] = self.counts(OTHER[side])
+        self.held[side] += more
+        while found := packets(self.held[side])[:1]:
+            (_, end, unit), = found
+            for kind, octets in units_of(unit):
+                self.pass_unit(side, kind, octets)
+            self.held[side] = self.held[side][end:]
+            self.known[side] = self.counts(OTHER[side])
+
+    def pass_unit(self, side, kind, unit):
+        """References name a connection: that of a CR or CC by its sender, any other by the other side."""
+        if kind == "CR" and side == "left":
+            self.named["left"][unit[4:6]] = len(self.found)
+            self.found.append({"left": [], "right": [], "begun": {}})
+        elif kind == "CC" and unit[2:4] in self.named["left"]:
+            self.named["right"][unit[4:6]] = self.named["left"][unit[2:4]]
+        elif kind == "DT":
+            number = self.named[OTHER[side]].get(unit[2:4]) if unit[0] == 4 else max(self.named["right"].values(), default=None)
+            if number is not None:
+                self.add(side, number, unit[5:] if unit[0] == 4 else unit[3:], unit[4 if unit[0] == 4 else 2] & 0x80)
+
+    def add(self, side, number, octets, is_last):
+        """A part of a TSDU."""
+        connection, known = self.found[number], self.known[side]
+        before, begun = connection["begun"].pop(side, (known[number] if number < len(known) else 0, b""))
+        if is_last:
+            connection[side].append((before, begun + octets))
+        else:
+            connection["begun"][side] = before, begun + octets
+
+    def used(self):
+        """The connections on which left sends something."""
+        return [connection for connection in self.found if connection["left"]]
+
+
+def played_at(script):
+    """What two ends send that play a script, on each connection on which left sends something: each side as it is seen at its end."""
+    runs = {side: played(script, side) for side in SIDES}
+    found = {side: Connections(run.pieces).found for side, run in runs.items()}
+    for run in runs.values():
+        run.close()
+    nothing = {"left": [], "right": []}
+    right = found["right"] + [nothing] * len(found["left"])
+    return [{"left": at_left, "right": at_right} for at_left, at_right in zip(found["left"], right) if at_left["left"]]
+
+
+def are_in_order(had, ran, side):
+    """Whether a side of a connection had received no more TSDUs, for each that it sent, than had passed in the capture."""
+    known = [before for before, _ in had[side]] or [0]
+    return all(before <= known[min(number, len(known) - 1)] for number, (before, _) in enumerate(ran[side]))
 
 
 # Where a script stops, and the side of a verdict that broke the protocol or left the profile first.
@@ -156,14 +231,24 @@ class Witnesses:
 
     # ---- captures that are kept
 
-    def listed(self, stream):
-        """The session units of a direction, as `osi show` lists them, in the order in which they act."""
+    def listed(self, tsdus):
+        """The session units of the TSDUs of a side, as `osi show` lists them, in the order in which they act."""
+        stream = b"".join(b"\x03\0" + (len(octets) + 7).to_bytes(2, "big") + b"\x02\xf0\x80" + octets if len(octets) < 65_000 else b""
+                          for _, octets in tsdus)
         _, text = self.osi(["show"], stream.hex())
         found = []
         for tsdu in re.split(r"^    tsdu .*\n", text, flags=re.M)[1:]:
             lines = [OPTIONS.sub("", OFFERED.sub(r"\1", line)) for line in re.findall(r"^    (?!fault ).*", tsdu, re.M)]
             found += [line for line in as_they_act(lines) if line not in ("    GT", "    PT")]
         return found
+
+    def connection(self, name, had, ran, status, script):
+        """A connection: what is played is what each side sent, up to where the script stops."""
+        for side in SIDES:
+            sent, held = self.listed(ran[side][side]), self.listed(had[side])
+            held = held if status == 0 else held[:len(sent)]
+            self.check(f"{name}: {side} sends\n{sent}\nand not\n{held}\nby\n{script}", sent == held)
+            self.check(f"{name}: {side} sends too early by\n{script}", are_in_order(had, ran[side], side))
 
     def capture(self, name, text):
         """A capture: what is played is what each side sent, up to where the script stops."""
@@ -172,25 +257,20 @@ class Witnesses:
         if judged == 2:
             return self.check(f"{name}: {status} where osi judge gives 2", (status, script) == (2, ""))
         pieces = pieces_of(text)
-        # No call sends a DC, so a script stops before one that is right.
+        # No call sends a DC in class 0, so a script stops before one that is right.
         confirms = any(has_disconnect_confirm(stream) for stream in streams(pieces).values())
-        is_wide = name.startswith(REPORTED) or name in BEYOND_CLASS_0
-        may_stop = (confirms or name in BEYOND_CALLS) and UNFINISHED.search(script) or is_wide
+        may_stop = (confirms or name in BEYOND_CALLS) and UNFINISHED.search(script)
         self.check(f"{name}: both kept the protocol, and the script stops", judged != 0 or status == 0 or may_stop)
         self.check(f"{name}: the script is not played to its end", self.osi(["pair"], script)[0] == 0)
         first, stops = FIRST.search(verdict), STOPS.search(script)
-        is_early = first and confirms and UNFINISHED.search(script) and first[1] == stops[1] and int(stops[2]) < int(first[2])
+        is_early = first and (confirms or name in BEFORE_A_BREAK) and UNFINISHED.search(script) and int(stops[2]) < int(first[2])
         self.check(f"{name}: the script stops elsewhere than the verdict says\n{verdict}by\n{script}",
                    (stops is not None) == (status == 1)
-                   and (first is None or is_early or is_wide or stops and first.groups() == stops.groups()))
-        run = played(script)
-        sent = {side: self.listed(run.sent[side]) for side in SIDES}
-        had = {side: self.listed(stream) for side, stream in streams(pieces).items()}
-        for side in SIDES:
-            held = had[side] if status == 0 else had[side][:len(sent[side])]
-            self.check(f"{name}: {side} sends\n{sent[side]}\nand not\n{held}\nby\n{script}", sent[side] == held)
-            self.check(f"{name}: {side} sends too early by\n{script}", are_in_order(pieces, run, side))
-        run.close()
+                   and (first is None or is_early or stops and first.groups() == stops.groups()))
+        had, ran = Connections(pieces).used(), played_at(script)
+        self.check(f"{name}: other connections\n{script}", status == 1 or len(had) == len(ran))
+        for connection, of_both in zip(had, ran):
+            self.connection(name, connection, of_both, status, script)
         return status == 0
 
     def captures(self):
@@ -201,7 +281,7 @@ class Witnesses:
     # ---- random runs
 
     def random_run(self, number, seed):
-        """A run at random, its script, and the octets that it gives. Says how it went."""
+        """A run at random in class 0, its script, and the octets that it gives. Says how it went."""
         run = run_at_random(random.Random(f"{seed} {number}"))
         text, had = run.capture(), streams(run.pieces)
         run.close()
@@ -217,21 +297,41 @@ class Witnesses:
         self.check(f"run {number} of seed {seed}: status {status}\n" + "\n".join(run.script) + f"\n---- capture\n{text}---- script\n{script}", holds)
         return bool(is_cut), run.calls, sum(len(stream) for stream in had.values())
 
-    def random_runs(self, count, seed):
+    def several(self, number, seed):
+        """A run at random of several connections in class 2: each has the same TSDUs as in the capture. Says how it went."""
+        run = run_at_random(random.Random(f"{seed} 2 {number}"), "2")
+        text, had = run.capture(), Connections(run.pieces).used()
+        run.close()
+        status, script = self.osi(["judge", "--script"], text)
+        ran = played_at(script)
+        # Data in parts may end within, and data that waits for credit may make the other side take an AB too early.
+        is_cut = status == 1 and UNFINISHED.search(script)
+        holds = (status == 0 or is_cut) and (is_cut or len(had) == len(ran))
+        for connection, of_both in zip(had, ran):
+            for side in SIDES:
+                held, sent = connection[side], of_both[side][side]
+                holds = holds and is_same(held, sent, is_cut) and are_in_order(connection, {side: sent[:len(held)]}, side)
+        self.check(f"run {number} of seed {seed} in class 2: status {status}\n" + "\n".join(run.script)
+                   + f"\n---- capture\n{text}---- script\n{script}", holds)
+        return bool(is_cut), run.calls, sum(len(more) for _, more in run.pieces)
+
+    def random_runs(self, kind, one, count, seed):
+        """So many random runs of a kind."""
         began = said = time.monotonic()
         cut = calls = octets = 0
         for number in range(count):
-            more = self.random_run(number, seed)
+            more = one(number, seed)
             cut, calls, octets = cut + more[0], calls + more[1], octets + more[2]
             if time.monotonic() - said > 30:
                 said = time.monotonic()
-                print(f"{number + 1} runs in {said - began:.0f} s, {self.failed} failed", file=sys.stderr, flush=True)
-        print(f"{count} random runs of seed {seed}, {calls} calls, {octets} octets: {count - cut} told to their end; {cut} end within data "
-              f"in parts, and are told up to it", flush=True)
+                print(f"{number + 1} runs {kind} in {said - began:.0f} s, {self.failed} failed", file=sys.stderr, flush=True)
+        print(f"{count} random runs {kind} of seed {seed}, {calls} calls, {octets} octets: {count - cut} told to their end; {cut} told up "
+              f"to what no call sends", flush=True)
 
     def all(self, runs, seed):
         self.captures()
         if runs:
-            self.random_runs(runs, seed)
+            self.random_runs("in class 0", self.random_run, runs, seed)
+            self.random_runs("in class 2", self.several, runs, seed)
         print(f"{self.checks - self.failed} passed, {self.failed} failed")
         return 1 if self.failed else 0

@@ -11,8 +11,10 @@ pub enum Halt {
     TooMany,
     /// No call of a script sends it.
     NoCall,
-    /// A transport unit that has no place there, or nothing that can be read.
+    /// A transport unit that has no place there, or nothing that can be read, in class 0 or before the class is known.
     Transport,
+    /// The same in class 2.
+    TransportOfClass2,
     /// The script would be too long.
     TooLong,
     /// There was no memory.
@@ -27,9 +29,15 @@ impl Halt {
             Halt::TooMany => "too many sessions explain this",
             Halt::NoCall => "no call of a script sends this",
             Halt::Transport => "no end of class 0 sends this here",
+            Halt::TransportOfClass2 => "no end of class 2 sends this here",
             Halt::TooLong => "the script would be too long",
             Halt::OutOfMemory => "out of memory",
         }
+    }
+
+    /// Whether no other script of the same capture would go further.
+    pub fn is_final(self) -> bool {
+        matches!(self, Halt::TooLong | Halt::OutOfMemory)
     }
 }
 

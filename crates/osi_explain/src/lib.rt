@@ -1,40 +1,47 @@
-//! What both sides of a capture did, as far as a session does it: for each side a run of a session that sends what this
-//! side sent, unit by unit, and the calls of a user and the lines of a script that tell such a run.
+//! What both sides of a capture did, as far as a session does it: for each side of each connection a run of a session that sends
+//! what this side sent, unit by unit, and the calls of a user and the lines of a script that tell such a run.
 //!
-//! [`Capture`] has both directions, each cut into TSDUs ([`Stream`]). [`run_of`] searches the sessions that send the
-//! TSDUs of one direction, each of which may have taken those of the other direction that had passed before. A [`Run`]
-//! says of each unit after how many of these its session sent it, and whether it did so by itself. [`request_of`] is the
-//! call that sends a message, and [`push_line`] writes the line of a script that makes this call.
+//! A [`Capture`] reads packets and judges their units by `osi_rules`. It has a [`Conversation`] for each connection, of either class.
+//! Each side of it (a [`Stream`]) tells its TSDUs to a `Side` of `osi_judge`, and keeps the sessions that this keeps after each unit.
+//! The run is read off from these backwards. It says of each unit after how many TSDUs of the other side its session sent it, and
+//! whether it did so by itself ([`Said`]). [`request_of`] is the call that sends a message, and [`push_line`] writes the line of a
+//! script that makes this call.
 //!
 //! ```text
 //! let mut capture = Capture::new(alloc);
-//! capture.left.pass(alloc, octets, 0)?;     // and so on, piece by piece
-//! let left = run_of(alloc, &capture.left, &capture.right, Standing::calling())?;
-//! left.said                                 // each unit, and how the session stands after it
-//! left.limit                                // the TSDU that no session sends, if there is one
+//! capture.pass(Side::Left, octets, 0)?;     // and so on, piece by piece
+//! capture.trace()?;
+//! let conversation = capture.conversations.get(0)?;
+//! conversation.left.said                    // each unit, and the state of the session after it
+//! conversation.left.limit                   // the TSDU that no session sends, if there is one
 //! ```
 //!
-//! The contracts say what a line spells, and say nothing of a run: whoever tells one (`osi_witness`) plays the script
-//! before it is given to anybody, so nobody has to trust the search.
+//! So there is a run up to the TSDU with which the judge says that the side broke the protocol or left the profile, or that too many
+//! sessions explain it, and for all TSDUs otherwise.
 //!
-//! What it leaves to others: the text of a capture (`osi_dispute`), how a session goes on (`osi_session`), and playing
-//! (`osi_witness`).
+//! The contracts say what a line spells, and say nothing of a run: whoever tells one (`osi_witness`) plays the script before it is
+//! given to anybody.
+//!
+//! What it leaves to others: the text of a capture (`osi_dispute`), the rules of transport (`osi_rules`), which sessions explain a
+//! side (`osi_judge`), and playing (`osi_witness`).
 #![tactic(auto)]
 
 mod calls;
 mod captures;
-mod explaining;
+mod conversations;
 mod halts;
 mod lines;
+mod places;
 mod streams;
+mod trails;
 mod units;
-mod walks;
 
 pub use calls::{Asking, Offer, asked_by, request_of, selected_by};
-pub use captures::{Capture, other};
-pub use explaining::{Limit, Run, Said, run_of};
+pub use captures::Capture;
+pub use conversations::{Conversation, Opening};
 pub use halts::Halt;
 pub use lines::{push_comment, push_line};
-pub use streams::{Opening, Place, Stream, Tsdu};
+pub use places::{Place, Stop, earlier, is_before, other};
+pub use streams::{Said, Stream, Tsdu};
+pub use trails::hears;
 pub use units::{acting_unit, has_no_effect};
-pub use walks::hears;

@@ -1,23 +1,13 @@
-//! One direction of a capture, cut into packets and TSDUs.
+//! One side of a connection: its TSDUs as they passed, and the sessions that the judge kept after each of their units.
 
 use crate::halts::Halt;
-use osi_class::LONGEST_TSDU;
+use crate::places::{Place, Stop};
+use crate::units::acting_unit;
+use osi_judge::{Finding, Member, Side as Judged};
 use osi_script::Side;
-use osi_tpdu::{ConnectFields, SizeCode, Tpdu, read_units};
-use osi_tpkt::{Packet, Unit};
+use osi_session::Standing;
+use osi_spdu::Spdu;
 use std::alloc::{AllocError, Global};
-use std::mem;
-
-/// Where octets of a side stand in the capture. Pieces are counted over both sides.
-#[derive(Clone, Copy)]
-pub struct Place {
-    /// The piece in which the first of them passed.
-    pub first: usize,
-    /// The piece in which the last of them passed.
-    pub last: usize,
-    /// The offset, in the direction of the side, of the packet in which they end.
-    pub offset: usize,
-}
 
 /// A TSDU of a side.
 #[derive(Clone, Copy)]
@@ -27,265 +17,252 @@ pub struct Tsdu {
     pub place: Place,
 }
 
-/// The first packet of a side.
-#[derive(Clone, Copy)]
-pub struct Opening {
-    /// It is a DR, which refuses the connection.
-    pub is_refusal: bool,
-    /// The class that a CR prefers or a CC selects.
-    pub class: u8,
-    /// The credit that it gives.
-    pub credit: u8,
-    /// The TPDU size that it names.
-    pub size: Option<SizeCode>,
-    pub place: Place,
+/// The sessions that the judge keeps after a unit.
+#[derive(Drop)]
+pub(crate) struct Kept {
+    /// The number of its TSDU, from 0 on.
+    pub(crate) tsdu: usize,
+    /// Its place among the units of this TSDU as they act.
+    pub(crate) place: usize,
+    pub(crate) members: Vec<Member>,
 }
 
-/// One direction of a capture.
+/// A unit that a side sent, and how the session of a run came to send it.
+#[derive(Clone, Copy)]
+pub struct Said {
+    /// The number of its TSDU, from 0 on.
+    pub tsdu: usize,
+    /// Its place among the units of this TSDU as they act.
+    pub place: usize,
+    /// How many TSDUs of the other side the session took before it.
+    pub taken: usize,
+    /// Whether it is the answer to the last of these, which the session sends by itself.
+    pub is_answer: bool,
+    /// The state of the session after it.
+    pub standing: Standing,
+}
+
+/// One side of a connection.
 #[derive(Drop)]
 pub struct Stream {
-    side: Side,
-    /// The octets of a packet that is not whole.
-    held: Vec<u8>,
-    /// The piece in which the first of them passed, and its offset.
-    since: usize,
-    offset: usize,
+    name: Side,
+    side: Judged,
+    /// The session that has just begun.
+    begin: Vec<Member>,
     /// The octets of all TSDUs, one after the other.
     octets: Vec<u8>,
     /// Where the unfinished TSDU begins in them, and the piece in which its first packet began.
     start: usize,
     begun: Option<usize>,
-    /// Its CR, CC or DR.
-    pub opening: Option<Opening>,
+    /// How many TSDUs of the other side had passed before the last TSDU.
+    before: usize,
     pub tsdus: Vec<Tsdu>,
-    /// The packet at which it is looked at no further, and why.
-    pub stop: Option<Place>,
-    pub halt: Halt,
+    kept: Vec<Kept>,
+    /// The TSDU up to which there is a run, and why there is none with it.
+    pub limit: Option<Stop>,
+    /// A run of a session, unit by unit. It is empty before [`crate::Conversation::trace`].
+    pub said: Vec<Said>,
 }
 
-/// Whether one of these octets has class 0 in its high half.
-fn names_class_0(octets: &[u8]) -> bool {
-    octets.iter().any(|octet| *octet / 16 == 0)
-}
-
-/// Whether a CR prefers class 0 or lists it (X.224 section 6.5).
-fn offers_class_0(fields: &ConnectFields<'_>) -> bool {
-    if fields.class == 0 {
-        return true;
-    }
-    match fields.parameters.alternative_classes {
-        None => false,
-        Some(octets) => names_class_0(octets),
-    }
-}
-
-/// The opening that a CR or a CC is.
-fn opened_by(fields: &ConnectFields<'_>, place: Place) -> Option<Opening> {
-    Some(Opening {
-        is_refusal: false,
-        class: fields.class,
-        credit: fields.credit,
-        size: fields.parameters.size,
-        place,
-    })
-}
-
-/// The opening of a side that its first unit is: a CR of left; a CC of class 0 or a DR of right.
-fn opening_of(side: Side, unit: &Tpdu<'_>, place: Place) -> Option<Opening> {
-    match (side, unit) {
-        (Side::Left, Tpdu::Cr(request)) if offers_class_0(&request.fields) => {
-            opened_by(&request.fields, place)
+/// How many TSDUs of a stream passed before a piece; so many are known to have.
+fn passed_before(heard: &Stream, known: usize, piece: usize) -> usize {
+    let mut passed = known;
+    'tsdus: for tsdu in heard.tsdus.get(known..).unwrap_or_default() {
+        if tsdu.place.last >= piece {
+            return passed;
         }
-        (Side::Right, Tpdu::Cc(confirm)) if confirm.fields.class == 0 => {
-            opened_by(&confirm.fields, place)
-        }
-        (Side::Right, Tpdu::Dr(_)) => Some(Opening {
-            is_refusal: true,
-            class: 0,
-            credit: 0,
-            size: None,
+        passed = passed.saturating_add(1);
+    }
+    passed
+}
+
+/// The sessions that are kept after a unit, of those that go on from these.
+fn members_after(
+    alloc: Global,
+    side: &Judged,
+    from: &[Member],
+    unit: &Spdu<'_>,
+    octets: usize,
+    before: usize,
+) -> Result<Vec<Member>, AllocError> {
+    if before > side.heard() {
+        return Ok(Vec::new(alloc));
+    }
+    side.after_unit(from, unit, octets, before)
+}
+
+/// The sessions that are kept after each unit of a TSDU with this number, before the judge is told of it.
+fn kept_after(
+    alloc: Global,
+    side: &Judged,
+    tsdu: &[u8],
+    number: usize,
+    before: usize,
+) -> Result<Vec<Kept>, AllocError> {
+    let mut kept: Vec<Kept> = Vec::new(alloc);
+    'units: for place in 0..tsdu.len() {
+        let Some(unit) = acting_unit(tsdu, place) else {
+            break;
+        };
+        let from = match kept.last() {
+            Some(last) => last.members.as_slice(),
+            None => side.members(),
+        };
+        let members = members_after(alloc, side, from, &unit, tsdu.len(), before)?;
+        kept.push(Kept {
+            tsdu: number,
             place,
-        }),
-        _ => None,
+            members,
+        })?;
     }
-}
-
-/// The transport unit that a packet has.
-fn first_unit(unit: &[u8]) -> Option<Tpdu<'_>> {
-    match read_units(unit) {
-        Ok(mut units) => units.next(),
-        Err(_) => None,
-    }
+    Ok(kept)
 }
 
 impl Stream {
-    /// Nothing has passed.
-    pub(crate) fn new(alloc: Global, side: Side) -> Stream {
-        Stream {
+    /// Nothing has passed of a side, whose session begins so.
+    pub(crate) fn new(
+        alloc: Global,
+        name: Side,
+        side: Judged,
+        begin: Standing,
+    ) -> Result<Stream, AllocError> {
+        let mut members = Vec::new(alloc);
+        members.push(Member {
+            taken: 0,
+            standing: begin,
+        })?;
+        Ok(Stream {
+            name,
             side,
-            held: Vec::new(alloc),
-            since: 0,
-            offset: 0,
+            begin: members,
             octets: Vec::new(alloc),
             start: 0,
             begun: None,
-            opening: None,
+            before: 0,
             tsdus: Vec::new(alloc),
-            stop: None,
-            halt: Halt::Transport,
-        }
-    }
-
-    /// The offset after its last whole packet.
-    pub fn offset(&self) -> usize {
-        self.offset
-    }
-
-    /// The octets of a TSDU.
-    pub(crate) fn octets_of(&self, tsdu: &Tsdu) -> &[u8] {
-        self.octets.get(tsdu.start..tsdu.end).unwrap_or_default()
+            kept: Vec::new(alloc),
+            limit: None,
+            said: Vec::new(alloc),
+        })
     }
 
     /// The octets of the TSDU with this number, from 0 on.
     pub fn tsdu(&self, number: usize) -> &[u8] {
         match self.tsdus.get(number) {
-            Some(tsdu) => self.octets_of(tsdu),
+            Some(tsdu) => self.octets.get(tsdu.start..tsdu.end).unwrap_or_default(),
             None => &[],
         }
     }
 
-    /// The piece with this number passes.
-    pub fn pass(&mut self, alloc: Global, octets: &[u8], number: usize) -> Result<(), AllocError> {
-        if self.stop.is_some() {
-            return Ok(());
-        }
-        if self.held.is_empty() {
-            self.since = number;
-        }
-        self.held.extend_from_slice(octets)?;
-        self.cut(alloc, number)
+    /// The sessions that are kept after each unit, as far as there is a run.
+    pub(crate) fn kept(&self) -> &[Kept] {
+        &self.kept
     }
 
-    /// Takes the whole packets from the octets that are held.
-    fn cut(&mut self, alloc: Global, number: usize) -> Result<(), AllocError> {
-        let held = mem::replace(&mut self.held, Vec::new(alloc));
-        let mut rest = held.as_slice();
-        'packets: for _ in 0..held.len() {
-            let (packet, used) = match Packet::read(rest) {
-                Ok(Some(found)) => found,
-                Ok(None) => break,
-                Err(_) => {
-                    self.stop_at(self.packet_until(number));
-                    return Ok(());
-                }
-            };
-            self.take(packet.unit(), self.packet_until(number))?;
-            self.since = number;
-            self.offset = self.offset.saturating_add(used);
-            rest = rest.get(used..).unwrap_or_default();
-        }
-        if rest.len() == held.len() {
-            self.held = held;
-            return Ok(());
-        }
-        self.held = Vec::from_slice(alloc, rest)?;
-        Ok(())
-    }
-
-    /// The place of the first packet that is held, which ends in this piece.
-    fn packet_until(&self, number: usize) -> Place {
-        Place {
-            first: self.since,
-            last: number,
-            offset: self.offset,
+    /// Those that are kept before the unit with this number.
+    pub(crate) fn kept_before(&self, number: usize) -> &[Member] {
+        let earlier = self.kept.get(..number).unwrap_or_default();
+        match earlier.last() {
+            Some(kept) => kept.members.as_slice(),
+            None => &self.begin,
         }
     }
 
-    /// Nothing is looked at from this packet on.
-    fn stop_at(&mut self, place: Place) {
-        if self.stop.is_none() {
-            self.stop = Some(place);
+    /// There is no run with the TSDU at this place.
+    pub(crate) fn stop_at(&mut self, place: Place, halt: Halt) {
+        if self.limit.is_none() {
+            self.limit = Some(Stop {
+                side: self.name,
+                place,
+                halt,
+            });
         }
     }
 
-    /// The same, since no call sends what is in this packet.
-    fn stop_without_call(&mut self, place: Place) {
-        self.halt = Halt::NoCall;
-        self.stop_at(place);
-    }
-
-    /// A packet with this transport unit passes.
-    fn take(&mut self, unit: &[u8], place: Place) -> Result<(), AllocError> {
-        if self.stop.is_some() {
-            return Ok(());
-        }
-        let Some(unit) = first_unit(unit) else {
-            self.stop_at(place);
-            return Ok(());
-        };
-        match self.opening {
-            None => {
-                self.open(&unit, place);
-                Ok(())
-            }
-            Some(opening) => self.take_next(opening.is_refusal, &unit, place),
+    /// The run is this one. If none was found there is none at all.
+    pub(crate) fn has_run(&mut self, run: Option<Vec<Said>>) {
+        match run {
+            Some(said) => self.said = said,
+            None => self.stop_at_first(),
         }
     }
 
-    /// The first unit of the side passes.
-    fn open(&mut self, unit: &Tpdu<'_>, place: Place) {
-        // It may answer a CR, but no call sends it.
-        if let Tpdu::Er(_) = unit {
-            self.stop_without_call(place);
-            return;
-        }
-        self.opening = opening_of(self.side, unit, place);
-        if self.opening.is_none() {
-            self.stop_at(place);
+    fn stop_at_first(&mut self) {
+        if let Some(tsdu) = self.tsdus.first() {
+            self.limit = Some(Stop {
+                side: self.name,
+                place: tsdu.place,
+                halt: Halt::NoSession,
+            });
         }
     }
 
-    /// A unit passes after the first one of the side, which was a DR or was not.
-    fn take_next(
+    /// A part of a TSDU passes. Returns whether it was the last.
+    pub(crate) fn add(
         &mut self,
-        is_refused: bool,
-        unit: &Tpdu<'_>,
+        alloc: Global,
+        heard: &Stream,
+        end: bool,
+        user: &[u8],
         place: Place,
-    ) -> Result<(), AllocError> {
-        match unit {
-            Tpdu::Dt0(data) if !is_refused => self.add(data.end, data.user, place),
-            // It may answer a DR, but no call sends it.
-            Tpdu::Dc(_) => {
-                self.stop_without_call(place);
-                Ok(())
-            }
-            _ => {
-                self.stop_at(place);
-                Ok(())
-            }
-        }
-    }
-
-    /// A part of a TSDU passes.
-    fn add(&mut self, end: bool, user: &[u8], place: Place) -> Result<(), AllocError> {
-        let begun = self.octets.len().saturating_sub(self.start);
-        if begun.saturating_add(user.len()) > LONGEST_TSDU {
-            self.stop_at(place);
-            return Ok(());
-        }
+    ) -> Result<bool, AllocError> {
         self.octets.extend_from_slice(user)?;
         let first = self.begun.unwrap_or(place.first);
         if !end {
             self.begun = Some(first);
-            return Ok(());
+            return Ok(false);
         }
+        self.before = passed_before(heard, self.before, first);
+        self.end_tsdu(alloc, Place { first, ..place })?;
+        Ok(true)
+    }
+
+    /// The TSDU ends whose octets have passed.
+    fn end_tsdu(&mut self, alloc: Global, place: Place) -> Result<(), AllocError> {
+        let number = self.tsdus.len();
+        let start = self.start;
         self.tsdus.push(Tsdu {
-            start: self.start,
+            start,
             end: self.octets.len(),
-            place: Place { first, ..place },
+            place,
         })?;
         self.start = self.octets.len();
         self.begun = None;
+        self.judge(alloc, number, place)
+    }
+
+    /// The judge is told of the TSDU with this number. The sessions are kept that it keeps after each of its units.
+    fn judge(&mut self, alloc: Global, number: usize, place: Place) -> Result<(), AllocError> {
+        if self.limit.is_some() {
+            return Ok(());
+        }
+        let before = self.before;
+        let mut kept = kept_after(alloc, &self.side, self.tsdu(number), number, before)?;
+        self.tell(number)?;
+        match self.side.finding() {
+            Finding::Kept => {
+                self.kept.append(&mut kept)?;
+            }
+            Finding::Broke(_) | Finding::Left(_) => self.stop_at(place, Halt::NoSession),
+            Finding::TooMany => self.stop_at(place, Halt::TooMany),
+        }
         Ok(())
+    }
+
+    fn tell(&mut self, number: usize) -> Result<(), AllocError> {
+        let Some(tsdu) = self.tsdus.get(number) else {
+            return Ok(());
+        };
+        let octets = self.octets.get(tsdu.start..tsdu.end).unwrap_or_default();
+        match self.side.tell(octets, self.before) {
+            Ok(()) => Ok(()),
+            Err(_) => Err(AllocError),
+        }
+    }
+
+    /// The last TSDU of the other side has passed.
+    pub(crate) fn hear(&mut self, other: &Stream) -> Result<(), AllocError> {
+        let last = other.tsdus.len().saturating_sub(1);
+        self.side.hear(other.tsdu(last))
     }
 }

@@ -25,11 +25,6 @@ pub fn acting_unit(tsdu: &[u8], place: usize) -> Option<Spdu<'_>> {
     Some(*group.first())
 }
 
-/// Whether a TSDU has a unit in this place.
-pub(crate) fn has_unit(tsdu: &[u8], place: usize) -> bool {
-    acting_unit(tsdu, place).is_some()
-}
-
 /// Whether a message is a token item that names no token, which has no effect.
 pub fn has_no_effect(message: &Message<'_>) -> bool {
     match message {

@@ -47,6 +47,7 @@ mod walks;
 
 pub use directions::Direction;
 pub use findings::Finding;
+pub use members::Member;
 pub use readings::Reading;
 pub use rules::{Break, Rule};
 pub use sides::{Side, TellError};

@@ -11,9 +11,11 @@ use std::alloc::AllocError;
 
 /// A session that explains what the side sent so far, and how many TSDUs of the other side it has taken.
 #[derive(Clone, Copy)]
-pub(crate) struct Member {
-    pub(crate) taken: usize,
-    pub(crate) standing: Standing,
+pub struct Member {
+    /// How many TSDUs of the other side it has taken.
+    pub taken: usize,
+    /// Its state.
+    pub standing: Standing,
 }
 
 /// How many of the last members are searched for one that is there already. Equal ones stand near each

@@ -1,11 +1,14 @@
 //! One side of a connection, judged by what it sent and by what it may have taken.
 
 ghost use Rattle.std.specs.Prelude.{◌≡◌, ◌<◌, ◌≤◌, ◌⊎◌, ◌++◌, ◌∷◌, ◌+◌, [], false, Err, IfOk, OnOk, OnErr, MatchBool, List, ℕ, length};
+ghost use Rattle.osi_message.specs.Reading.{word};
 ghost use Rattle.osi_session.specs.Standing.{seen_called, seen_calling};
+ghost use Rattle.osi_spdu.specs.Units.{said_by};
 ghost use Rattle.osi_judge.specs.Explaining.{Told};
 ghost use Rattle.osi_judge.specs.Breaking.{selection_of};
-ghost use Rattle.osi_judge.specs.Judging.{Watches, Keeps, BrokeBy, LeftBy, IsFound, HasRoom, FoundNext};
+ghost use Rattle.osi_judge.specs.Judging.{Watches, Keeps, BrokeBy, LeftBy, IsFound, HasRoom, FoundNext, AreKept};
 ghost use Rattle.osi_judge.specs.Keeping.{once, room_in};
+ghost use Rattle.osi_judge.specs.Kept.{after_word};
 ghost use Rattle.osi_judge.specs.Onward.{StandsFor};
 ghost use Rattle.osi_judge.specs.Outlines.{outline, outlines};
 ghost use Rattle.osi_judge.specs.Profiles.{selects_outside};
@@ -18,8 +21,9 @@ use crate::outlines::hear;
 use crate::profiles::{leaves, selects_outside};
 use crate::rules::{Break, break_at, selection_at};
 use crate::standings::{Stands, foremost, stands_behind};
-use crate::telling::behind_tsdu;
+use crate::telling::{behind_tsdu, behind_unit};
 use osi_session::Standing;
+use osi_spdu::Spdu;
 use std::alloc::{AllocError, Global};
 use thiserror::Error;
 
@@ -240,6 +244,31 @@ impl Side {
     {
         self.finding = Finding::Left(self.told);
         self.by = selection_at(before, &self.members);
+    }
+
+    /// The sessions that are kept of those that explain all that the side sent, or all that it sent before its break.
+    pub fn members(&self) -> &[Member]
+        ensures value { result.now ≡ (watched self.now).members }
+        ensures kept { (told : List Told) → Keeps (watched self.now) told → AreKept (watched self.now).begin (watched self.now).heard
+            told result.now }
+    {
+        self.members.as_slice()
+    }
+
+    /// The sessions that are kept after a unit of a TSDU of this many octets, of those that go on from these; `before` TSDUs of
+    /// the other side had passed before it.
+    pub fn after_unit(
+        &self,
+        members: &[Member],
+        unit: &Spdu,
+        octets: usize,
+        before: usize,
+    ) -> Result<Vec<Member>, AllocError>
+        requires { before ≤ length (watched self.now).heard }
+        ensures { IfOk result (λ next. next.items
+            ≡ after_word (watched self.now).heard octets before members.now (word (said_by unit.now))) }
+    {
+        behind_unit(self.alloc, &self.heard, unit, octets, before, members)
     }
 
     /// How many TSDUs of the other side have passed.

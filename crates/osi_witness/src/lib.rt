@@ -1,8 +1,8 @@
 //! The witness of a judgement: a script that two ends play, and that tells what both sides of a capture did.
 //!
-//! Whoever doubts a judgement of `osi_judge` that a side kept the protocol needs to trust no judge. [`witness_of`] finds a run
-//! of a session for each side that sends what this side sent, and writes both as one script of `osi pair`: the calls of
-//! both users, and how many octets are carried between them. Play it, and compare what the two ends send with the
+//! Whoever doubts a judgement of `osi_judge` that a side kept the protocol needs to trust no judge. For each side of each connection
+//! [`witness_of`] takes a run of a session that sends what this side sent, and writes all of them as one script of `osi pair`: the
+//! calls of both users, and how many octets are carried between them. Play it, and compare what the two ends send with the
 //! capture.
 //!
 //! ```text
@@ -13,6 +13,8 @@
 //! // ..
 //! ```
 //!
+//! The connections are told one after the other, each to its end, in the order of their CRs: what one does doesn't depend on another.
+//!
 //! The script is played as it is written, so that it knows how many octets a line has to carry, and once more when it is
 //! done. It stops before the first TSDU that no session sends, or that no call of a script sends; its last line is a
 //! comment then, which names the packet.
@@ -22,6 +24,7 @@
 #![tactic(auto)]
 
 mod captures;
+mod ends;
 mod players;
 mod telling;
 mod witnesses;

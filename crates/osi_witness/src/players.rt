@@ -1,11 +1,12 @@
 //! A script that is played as it is written.
 
-use osi_carrier::EndReason;
+use crate::ends::Ends;
+use osi_carrier::{EndReason, Ref};
 use osi_explain::{Halt, other, push_line};
 use osi_pair::{Event, Pair, PairError};
-use osi_script::{Classes, Command, Side};
+use osi_script::{Command, Side};
 use osi_session::Request;
-use osi_tpdu::{SizeCode, Tpdu, Window, read_units};
+use osi_tpdu::{Tpdu, read_units};
 use osi_tpkt::{Packet, Unit};
 use osi_transcript::asking::{event_of, side_of};
 use std::alloc::{AllocError, Global};
@@ -17,8 +18,8 @@ pub(crate) const LONGEST: usize = 16_777_216;
 /// Room for the last comment.
 const ROOM: usize = 256;
 
-/// The reference of the connection, on both sides.
-const REFERENCE: u16 = 1;
+/// How often octets are carried both ways until all that a call sends has left.
+const MOST_TURNS: usize = 65_536;
 
 /// The most octets that one line carries.
 const MOST: usize = 4_294_967_295;
@@ -28,7 +29,7 @@ const MOST: usize = 4_294_967_295;
 struct Wire {
     /// How many octets of it were carried.
     carried: usize,
-    /// Where the TSDUs that it has sent end.
+    /// Where the TSDUs end that it has sent on the current connection.
     ends: Vec<usize>,
 }
 
@@ -39,6 +40,10 @@ pub(crate) struct Player {
     script: Vec<u8>,
     left: Wire,
     right: Wire,
+    /// The reference of the current connection, on both sides.
+    reference: u16,
+    /// The right end refuses a CR.
+    refuses: bool,
 }
 
 /// Its parts are dropped here, so the proof of whoever owns a player is short.
@@ -50,7 +55,17 @@ impl Drop for Player {
             script: _script,
             left: _left,
             right: _right,
+            reference: _,
+            refuses: _,
         } = self;
+    }
+}
+
+/// The transport units of a packet that is the first of these octets, and how many octets it has.
+fn first_packet(octets: &[u8]) -> Option<(&[u8], usize)> {
+    match Packet::read(octets) {
+        Ok(Some((packet, used))) => Some((packet.unit(), used)),
+        _ => None,
     }
 }
 
@@ -59,26 +74,95 @@ fn ends_in(alloc: Global, octets: &[u8]) -> Result<Vec<usize>, AllocError> {
     let mut ends = Vec::new(alloc);
     let mut rest = octets;
     'packets: for _ in 0..octets.len() {
-        let Ok(Some((packet, used))) = Packet::read(rest) else {
+        let Some((unit, used)) = first_packet(rest) else {
             break;
         };
         rest = rest.get(used..).unwrap_or_default();
-        if ends_tsdu(packet.unit()) {
+        if ends_tsdu(unit) {
             ends.push(octets.len().saturating_sub(rest.len()))?;
         }
     }
     Ok(ends)
 }
 
-/// Whether a packet with this transport unit ends a TSDU.
-fn ends_tsdu(unit: &[u8]) -> bool {
-    match read_units(unit) {
-        Ok(mut units) => match units.next() {
-            Some(Tpdu::Dt0(data)) => data.end,
-            _ => false,
-        },
-        Err(_) => false,
+/// Whether a packet with these transport units ends a TSDU.
+fn ends_tsdu(packet: &[u8]) -> bool {
+    let Ok(units) = read_units(packet) else {
+        return false;
+    };
+    'units: for unit in units {
+        match unit {
+            Tpdu::Dt0(data) if data.end => return true,
+            Tpdu::Dt2(data) if data.end => return true,
+            _ => (),
+        }
     }
+    false
+}
+
+/// Whether a transport unit says something on the connection with this reference: all but an AK, a DR and a DC.
+fn speaks(unit: &Tpdu<'_>, reference: u16) -> bool {
+    match unit {
+        Tpdu::Dt2(data) => data.destination == reference,
+        Tpdu::Ak(_) | Tpdu::Dr(_) | Tpdu::Dc(_) => false,
+        _ => true,
+    }
+}
+
+/// Whether a packet with these transport units has only acknowledgements, and what closes a connection.
+fn is_quiet(packet: &[u8]) -> bool {
+    let Ok(units) = read_units(packet) else {
+        return false;
+    };
+    'units: for unit in units {
+        match unit {
+            Tpdu::Ak(_) | Tpdu::Dr(_) | Tpdu::Dc(_) => (),
+            _ => return false,
+        }
+    }
+    true
+}
+
+/// Whether a packet with these transport units says something on the connection with this reference.
+fn packet_speaks(packet: &[u8], reference: u16) -> bool {
+    let Ok(units) = read_units(packet) else {
+        return true;
+    };
+    'units: for unit in units {
+        if speaks(&unit, reference) {
+            return true;
+        }
+    }
+    false
+}
+
+/// Whether one of the packets of these octets says something on the connection with this reference.
+fn any_speaks(octets: &[u8], reference: u16) -> bool {
+    let mut rest = octets;
+    'packets: for _ in 0..octets.len() {
+        let Some((packet, used)) = first_packet(rest) else {
+            return false;
+        };
+        if packet_speaks(packet, reference) {
+            return true;
+        }
+        rest = rest.get(used..).unwrap_or_default();
+    }
+    false
+}
+
+/// How many of these octets come before the first packet that is not quiet.
+fn quiet_octets(octets: &[u8]) -> usize {
+    let mut rest = octets;
+    'packets: for _ in 0..octets.len() {
+        match first_packet(rest) {
+            Some((packet, used)) if is_quiet(packet) => {
+                rest = rest.get(used..).unwrap_or_default();
+            }
+            _ => break,
+        }
+    }
+    octets.len().saturating_sub(rest.len())
 }
 
 impl Wire {
@@ -98,21 +182,22 @@ impl Wire {
 
 impl Player {
     /// Two ends, and the line that declares them.
-    pub(crate) fn new(
-        alloc: Global,
-        caller: Classes,
-        called: Classes,
-        size: SizeCode,
-        window: Window,
-    ) -> Result<Player, AllocError> {
+    pub(crate) fn new(alloc: Global, ends: &Ends) -> Result<Player, AllocError> {
         let mut script = Vec::new(alloc);
-        let ends = Command::Ends {
+        let Ends {
+            caller,
+            called,
+            size,
+            window,
+            refuses,
+        } = *ends;
+        let line = Command::Ends {
             caller,
             called,
             size,
             window,
         };
-        push_line(alloc, &mut script, &ends)?;
+        push_line(alloc, &mut script, &line)?;
         Ok(Player {
             alloc,
             pair: Pair::new(
@@ -123,7 +208,14 @@ impl Player {
             script,
             left: Wire::new(alloc),
             right: Wire::new(alloc),
+            reference: 0,
+            refuses,
         })
+    }
+
+    /// Whether the right end refuses a CR.
+    pub(crate) fn refuses(&self) -> bool {
+        self.refuses
     }
 
     fn wire(&self, side: Side) -> &Wire {
@@ -140,10 +232,26 @@ impl Player {
         }
     }
 
+    fn outgoing(&self, side: Side) -> &[u8] {
+        self.pair.stack(side_of(side)).outgoing()
+    }
+
     /// How many octets a side has sent.
     fn sent(&self, side: Side) -> usize {
-        let waiting = self.pair.stack(side_of(side)).outgoing().len();
+        let waiting = self.outgoing(side).len();
         self.wire(side).carried.saturating_add(waiting)
+    }
+
+    /// Whether a side has sent something on the current connection after so many octets.
+    fn has_spoken(&self, side: Side, sent: usize) -> bool {
+        let from = sent.saturating_sub(self.wire(side).carried);
+        let more = self.outgoing(side).get(from..).unwrap_or_default();
+        any_speaks(more, self.reference)
+    }
+
+    /// How many TSDUs of a side wait for credit on the current connection.
+    fn unsent(&self, side: Side) -> usize {
+        self.pair.stack(side_of(side)).unsent(Ref(self.reference))
     }
 
     /// How many TSDUs a side has sent.
@@ -195,7 +303,7 @@ impl Player {
         let length = self.script.len();
         let sent = self.sent(side);
         let played = self.play(command);
-        if played.is_ok() && self.sent(side) > sent {
+        if played.is_ok() && (self.sent(side) > sent || self.unsent(side) > 0) {
             return Ok(());
         }
         self.script.truncate(length);
@@ -203,25 +311,69 @@ impl Player {
         Err(Halt::NoCall)
     }
 
-    /// The left end asks for a connection.
+    /// The left end asks for another connection.
     pub(crate) fn connect(&mut self, command: &Command<'_>) -> Result<(), Halt> {
+        self.reference = self.reference.saturating_add(1);
+        self.left.ends.clear();
+        self.right.ends.clear();
         self.ask(Side::Left, command)
     }
 
-    /// The user of a side makes a call.
+    /// The user of a side makes a call. All that it sends leaves.
     pub(crate) fn call(&mut self, side: Side, request: Request<'_>) -> Result<(), Halt> {
+        self.begin_call(side, request)?;
+        self.drain(side)
+    }
+
+    fn begin_call(&mut self, side: Side, request: Request<'_>) -> Result<(), Halt> {
+        let reference = self.reference;
         self.ask(
             side,
             &Command::Call {
                 side,
-                reference: REFERENCE,
+                reference,
                 request,
             },
         )
     }
 
-    /// The user of a side sends data that leaves in so many TSDUs. If it leaves in another number of them, all but the last
-    /// are counted as sent with it.
+    /// Octets are carried both ways until a side has sent all that waits for credit.
+    fn drain(&mut self, side: Side) -> Result<(), Halt> {
+        'turns: for _ in 0..MOST_TURNS {
+            if self.unsent(side) == 0 {
+                return Ok(());
+            }
+            self.carry_quiet(other(side))?;
+            if self.unsent(side) == 0 {
+                return Ok(());
+            }
+            if self.outgoing(side).is_empty() && self.outgoing(other(side)).is_empty() {
+                break;
+            }
+            self.carry_to(side, self.sent(side))?;
+            self.carry_to(other(side), self.sent(other(side)))?;
+        }
+        Err(Halt::NoCall)
+    }
+
+    /// Carries what a side has sent before its next CR, CC or DT.
+    fn carry_quiet(&mut self, side: Side) -> Result<(), Halt> {
+        let quiet = quiet_octets(self.outgoing(side));
+        let end = self.wire(side).carried.saturating_add(quiet);
+        self.carry_to(side, end)
+    }
+
+    /// Carries what acknowledges the data of both sides and closes the connection, if no data comes before it.
+    pub(crate) fn carry_rest(&mut self) -> Result<(), Halt> {
+        'turns: for _ in 0..2 {
+            self.carry_quiet(Side::Left)?;
+            self.carry_quiet(Side::Right)?;
+        }
+        Ok(())
+    }
+
+    /// The user of a side sends data that leaves in so many TSDUs. If it leaves in another number of them, or waits for
+    /// credit, all but the last are counted as sent with it.
     pub(crate) fn send_parts(
         &mut self,
         side: Side,
@@ -229,11 +381,12 @@ impl Player {
         parts: usize,
     ) -> Result<(), Halt> {
         let before = self.sent(side);
-        let waiting = self.pair.stack(side_of(side)).outgoing().len();
-        self.call(side, Request::Data { user_data })?;
-        let outgoing = self.pair.stack(side_of(side)).outgoing();
-        let ends = ends_in(self.alloc, outgoing.get(waiting..).unwrap_or_default())?;
+        let waiting = self.outgoing(side).len();
+        self.begin_call(side, Request::Data { user_data })?;
+        let more = self.outgoing(side).get(waiting..).unwrap_or_default();
+        let ends = ends_in(self.alloc, more)?;
         let is_same = ends.len() == parts;
+        self.drain(side)?;
         'parts: for part in 0..parts.saturating_sub(1) {
             let end = if is_same {
                 ends.get(part).copied().unwrap_or(0)
@@ -265,7 +418,17 @@ impl Player {
     fn carry(&mut self, side: Side, end: usize, answers: bool) -> Result<(), Halt> {
         let sent = self.sent(other(side));
         self.carry_to(side, end)?;
-        if (self.sent(other(side)) > sent) != answers {
+        if self.has_spoken(other(side), sent) != answers {
+            return Err(Halt::NoCall);
+        }
+        Ok(())
+    }
+
+    /// Carries all that a side has sent. The other side sends something then.
+    pub(crate) fn carry_opening(&mut self, side: Side) -> Result<(), Halt> {
+        let sent = self.sent(other(side));
+        self.carry_to(side, self.sent(side))?;
+        if self.sent(other(side)) == sent {
             return Err(Halt::NoCall);
         }
         Ok(())

@@ -1,60 +1,29 @@
-//! Both runs as one script.
+//! The runs of both sides of a connection as a part of a script.
 
 use crate::players::Player;
 use bitflags::Flags;
 use osi_explain::{
-    Asking, Capture, Halt, Limit, Offer, Place, Run, Said, acting_unit, asked_by, has_no_effect,
-    hears, other, request_of, selected_by,
+    Asking, Conversation, Halt, Offer, Place, Said, Stop, Stream, acting_unit, asked_by,
+    has_no_effect, hears, is_before, other, request_of, selected_by,
 };
 use osi_message::{Message, Place as Part};
-use osi_script::{Classes, Command, Side};
+use osi_script::{Command, Side};
+use osi_session::Standing;
 use osi_spdu::{Requirements, Serial, Spdu, TokenSetting, TsduSizes, Wish};
-use osi_tpdu::{SizeCode, Window};
 use std::alloc::{AllocError, Global};
 
-/// Where a script stops, and why.
-#[derive(Clone, Copy)]
-pub(crate) struct Stop {
-    pub(crate) side: Side,
-    pub(crate) offset: usize,
-    pub(crate) halt: Halt,
-}
-
-/// Both runs, how far they were told, and the script that tells them.
+/// Both runs of a connection, how far they were told, and the player that they are told to.
 #[derive(Drop)]
-pub(crate) struct Telling<'c> {
+pub(crate) struct Telling<'c, 'p> {
     alloc: Global,
-    capture: &'c Capture,
-    left: &'c Run,
-    right: &'c Run,
+    conversation: &'c Conversation,
+    /// Nothing is told from here on.
+    bound: Option<Stop>,
     /// How many units of each side were told.
     told_left: usize,
     told_right: usize,
     offer: Offer,
-    player: Player,
-}
-
-/// The size of a CR or CC without one: 128 octets.
-fn least_size() -> SizeCode {
-    match SizeCode::new(7) {
-        Some(size) => size,
-        None => unreachable!(),
-    }
-}
-
-/// The window of the two ends, which matters if class 2 is offered too.
-fn window_of(credit: u8) -> Window {
-    match Window::new(credit) {
-        Some(window) => window,
-        None => usual_window(),
-    }
-}
-
-fn usual_window() -> Window {
-    match Window::new(4) {
-        Some(window) => window,
-        None => unreachable!(),
-    }
+    player: &'p mut Player,
 }
 
 /// A connect whose CN is not known.
@@ -73,9 +42,16 @@ fn any_asking() -> Asking<'static> {
     }
 }
 
-/// The unit of a run with this number.
-fn unit_of<'c>(capture: &'c Capture, side: Side, said: &Said) -> Option<Spdu<'c>> {
-    acting_unit(capture.stream(side).tsdu(said.tsdu), said.place)
+/// A unit of a run.
+fn unit_of<'c>(stream: &'c Stream, said: &Said) -> Option<Spdu<'c>> {
+    acting_unit(stream.tsdu(said.tsdu), said.place)
+}
+
+/// The message of a side that comes first.
+fn first_message(stream: &Stream) -> Option<Message<'_>> {
+    let said = stream.said.first()?;
+    let unit = unit_of(stream, said)?;
+    Some(Message::of(&unit))
 }
 
 /// Data in parts that was joined.
@@ -88,53 +64,46 @@ struct Joined {
 }
 
 fn stop_at(side: Side, place: Place, halt: Halt) -> Stop {
-    Stop {
-        side,
-        offset: place.offset,
-        halt,
+    Stop { side, place, halt }
+}
+
+/// The session of a side that has just begun.
+fn begin_of(side: Side) -> Standing {
+    match side {
+        Side::Left => Standing::calling(),
+        Side::Right => Standing::called(),
     }
 }
 
-impl<'c> Telling<'c> {
-    /// Nothing is told yet but the two ends.
+/// A stop after all packets of a side.
+fn stop_behind(side: Side, halt: Halt) -> Stop {
+    let place = Place {
+        first: usize::MAX,
+        last: usize::MAX,
+        offset: usize::MAX,
+    };
+    Stop { side, place, halt }
+}
+
+impl<'c, 'p> Telling<'c, 'p> {
+    /// Nothing of a connection is told yet.
     pub(crate) fn new(
         alloc: Global,
-        capture: &'c Capture,
-        left: &'c Run,
-        right: &'c Run,
-        caller: Classes,
-        credit: u8,
-    ) -> Result<Telling<'c>, AllocError> {
-        let answer = capture.right.opening;
-        let is_refused = match answer {
-            Some(answer) => answer.is_refusal,
-            None => false,
-        };
-        let called = match caller {
-            Classes::Zero if is_refused => Classes::Two,
-            _ => Classes::Zero,
-        };
-        let size = capture.size().unwrap_or(least_size());
-        let window = window_of(credit);
-        Ok(Telling {
+        conversation: &'c Conversation,
+        bound: Option<Stop>,
+        player: &'p mut Player,
+    ) -> Telling<'c, 'p> {
+        Telling {
             alloc,
-            capture,
-            left,
-            right,
+            conversation,
+            bound,
             told_left: 0,
             told_right: 0,
             offer: Offer {
                 requirements: 0,
                 serial: None,
             },
-            player: Player::new(alloc, caller, called, size, window)?,
-        })
-    }
-
-    fn run(&self, side: Side) -> &Run {
-        match side {
-            Side::Left => self.left,
-            Side::Right => self.right,
+            player,
         }
     }
 
@@ -145,21 +114,14 @@ impl<'c> Telling<'c> {
         }
     }
 
-    /// The message of a side that comes first.
-    fn first_message(&self, side: Side) -> Option<Message<'c>> {
-        let said = self.run(side).said.first()?;
-        let unit = unit_of(self.capture, side, said)?;
-        Some(Message::of(&unit))
-    }
-
-    /// The functional units that the AC selects, if there is one.
+    /// The functional units that the AC of the connection names.
     fn selected(&self) -> Option<u16> {
-        selected_by(&self.first_message(Side::Right)?)
+        selected_by(&first_message(&self.conversation.right)?)
     }
 
     /// The connect of this connection.
     fn asking(&mut self) -> Option<Asking<'c>> {
-        let Some(message) = self.first_message(Side::Left) else {
+        let Some(message) = first_message(&self.conversation.left) else {
             return Some(any_asking());
         };
         let (asking, offer) = asked_by(&message, self.selected())?;
@@ -181,89 +143,87 @@ impl<'c> Telling<'c> {
         })
     }
 
+    /// The right end answers the CR.
+    fn answer(&mut self, is_refusal: bool) -> Result<(), Halt> {
+        if is_refusal && !self.player.refuses() {
+            return Err(Halt::NoCall);
+        }
+        self.player.carry_opening(Side::Left)
+    }
+
     /// The CR, and its answer, if there is one.
     fn open(&mut self) -> Result<(), Stop> {
-        let Some(request) = self.capture.left.opening else {
-            return Ok(());
-        };
-        let place = match self.capture.left.tsdus.first() {
+        let request = self.conversation.request;
+        let place = match self.conversation.left.tsdus.first() {
             Some(tsdu) => tsdu.place,
             None => request.place,
         };
         if let Err(halt) = self.connect() {
             return Err(stop_at(Side::Left, place, halt));
         }
-        let Some(answer) = self.capture.right.opening else {
+        let Some(answer) = self.conversation.answer else {
             return Ok(());
         };
-        if answer.place.first <= request.place.last {
-            return Err(stop_at(Side::Right, answer.place, Halt::Transport));
+        if !self.is_told(Side::Right, answer.place) {
+            return Ok(());
         }
-        match self.player.carry_all(Side::Left, true) {
+        match self.answer(answer.is_refusal) {
             Ok(()) => Ok(()),
             Err(halt) => Err(stop_at(Side::Right, answer.place, halt)),
         }
     }
 
     /// The left end takes the CC, and sends the CN.
-    fn say_connect(&mut self, place: Place) -> Result<(), Halt> {
-        match self.capture.right.opening {
-            Some(answer) if !answer.is_refusal && answer.place.last < place.first => {
-                self.player.carry_all(Side::Right, true)
-            }
+    fn say_connect(&mut self) -> Result<(), Halt> {
+        match self.conversation.answer {
+            Some(answer) if !answer.is_refusal => self.player.carry_all(Side::Right, true),
             _ => Err(Halt::Transport),
         }
     }
 
-    /// The place of the next unit of a side, or of what it is told no further for.
-    fn next_place(&self, side: Side) -> Option<Place> {
-        let run = self.run(side);
-        let stream = self.capture.stream(side);
-        match run.said.get(self.told(side)) {
-            Some(said) => Some(stream.tsdus.get(said.tsdu)?.place),
-            None => match run.limit {
-                Some(Limit::NoSession(place)) | Some(Limit::TooMany(place)) => Some(place),
-                None => stream.stop,
-            },
+    /// Whether what a side sent at a place is told.
+    fn is_told(&self, side: Side, place: Place) -> bool {
+        match self.bound {
+            Some(stop) => is_before(side, place, &stop),
+            None => true,
         }
     }
 
-    /// Why a side is told no further, all whose units were told.
-    fn limit_of(&self, side: Side) -> Halt {
-        match self.run(side).limit {
-            Some(Limit::NoSession(_)) => Halt::NoSession,
-            Some(Limit::TooMany(_)) => Halt::TooMany,
-            None => self.capture.stream(side).halt,
+    /// The next unit of a side that is told, and its place.
+    fn next_of(&self, side: Side) -> Option<(Said, Place)> {
+        let stream = self.conversation.stream(side);
+        let said = stream.said.get(self.told(side))?;
+        let place = stream.tsdus.get(said.tsdu)?.place;
+        if !self.is_told(side, place) {
+            return None;
         }
+        Some((*said, place))
     }
 
-    /// The side whose next unit passed first, and where.
-    fn next(&self) -> Option<(Side, Place)> {
-        match (self.next_place(Side::Left), self.next_place(Side::Right)) {
+    /// The side whose next unit passed first, the unit, and its place.
+    fn next(&self) -> Option<(Side, Said, Place)> {
+        match (self.next_of(Side::Left), self.next_of(Side::Right)) {
             (None, None) => None,
-            (Some(left), None) => Some((Side::Left, left)),
-            (None, Some(right)) => Some((Side::Right, right)),
-            (Some(left), Some(right)) => {
-                if left.first <= right.first {
-                    Some((Side::Left, left))
+            (Some((said, place)), None) => Some((Side::Left, said, place)),
+            (None, Some((said, place))) => Some((Side::Right, said, place)),
+            (Some((left, of_left)), Some((right, of_right))) => {
+                if of_left.first <= of_right.first {
+                    Some((Side::Left, left, of_left))
                 } else {
-                    Some((Side::Right, right))
+                    Some((Side::Right, right, of_right))
                 }
             }
         }
     }
 
-    /// The data in parts that comes next from a side; none if something else stands between them, or their end is missing.
+    /// The data in parts that comes next from a side; none if something else comes between them, or their end is missing.
     fn joined(&self, side: Side) -> Result<Option<Joined>, AllocError> {
         let mut octets = Vec::new(self.alloc);
         let mut tsdus = 0usize;
-        let said = self
-            .run(side)
-            .said
-            .get(self.told(side)..)
-            .unwrap_or_default();
+        let stream = self.conversation.stream(side);
+        let said = stream.said.get(self.told(side)..).unwrap_or_default();
         'units: for (index, said) in said.iter().enumerate() {
-            let Some(unit) = unit_of(self.capture, side, said) else {
+            let Some(unit) = unit_of(stream, said) else {
                 return Ok(None);
             };
             match Part::of(&unit) {
@@ -296,12 +256,12 @@ impl<'c> Telling<'c> {
     }
 
     /// A side sends a message.
-    fn say_message(&mut self, side: Side, message: &Message<'_>, place: Place) -> Result<(), Halt> {
+    fn say_message(&mut self, side: Side, message: &Message<'_>) -> Result<(), Halt> {
         if has_no_effect(message) {
             return Ok(());
         }
         if let Message::Connect { .. } = message {
-            return self.say_connect(place);
+            return self.say_connect();
         }
         match request_of(message, self.offer) {
             Some(request) => self.player.call(side, request),
@@ -310,20 +270,20 @@ impl<'c> Telling<'c> {
     }
 
     /// A side sends its next unit, and the parts of the same data after it. Says how many units are told then.
-    fn say(&mut self, side: Side, said: &Said, place: Place) -> Result<usize, Halt> {
+    fn say(&mut self, side: Side, said: &Said) -> Result<usize, Halt> {
         self.player
             .carry_tsdus(other(side), said.taken, said.is_answer)?;
         if said.is_answer {
             return Ok(1);
         }
-        let Some(unit) = unit_of(self.capture, side, said) else {
+        let Some(unit) = unit_of(self.conversation.stream(side), said) else {
             return Err(Halt::NoCall);
         };
         match Part::of(&unit) {
             Some(Part::First) => self.say_parts(side),
             Some(_) => Err(Halt::NoCall),
             None => {
-                self.say_message(side, &Message::of(&unit), place)?;
+                self.say_message(side, &Message::of(&unit))?;
                 Ok(1)
             }
         }
@@ -336,7 +296,7 @@ impl<'c> Telling<'c> {
             Side::Left => self.told_left = told,
             Side::Right => self.told_right = told,
         }
-        let whole = match self.run(side).said.get(told) {
+        let whole = match self.conversation.stream(side).said.get(told) {
             Some(next) => next.tsdu,
             None => tsdu.saturating_add(1),
         };
@@ -346,13 +306,9 @@ impl<'c> Telling<'c> {
         Ok(())
     }
 
-    /// Tells the next unit of a side.
-    fn tell_next(&mut self, side: Side, place: Place) -> Result<(), Halt> {
-        let Some(said) = self.run(side).said.get(self.told(side)) else {
-            return Err(self.limit_of(side));
-        };
-        let said = *said;
-        let units = self.say(side, &said, place)?;
+    /// Tells a unit of a side.
+    fn tell_next(&mut self, side: Side, said: &Said) -> Result<(), Halt> {
+        let units = self.say(side, said)?;
         self.advance(side, said.tsdu, units)?;
         Ok(())
     }
@@ -360,30 +316,35 @@ impl<'c> Telling<'c> {
     /// Tells both runs in the order in which their units passed.
     fn tell_all(&mut self) -> Result<(), Stop> {
         self.open()?;
-        let units = self.left.said.len().saturating_add(self.right.said.len());
-        'units: for _ in 0..=units {
-            let Some((side, place)) = self.next() else {
+        let (left, right) = (&self.conversation.left, &self.conversation.right);
+        let units = left.said.len().saturating_add(right.said.len());
+        'units: for _ in 0..units {
+            let Some((side, said, place)) = self.next() else {
                 return Ok(());
             };
-            if let Err(halt) = self.tell_next(side, place) {
+            if let Err(halt) = self.tell_next(side, &said) {
                 return Err(stop_at(side, place, halt));
             }
         }
         Ok(())
     }
 
+    /// How many TSDUs a side has taken with its last unit that was told, and its state.
+    fn standing(&self, side: Side) -> (usize, Standing) {
+        let said = &self.conversation.stream(side).said;
+        match said.get(..self.told(side)).unwrap_or_default().last() {
+            Some(said) => (said.taken, said.standing),
+            None => (0, begin_of(side)),
+        }
+    }
+
     /// A side takes what was told of the other side, up to what it would answer.
     fn settle(&mut self, side: Side) -> Result<(), Halt> {
-        let told = self.told(side);
-        let run = self.run(side);
-        let (taken, mut standing) = match run.said.get(..told).unwrap_or_default().last() {
-            Some(said) => (said.taken, said.standing),
-            None => (0, run.begin),
-        };
+        let (taken, mut standing) = self.standing(side);
+        let heard = self.conversation.stream(other(side));
         let mut count = taken;
         'tsdus: for number in taken..self.player.tsdus(other(side)) {
-            let tsdu = self.capture.stream(other(side)).tsdu(number);
-            let Some(next) = hears(self.alloc, &standing, tsdu)? else {
+            let Some(next) = hears(self.alloc, &standing, heard.tsdu(number))? else {
                 break;
             };
             standing = next;
@@ -392,10 +353,11 @@ impl<'c> Telling<'c> {
         self.player.carry_tsdus(other(side), count, false)
     }
 
-    /// A connection that was refused is over when left knows it.
-    fn refuse(&mut self) -> Result<(), Halt> {
-        match self.capture.right.opening {
+    /// A connection that was refused is over when left knows it. What acknowledges data and closes the connection is carried.
+    fn finish(&mut self) -> Result<(), Halt> {
+        match self.conversation.answer {
             Some(answer) if answer.is_refusal => self.player.carry_all(Side::Right, false),
+            Some(answer) if answer.class == 2 => self.player.carry_rest(),
             _ => Ok(()),
         }
     }
@@ -403,29 +365,15 @@ impl<'c> Telling<'c> {
     /// Both sides take what was told of each other.
     fn close(&mut self) -> Result<(), Stop> {
         if let Err(halt) = self.settle(Side::Left) {
-            return Err(self.stop_behind(Side::Left, halt));
+            return Err(stop_behind(Side::Left, halt));
         }
         if let Err(halt) = self.settle(Side::Right) {
-            return Err(self.stop_behind(Side::Right, halt));
+            return Err(stop_behind(Side::Right, halt));
         }
-        match self.refuse() {
+        match self.finish() {
             Ok(()) => Ok(()),
-            Err(halt) => Err(self.stop_behind(Side::Left, halt)),
+            Err(halt) => Err(stop_behind(Side::Left, halt)),
         }
-    }
-
-    /// A stop after all packets of a side.
-    fn stop_behind(&self, side: Side, halt: Halt) -> Stop {
-        Stop {
-            side,
-            offset: self.capture.stream(side).offset(),
-            halt,
-        }
-    }
-
-    /// Hands the script out.
-    pub(crate) fn take_script(&mut self) -> Vec<u8> {
-        self.player.take_script()
     }
 
     /// Tells both runs, and says where the script stops before their end.

@@ -5,12 +5,12 @@ ghost use Rattle.osi_listing.specs.Capture.{IsNoCapture};
 ghost use Rattle.osi_witness.specs.Witnesses.{IsPlayed, Witnesses};
 
 use crate::captures::capture_of;
-use crate::players::LONGEST;
-use crate::telling::{Stop, Telling};
-use osi_explain::{Capture, Halt, Opening, Place, Run, push_comment, run_of};
+use crate::ends::ends_of;
+use crate::players::{LONGEST, Player};
+use crate::telling::Telling;
+use osi_explain::{Capture, Conversation, Halt, Stop, is_before, push_comment};
 use osi_listing::{CaptureFault, octets_of};
-use osi_script::{Classes, Side};
-use osi_session::Standing;
+use osi_script::Side;
 use osi_transcript::transcribe;
 use std::alloc::{AllocError, Global};
 
@@ -23,82 +23,113 @@ pub struct Witness {
     pub status: u8,
 }
 
-/// The side whose transport goes no further first, and where.
-fn first_stop(left: Option<Place>, right: Option<Place>) -> Option<(Side, Place)> {
-    match (left, right) {
-        (None, None) => None,
-        (Some(place), None) => Some((Side::Left, place)),
-        (None, Some(place)) => Some((Side::Right, place)),
-        (Some(left), Some(right)) => {
-            if right.last < left.last {
-                return Some((Side::Right, right));
-            }
-            Some((Side::Left, left))
+/// How late a connection is told. One that left sends nothing on is told after those on which it does, since what is carried for
+/// these would make left go on with it; and one that is not answered is told last.
+fn lateness(conversation: &Conversation) -> u8 {
+    match conversation.answer {
+        Some(_) => if conversation.left.said.is_empty() {
+            1
+        } else {
+            0
+        },
+        None => 2,
+    }
+}
+
+/// Whether a connection is told: it is requested before the script stops. One that is refused is left out if others are accepted,
+/// since no end refuses one and accepts another; it has no session.
+fn is_told(capture: &Capture, conversation: &Conversation, bound: Option<Stop>) -> bool {
+    if conversation.is_refused() && capture.accepted().is_some() {
+        return false;
+    }
+    match bound {
+        Some(stop) => is_before(Side::Left, conversation.request.place, &stop),
+        None => true,
+    }
+}
+
+/// Tells the connections that are as late as this, in the order of their CRs.
+fn tell_some(
+    alloc: Global,
+    capture: &Capture,
+    late: u8,
+    bound: Option<Stop>,
+    player: &mut Player,
+) -> Result<(), Stop> {
+    'conversations: for conversation in capture.conversations.iter() {
+        if lateness(conversation) == late && is_told(capture, conversation, bound) {
+            Telling::new(alloc, conversation, bound, player).tell()?;
         }
     }
+    Ok(())
+}
+
+/// Tells all connections, one after the other.
+fn tell_all(
+    alloc: Global,
+    capture: &Capture,
+    bound: Option<Stop>,
+    player: &mut Player,
+) -> Result<(), Stop> {
+    'late: for late in 0u8..3 {
+        tell_some(alloc, capture, late, bound, player)?;
+    }
+    Ok(())
 }
 
 /// A script of a capture in which left asks for no connection.
 fn unopened(alloc: Global, capture: &Capture) -> Result<Witness, AllocError>
     ensures { IfOk result (λ w. w.status < 2) }
 {
-    let mut script = Vec::new(alloc);
-    let Some((side, place)) = first_stop(capture.left.stop, capture.right.stop) else {
-        return Ok(Witness { script, status: 0 });
-    };
-    push_comment(&mut script, side, place.offset, Halt::Transport.words())?;
-    Ok(Witness { script, status: 1 })
+    finished(capture, Vec::new(alloc), capture.first_stop())
 }
 
-/// A script of a capture in which left asks for a connection.
-fn opened(alloc: Global, capture: &Capture, request: &Opening) -> Result<Witness, AllocError>
-    ensures { IfOk result (λ w. w.status < 2) }
-{
-    let (left, right) = (&capture.left, &capture.right);
-    let left_run = run_of(alloc, left, right, Standing::calling())?;
-    let right_run = run_of(alloc, right, left, Standing::called())?;
-    told_by(alloc, capture, request, &left_run, &right_run)
-}
-
-/// The script of these runs, one of each side.
-fn told_by(
-    alloc: Global,
-    capture: &Capture,
-    request: &Opening,
-    left: &Run,
-    right: &Run,
-) -> Result<Witness, AllocError>
-    ensures { IfOk result (λ w. w.status < 2) }
-{
-    let caller = if request.class == 0 {
-        Classes::Zero
-    } else {
-        Classes::Both
-    };
-    let mut telling = Telling::new(alloc, capture, left, right, caller, request.credit)?;
-    let told = telling.tell();
-    finished(telling.take_script(), told)
-}
-
-/// The script of a player that told all, or stopped.
-fn finished(script: Vec<u8>, told: Result<(), Stop>) -> Result<Witness, AllocError>
-    ensures { IfOk result (λ w. w.status < 2) }
-{
-    match told {
-        Ok(()) => Ok(Witness { script, status: 0 }),
-        Err(stop) => stopped(script, stop),
+/// Whether a script that stops there stops earlier than this.
+fn is_earlier(stop: &Stop, bound: Option<Stop>) -> bool {
+    match bound {
+        Some(bound) => is_before(stop.side, stop.place, &bound),
+        None => true,
     }
 }
 
-/// The script of a player that stopped: its last line says where, and why.
-fn stopped(script: Vec<u8>, stop: Stop) -> Result<Witness, AllocError>
+/// A script of a capture in which left asks for connections. If one of several stops at what no call sends, the others are told anew
+/// up to there.
+fn opened(alloc: Global, capture: &Capture, request: &Conversation) -> Result<Witness, AllocError>
     ensures { IfOk result (λ w. w.status < 2) }
 {
+    let mut bound = capture.first_stop();
+    let count = capture.conversations.len();
+    'again: for _ in 0..count {
+        let mut player = Player::new(alloc, &ends_of(capture, request))?;
+        match tell_all(alloc, capture, bound, &mut player) {
+            Ok(()) => return finished(capture, player.take_script(), bound),
+            Err(stop) => {
+                if count == 1 || stop.halt.is_final() || !is_earlier(&stop, bound) {
+                    return finished(capture, player.take_script(), Some(stop));
+                }
+                bound = Some(stop);
+            }
+        }
+    }
+    Ok(Witness {
+        script: Vec::new(alloc),
+        status: 1,
+    })
+}
+
+/// A script that tells all, or stops: then its last line says where, and why.
+fn finished(capture: &Capture, script: Vec<u8>, stop: Option<Stop>) -> Result<Witness, AllocError>
+    ensures { IfOk result (λ w. w.status < 2) }
+{
+    let Some(stop) = stop else {
+        return Ok(Witness { script, status: 0 });
+    };
     if let Halt::OutOfMemory = stop.halt {
         return Err(AllocError);
     }
     let mut script = script;
-    push_comment(&mut script, stop.side, stop.offset, stop.halt.words())?;
+    let offset = stop.place.offset.min(capture.offset(stop.side));
+    push_comment(&mut script, stop.side, offset, stop.halt.words())?;
     Ok(Witness { script, status: 1 })
 }
 
@@ -125,8 +156,8 @@ fn checked(alloc: Global, witness: Witness) -> Result<Witness, AllocError>
 fn witness_of_capture(alloc: Global, capture: &Capture) -> Result<Witness, AllocError>
     ensures { IfOk result (λ w. w.status < 2) }
 {
-    match &capture.left.opening {
-        Some(request) => opened(alloc, capture, request),
+    match capture.conversations.first() {
+        Some(first) => opened(alloc, capture, first),
         None => unopened(alloc, capture),
     }
 }

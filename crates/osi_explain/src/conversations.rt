@@ -1,0 +1,180 @@
+//! One connection of a capture.
+
+use crate::places::{Place, Stop, earlier};
+use crate::streams::Stream;
+use crate::trails::run_of;
+use osi_judge::Side as Judged;
+use osi_script::Side;
+use osi_session::Standing;
+use osi_tpdu::{ConnectFields, SizeCode};
+use std::alloc::{AllocError, Global};
+
+/// The CR of a connection, or what answers it.
+#[derive(Clone, Copy)]
+pub struct Opening {
+    /// It is a DR, which refuses the connection.
+    pub is_refusal: bool,
+    /// The class that a CR prefers or a CC selects.
+    pub class: u8,
+    /// A CR offers class 0.
+    pub offers_class_0: bool,
+    /// The credit that it gives.
+    pub credit: u8,
+    /// The TPDU size that it names.
+    pub size: Option<SizeCode>,
+    pub place: Place,
+}
+
+/// One connection of a capture.
+#[derive(Drop)]
+pub struct Conversation {
+    /// Its CR.
+    pub request: Opening,
+    /// Its CC or DR.
+    pub answer: Option<Opening>,
+    /// What the calling side sent.
+    pub left: Stream,
+    /// What the called side sent.
+    pub right: Stream,
+}
+
+/// Whether one of these octets has class 0 in its high half.
+fn names_class_0(octets: &[u8]) -> bool {
+    octets.iter().any(|octet| *octet / 16 == 0)
+}
+
+/// Whether a CR prefers class 0 or lists it (X.224 section 6.5).
+fn offers_class_0(fields: &ConnectFields<'_>) -> bool {
+    if fields.class == 0 {
+        return true;
+    }
+    match fields.parameters.alternative_classes {
+        None => false,
+        Some(octets) => names_class_0(octets),
+    }
+}
+
+impl Opening {
+    /// A CR or a CC.
+    pub(crate) fn of(fields: &ConnectFields<'_>, place: Place) -> Opening {
+        Opening {
+            is_refusal: false,
+            class: fields.class,
+            offers_class_0: offers_class_0(fields),
+            credit: fields.credit,
+            size: fields.parameters.size,
+            place,
+        }
+    }
+
+    /// A DR that refuses the connection.
+    pub(crate) fn refusal(place: Place) -> Opening {
+        Opening {
+            is_refusal: true,
+            class: 0,
+            offers_class_0: false,
+            credit: 0,
+            size: None,
+            place,
+        }
+    }
+}
+
+/// A part of a TSDU of a side passes, which the other side may take then.
+fn pass(
+    alloc: Global,
+    own: &mut Stream,
+    heard: &mut Stream,
+    end: bool,
+    user: &[u8],
+    place: Place,
+) -> Result<(), AllocError> {
+    if own.add(alloc, heard, end, user, place)? {
+        return heard.hear(own);
+    }
+    Ok(())
+}
+
+impl Conversation {
+    /// A connection that a CR requests.
+    pub(crate) fn new(alloc: Global, request: Opening) -> Result<Conversation, AllocError> {
+        let left = Stream::new(
+            alloc,
+            Side::Left,
+            Judged::caller(alloc)?,
+            Standing::calling(),
+        )?;
+        let right = Stream::new(
+            alloc,
+            Side::Right,
+            Judged::called(alloc)?,
+            Standing::called(),
+        )?;
+        Ok(Conversation {
+            request,
+            answer: None,
+            left,
+            right,
+        })
+    }
+
+    /// What a side sent.
+    pub fn stream(&self, side: Side) -> &Stream {
+        match side {
+            Side::Left => &self.left,
+            Side::Right => &self.right,
+        }
+    }
+
+    /// The class that its CC selects; none if it was not accepted.
+    pub fn class(&self) -> Option<u8> {
+        match self.answer {
+            Some(answer) if !answer.is_refusal => Some(answer.class),
+            _ => None,
+        }
+    }
+
+    /// Whether its CR was refused.
+    pub fn is_refused(&self) -> bool {
+        match self.answer {
+            Some(answer) => answer.is_refusal,
+            None => false,
+        }
+    }
+
+    /// The CR is answered, if it was not answered before.
+    pub(crate) fn answer(&mut self, answer: Opening) {
+        if self.answer.is_none() {
+            self.answer = Some(answer);
+        }
+    }
+
+    /// A part of a TSDU of a side passes.
+    pub(crate) fn add(
+        &mut self,
+        alloc: Global,
+        side: Side,
+        end: bool,
+        user: &[u8],
+        place: Place,
+    ) -> Result<(), AllocError> {
+        match side {
+            Side::Left => pass(alloc, &mut self.left, &mut self.right, end, user, place),
+            Side::Right => pass(alloc, &mut self.right, &mut self.left, end, user, place),
+        }
+    }
+
+    /// The run of each side is read off.
+    pub(crate) fn trace(&mut self, alloc: Global) -> Result<(), AllocError> {
+        let left = run_of(alloc, &self.left, &self.right)?;
+        let right = run_of(alloc, &self.right, &self.left)?;
+        self.left.has_run(left);
+        self.right.has_run(right);
+        Ok(())
+    }
+
+    /// The first TSDU with which a side has no run.
+    pub fn limit(&self) -> Option<Stop> {
+        earlier(self.left.limit, self.right.limit)
+    }
+}

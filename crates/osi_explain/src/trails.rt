@@ -1,0 +1,197 @@
+//! A run of a session that sends what a side sent, read off backwards from the sessions that the judge kept.
+//!
+//! The judge keeps a session after a unit only if one that it kept before the unit goes on to it. So from the last unit on,
+//! each session has one before it, and only the TSDUs between the two are looked at.
+
+use crate::streams::{Kept, Said, Stream};
+use crate::units::acting_unit;
+use osi_judge::Member;
+use osi_session::{Reply, Standing, is_restart_unit};
+use osi_spdu::Spdu;
+use std::alloc::{AllocError, Global};
+
+/// How a session went on to a unit: after how many TSDUs of the other side it sent it, whether as an answer, and its state then.
+#[derive(Clone, Copy)]
+struct Step {
+    taken: usize,
+    is_answer: bool,
+    standing: Standing,
+}
+
+/// The unit that a session goes on to, the session after it, and what it may take before.
+#[derive(Clone, Copy)]
+struct Goal<'a> {
+    unit: &'a Spdu<'a>,
+    /// How many octets its TSDU has.
+    octets: usize,
+    after: &'a Member,
+    heard: &'a Stream,
+}
+
+/// The state of a session that takes this TSDU and sends nothing; none if it answers it, or takes nothing.
+pub fn hears(
+    alloc: Global,
+    standing: &Standing,
+    tsdu: &[u8],
+) -> Result<Option<Standing>, AllocError> {
+    match standing.take(alloc, tsdu) {
+        Ok(Some(taking)) if taking.reply.is_none() => Ok(Some(taking.next)),
+        Ok(_) => Ok(None),
+        Err(error) => Err(error),
+    }
+}
+
+impl Goal<'_> {
+    /// Whether the session after the unit remains as it is while it takes the TSDUs from this one on: it waits for the answer to
+    /// its restart.
+    fn waits_from(&self, alloc: Global, taken: usize) -> Result<bool, AllocError> {
+        if taken < self.after.taken && !is_restart_unit(self.unit) {
+            return Ok(false);
+        }
+        'tsdus: for number in taken..self.after.taken {
+            match hears(alloc, &self.after.standing, self.heard.tsdu(number))? {
+                Some(next) if next.is_same(&self.after.standing) => (),
+                _ => return Ok(false),
+            }
+        }
+        Ok(true)
+    }
+
+    /// The session sends the unit in this state, after so many TSDUs, and is then the one after it.
+    fn said_at(
+        &self,
+        alloc: Global,
+        standing: &Standing,
+        taken: usize,
+    ) -> Result<Option<Step>, AllocError> {
+        let Ok(said) = standing.say(self.unit, self.octets) else {
+            return Ok(None);
+        };
+        if !said.is_same(&self.after.standing) || !self.waits_from(alloc, taken)? {
+            return Ok(None);
+        }
+        Ok(Some(Step {
+            taken,
+            is_answer: false,
+            standing: said,
+        }))
+    }
+
+    /// The unit is the answer to the last of so many TSDUs, and the session is then the one after it.
+    fn answered(&self, reply: Reply, next: Standing, taken: usize) -> Option<Step> {
+        if taken != self.after.taken || !reply.is_said_by(self.unit) {
+            return None;
+        }
+        if !next.is_same(&self.after.standing) {
+            return None;
+        }
+        Some(Step {
+            taken,
+            is_answer: true,
+            standing: next,
+        })
+    }
+
+    /// How a session goes on to the unit, if it does.
+    fn step_from(&self, alloc: Global, from: &Member) -> Result<Option<Step>, AllocError> {
+        let mut standing = from.standing;
+        'takes: for taken in from.taken..self.after.taken {
+            if let Some(step) = self.said_at(alloc, &standing, taken)? {
+                return Ok(Some(step));
+            }
+            let Some(taking) = standing.take(alloc, self.heard.tsdu(taken))? else {
+                return Ok(None);
+            };
+            if let Some(reply) = taking.reply {
+                return Ok(self.answered(reply, taking.next, taken.saturating_add(1)));
+            }
+            standing = taking.next;
+        }
+        if from.taken > self.after.taken {
+            return Ok(None);
+        }
+        self.said_at(alloc, &standing, self.after.taken)
+    }
+
+    /// The first of these sessions that goes on to the unit, and how.
+    fn first_step(
+        &self,
+        alloc: Global,
+        members: &[Member],
+    ) -> Result<Option<(Member, Step)>, AllocError> {
+        'members: for member in members {
+            if let Some(step) = self.step_from(alloc, member)? {
+                return Ok(Some((*member, step)));
+            }
+        }
+        Ok(None)
+    }
+}
+
+/// The session before a unit, and how it went on to it and to the session after it.
+fn step_back(
+    alloc: Global,
+    own: &Stream,
+    heard: &Stream,
+    kept: &Kept,
+    before: &[Member],
+    after: &Member,
+) -> Result<Option<(Member, Step)>, AllocError> {
+    let tsdu = own.tsdu(kept.tsdu);
+    let Some(unit) = acting_unit(tsdu, kept.place) else {
+        return Ok(None);
+    };
+    let goal = Goal {
+        unit: &unit,
+        octets: tsdu.len(),
+        after,
+        heard,
+    };
+    goal.first_step(alloc, before)
+}
+
+/// Units that are not told yet, one for each that has sessions.
+fn untold(alloc: Global, own: &Stream) -> Result<Vec<Said>, AllocError> {
+    let mut said = Vec::new(alloc);
+    'units: for kept in own.kept() {
+        said.push(Said {
+            tsdu: kept.tsdu,
+            place: kept.place,
+            taken: 0,
+            is_answer: false,
+            standing: Standing::called(),
+        })?;
+    }
+    Ok(said)
+}
+
+/// A run of a session that sends what a side sent, up to its limit: that of the first session that is kept at its end. None if a
+/// session has none before it, which doesn't happen.
+pub(crate) fn run_of(
+    alloc: Global,
+    own: &Stream,
+    heard: &Stream,
+) -> Result<Option<Vec<Said>>, AllocError> {
+    let mut said = untold(alloc, own)?;
+    let Some(last) = own.kept_before(own.kept().len()).first() else {
+        return Ok(None);
+    };
+    let mut after = *last;
+    let mut number = own.kept().len();
+    'units: for unit in said.iter_mut().rev() {
+        number = number.saturating_sub(1);
+        let Some(kept) = own.kept().get(number) else {
+            return Ok(None);
+        };
+        match step_back(alloc, own, heard, kept, own.kept_before(number), &after)? {
+            Some((before, step)) => {
+                unit.taken = step.taken;
+                unit.is_answer = step.is_answer;
+                unit.standing = step.standing;
+                after = before;
+            }
+            None => return Ok(None),
+        }
+    }
+    Ok(Some(said))
+}
