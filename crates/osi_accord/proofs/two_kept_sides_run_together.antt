@@ -9,7 +9,7 @@ use Rattle.osi_judge.specs.declared.findings.Finding.{Finding}
 use Rattle.osi_judge.specs.declared.findings.Finding.TheVariants as finding
 use Rattle.osi_judge.specs.Captures.{other}
 use Rattle.osi_judge.specs.Judging.{IsFound}
-use Rattle.osi_judge.specs.Tapping.{begin_of}
+use Rattle.osi_judge.specs.Sides.{begin_of}
 use Rattle.osi_tap.specs.declared.outcomes.Outcome.{Outcome}
 use Rattle.osi_tap.specs.declared.outcomes.Outcome.TheVariants as outcome
 use Rattle.osi_tap.specs.declared.pasts.Past.{Past}

@@ -1,7 +1,7 @@
 -- What has become certain of a text is written while it is read: for the functions of `live`.
 use Rattle.std.proofs.Common.{◌≡◌, ◌∙◌, ◌⊎◌, inl, inr, ℕ, ◌+◌, Option, Some, None, List, [], ◌∷◌, ◌++◌, zero, suc, length, take, refl, sym, ap, arith}
 use Rattle.std.proofs.lemmas.List.{append_assoc}
-use Rattle.std.specs.Prelude.{IfSome}
+use Rattle.std.specs.Prelude.{IfErr, IfSome, Result, Ok, Err}
 use Rattle.std.specs.Io.KnownBytes.{Appends, Keeps}
 use Rattle.osi_dispute.specs.Disputes.{IsJudgement}
 use Rattle.osi_dispute.specs.Hearing.{Fails, IsHeard}
@@ -10,6 +10,8 @@ use Rattle.osi_listing.specs.declared.capture.CaptureFault.TheVariants as fault
 use Rattle.osi_dispute.specs.News.{AreToldOf, IsTold, joined}
 use Rattle.osi_dispute.specs.declared.hearing.Hearing.{Hearing}
 use Rattle.osi_dispute.proofs.what_is_told_is_of_the_report.{joined_both}
+use Rattle.osi_commands.specs.declared.faults.ToolFault.{ToolFault}
+use Rattle.osi_commands.specs.declared.faults.ToolFault.TheVariants as tool
 use Rattle.osi_commands.specs.Live.{Announces, AnnouncesPart, BeginsLive, FindsLive, FindsLivePart}
 use Rattle.osi_commands.specs.Show.{BeginsToAppend}
 use Rattle.osi_commands.proofs.what_is_read_is_heard.{HasHeard}
@@ -41,6 +43,10 @@ pub announced_part : (text told : List ℕ) (old new : Option (List ℕ)) → Is
     → AnnouncesPart text old new
 announced_part text told old new h b = record { told = told; is_told = h; begun = b }
 
+pub if_write_fails : (r : Result (Unit {0}) ToolFault) (P : Type 0) → P → IfErr r (λ f. f ≡ tool.Write → P)
+if_write_fails (Ok x) P p = tt
+if_write_fails (Err f) P p = λ e. p
+
 announced_both : (text : List ℕ) (old mid new : Option (List ℕ)) → Announces text old mid → Announces text mid new
     → Announces text old new
 announced_both text old mid new h k = record {
@@ -54,7 +60,7 @@ announced_both text old mid new h k = record {
 none_before : (n : ℕ) → n ≡ 0 + n
 none_before n = omega arith
 
-one_before : (m n : ℕ) → suc (m + n) ≡ m + 1 + n
+one_before : (m n : ℕ) → suc (m + n) ≡ suc m + n
 one_before m n = omega arith
 
 take_more : (xs ys : List ℕ) (n : ℕ) → xs ++ take n ys ≡ take (length xs + n) (xs ++ ys)

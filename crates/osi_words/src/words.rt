@@ -1,9 +1,9 @@
 //! The words of the command line, and help.
 
 ghost use Rattle.std.specs.Prelude.{◌≡◌, ◌≢◌, true, false, Some, map, codes, option_map, IfOk, IfErr, IfSome, IfNone};
-ghost use Rattle.clap.specs.Words.{app_of, kind_of, new_app, shape_of, rows_of, found_of, subcommand_rows_of, takes};
+ghost use Rattle.clap.specs.Words.{app_of, kind_of, new_app, shape_of, rows_of, found_of, subcommand_rows_of, takes, with_rule};
 ghost use Rattle.clap.specs.declared.builder.command.Command.TheViews.{out-Command as fields_of};
-ghost use Rattle.osi_words.specs.Words.{osi, top, judging, asked_of, asked_by, asked_in, is_set, options_in, words_fault, IsJob};
+ghost use Rattle.osi_words.specs.Words.{osi, top, judging, script, asked_of, asked_by, asked_in, is_set, options_in, words_fault, IsJob};
 
 use crate::faults::WordsFault;
 use crate::jobs::{Job, Options};
@@ -187,24 +187,32 @@ fn pair<'a>(alloc: Global) -> Command<'a>
         .after_help(SCRIPTS)
 }
 
-/// The subcommand that judges a capture.
-fn judge<'a>(alloc: Global) -> Result<Command<'a>, AllocError>
-    ensures shape { IfOk result (λ command. shape_of command ≡ judging.top) }
+/// The subcommand that judges a capture, with its option for a script alone.
+fn judge_or_script<'a>(alloc: Global) -> Result<Command<'a>, AllocError>
+    ensures app { IfOk result (λ command. app_of command ≡ with_rule (new_app (codes "judge")) script) }
     ensures local { IfOk result (λ command. (fields_of command).has_globals ≡ false) }
 {
     let script = Arg::new(alloc, "script")
         .long("script")
         .action(ArgAction::SetTrue)
         .help(SCRIPT);
+    Command::new(alloc, "judge")
+        .about("Say which side of the capture on standard input first broke the protocol")
+        .after_help(CAPTURES)
+        .arg(script)
+}
+
+/// The subcommand that judges a capture.
+fn judge<'a>(alloc: Global) -> Result<Command<'a>, AllocError>
+    ensures shape { IfOk result (λ command. shape_of command ≡ judging.top) }
+    ensures local { IfOk result (λ command. (fields_of command).has_globals ≡ false) }
+{
     let live = Arg::new(alloc, "live")
         .long("live")
         .action(ArgAction::SetTrue)
         .help(LIVE);
-    Command::new(alloc, "judge")
-        .about("Say which side of the capture on standard input first broke the protocol")
-        .after_help(CAPTURES)
-        .arg(script)?
-        .arg(live)
+    let command = judge_or_script(alloc)?;
+    command.arg(live)
 }
 
 /// The job of a subcommand with these options. Those of `judge` exclude each other.
