@@ -1,5 +1,5 @@
 -- What is reported of connections is what a tap holds of them: for the functions of `reports`.
-use Rattle.osi_dispute.proofs.Vocabulary.{◌≡◌, ◌∙◌, refl, ap, sym, subst, ℕ, ◌+◌, Bool, true, false, not, ◌&&◌, List, [], ◌∷◌, ◌++◌, length}
+use Rattle.osi_dispute.proofs.Vocabulary.{◌≡◌, ◌∙◌, ap, sym, subst, ℕ, ◌+◌, Bool, true, false, not, ◌&&◌, List, [], ◌∷◌, ◌++◌, length}
 use Rattle.osi_dispute.proofs.Vocabulary.{Option, Some, None, IfSome, arith, Direction, Right, Finding, other, Watched}
 use Rattle.osi_dispute.proofs.Vocabulary.{broke_session, Joined, Sessions, reference_of, numbered, IsMarkOf, IsToBlame}
 use Rattle.osi_dispute.proofs.Vocabulary.{marks_of, line_in, Found, HoldsEither, HoldsJoined, HoldsFound, IsHeard, First, Mark, State}
@@ -9,7 +9,6 @@ use Rattle.osi_dispute.proofs.Vocabulary.{IsPair, IsPairOf, ArePairs, no_pair, a
 use Rattle.osi_dispute.proofs.Vocabulary.{IsStrayLast, IsMarkLast, IsReached, some_over, Tap, HoldsState, IsJudged, first_in}
 use Rattle.osi_dispute.proofs.Vocabulary.{first_mark_within}
 use Rattle.osi_judge.specs.declared.directions.Direction.TheVariants.{Left}
-use Rattle.osi_judge.specs.declared.findings.Finding.TheVariants as finding
 use Rattle.osi_tap.specs.declared.connections.Connection.{Connection as Joint}
 use Rattle.osi_tap.specs.declared.marks.Layer.TheVariants as layer
 use Rattle.osi_dispute.specs.declared.reports.Last.TheVariants as ending

@@ -1,8 +1,8 @@
 -- What is told of a capture while it is heard are lines of the report of what has passed: for the functions of `news`, for a hearing,
 -- and for the law.
-use Rattle.std.proofs.Common.{arith, nat_lt, is_some}
+use Rattle.std.proofs.Common.{arith, is_some}
 use Rattle.osi_dispute.proofs.Vocabulary.{◌≡◌, ◌∙◌, ap, refl, sym, subst, ℕ, zero, suc, ◌+◌, ◌<◌, ◌&&◌, not, Bool, true, false, List, []}
-use Rattle.osi_dispute.proofs.Vocabulary.{◌∷◌, ◌++◌, length, if◌then◌else◌, append-nil, append_assoc, flat_map, flat_map-append}
+use Rattle.osi_dispute.proofs.Vocabulary.{◌∷◌, ◌++◌, length, if◌then◌else◌, append-nil, append_assoc, flat_map}
 use Rattle.osi_dispute.proofs.Vocabulary.{Option, Some, None, offset_of, Capture, Direction, other, stream, Mark, Sessions, count, numbered}
 use Rattle.osi_dispute.proofs.Vocabulary.{marks_of, State, comes_to, Pair, Transport, Connection, ArePairs, IsPairOf, IsReport, Report}
 use Rattle.osi_dispute.proofs.Vocabulary.{carried, last_line, pair_lines, read_lines}
@@ -15,7 +15,7 @@ use Rattle.osi_dispute.specs.declared.hearing.Hearing.{Hearing}
 use Rattle.osi_dispute.specs.News.{AddsIf, AddsNews, Announces, AreNews, AreToldOf, IsLineOf, IsNews, IsPartOf, IsSessionLine, IsTold}
 use Rattle.osi_dispute.specs.News.{connection_line, joined}
 use Rattle.osi_dispute.specs.News.{front_line, is_certain, is_decided, is_too_many, rest_line}
-use Rattle.osi_dispute.specs.Openings.{has_no_octets, lacks_a_side, begins_late, may_be_late, unjudged_by, unjudged_in}
+use Rattle.osi_dispute.specs.Openings.{has_no_octets, lacks_a_side, begins_late, may_be_late, unjudged_by}
 use Rattle.osi_dispute.specs.ReportTexts.{halt_line, halt_lines, halt_told, mark_lines, over_lines, report_front, report_text}
 use Rattle.osi_dispute.specs.ReportTexts.{transport_lines}
 use Rattle.osi_dispute.specs.declared.news.Subject.{Subject}
@@ -260,17 +260,6 @@ pub news_in : (s : State) (r : Report) (line : List ℕ) → IsNews s line → I
 news_in s r line n h = line_in s r h n.subject line n.is
 
 -- ---- what is not told
-
-adds_as : (b c : Bool) (s : State) (old new : List ℕ) → b ≡ c → AddsIf c s old new → AddsIf b s old new
-adds_as b c s old new e h = subst (λ (x : Bool). AddsIf x s old new) (sym e) h
-
-pub told_if : (b : Bool) (s : State) (left old new : List ℕ) → b ≡ is_decided s left → b ≡ true → AddsNews s old new
-    → AddsIf (is_decided s left) s old new
-told_if b s left old new e t h = adds_as (is_decided s left) true s old new (sym e ∙ t) h
-
-pub untold_if : (b : Bool) (s : State) (left old new : List ℕ) → b ≡ is_decided s left → b ≡ false → new ≡ old
-    → AddsIf (is_decided s left) s old new
-untold_if b s left old new e f h = adds_as (is_decided s left) false s old new (sym e ∙ f) h
 
 undecided_by : (empty lacking late may : Bool) → lacking ≡ true → (not (is_some (unjudged_by empty lacking late)) && not may) ≡ false
 undecided_by empty lacking late may e = grind arith

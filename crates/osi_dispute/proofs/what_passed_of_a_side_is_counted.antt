@@ -1,6 +1,6 @@
 -- The octets of each side are counted as they pass, so a side that sent none is known: for the law that one direction is not judged.
 use Rattle.std.proofs.Common.{arith}
-use Rattle.osi_dispute.proofs.Vocabulary.{◌≡◌, ◌∙◌, ap, refl, sym, subst, ℕ, ◌+◌, ◌==◌, Bool, true, false, if◌then◌else◌, List, []}
+use Rattle.osi_dispute.proofs.Vocabulary.{◌≡◌, ◌∙◌, ap, refl, subst, ℕ, ◌+◌, ◌==◌, Bool, true, false, if◌then◌else◌, List, []}
 use Rattle.osi_dispute.proofs.Vocabulary.{◌∷◌, ◌++◌, length, length-append, offset_of, Capture, Direction, of, other, stream}
 use Rattle.osi_dispute.proofs.Vocabulary.{Front, Streamed, counted, gathered, faulty, partial, whole, State, after, begin, begun, comes_to}
 use Rattle.osi_dispute.proofs.Vocabulary.{looked_at, looks, octet_passes, stream_of, with_stream, Last, Pair, Transport}

@@ -1,5 +1,5 @@
 -- What a hearing holds of a text.
-use Rattle.std.specs.Prelude.{◌≡◌, ℕ, List, Option, Some, None}
+use Rattle.std.specs.Prelude.{◌≡◌, ℕ, List, Some, None}
 use Rattle.osi_judge.specs.declared.directions.Direction.TheVariants.{Left}
 use Rattle.osi_judge.specs.Captures.{Capture, stream}
 use Rattle.osi_listing.specs.declared.capture.CaptureFault.{CaptureFault}
