@@ -5,8 +5,6 @@ use Rattle.osi_tap.proofs.Vocabulary.{ℕ, Bool, if◌then◌else◌, List, [], 
 use Rattle.osi_tap.proofs.Vocabulary.{Direction, Cause, Mark, Marks, Sessions, all_begin, taken, Course, marked, changes, noted_by}
 use Rattle.osi_tap.proofs.Vocabulary.{unit_passes, units_pass, unread, Front, Streamed, counted, gathered, State, stream_of, with_stream}
 use Rattle.osi_tap.proofs.Vocabulary.{looked_at, begun, octet_passes, after}
-use Rattle.osi_rules.specs.Traffic as traffic
-use Rattle.osi_rules.specs.declared.findings.Reach.TheVariants as reach
 use Rattle.osi_tap.proofs.a_piece_comes_to_what_its_octets_do.{looks}
 
 pub record IsClaim (P : Sessions → Type 0) : Type 0 where

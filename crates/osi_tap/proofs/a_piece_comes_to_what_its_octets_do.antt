@@ -1,5 +1,5 @@
 -- A piece of one direction comes to the same as its octets one after the other: for the law that pieces don't matter.
-use Rattle.osi_tap.proofs.Vocabulary.{◌≡◌, ◌∙◌, refl, sym, ap, subst, ℕ, suc, ◌+◌, false, if◌then◌else◌, List, [], ◌∷◌, ◌++◌, append_assoc}
+use Rattle.osi_tap.proofs.Vocabulary.{◌≡◌, ◌∙◌, refl, sym, ap, subst, ℕ, suc, ◌+◌, false, List, [], ◌∷◌, ◌++◌, append_assoc}
 use Rattle.osi_tap.proofs.Vocabulary.{arith, offset_of, Capture, of, piece, Direction, Front, partial, front_of, Streamed, counted}
 use Rattle.osi_tap.proofs.Vocabulary.{gathered, State, stream_of, with_stream, looked_at, begun, octets_pass, octet_passes, after, GoesOn}
 

@@ -4,10 +4,9 @@ use Rattle.std.proofs.Common.{arith}
 use Rattle.osi_tap.proofs.Vocabulary.{◌≡◌, ◌∙◌, refl, sym, ap, subst, ℕ, Bool, true, false, if◌then◌else◌, List, [], ◌∷◌, ◌++◌}
 use Rattle.osi_tap.proofs.Vocabulary.{append_assoc, Option, Some, None, Value, Direction, Reach, Told, Cause, First, Session, Mark, Marks}
 use Rattle.osi_tap.proofs.Vocabulary.{Sessions, taken, all_begin, Course, Moment, is_break, first_of, first_by, first_after, changes}
-use Rattle.osi_tap.proofs.Vocabulary.{breaks, marked, cause_of, noted_by, moved, moment_of, applied, number_at, unread_mark, unread_moment}
+use Rattle.osi_tap.proofs.Vocabulary.{marked, cause_of, noted_by, moved, moment_of, applied, number_at, unread_mark, unread_moment}
 use Rattle.osi_tap.proofs.Vocabulary.{NobodyIs, NobodyElse, IsToBlameAt, IsQuiet, AreSpotless, IsSpotless, BreaksFirst, IsEarliest}
 use Rattle.osi_tap.proofs.Vocabulary.{IsBreakOf, BlamesBy, IsSessionOf, IsToldOf, IsStill, SomeoneIs, of_transport, of_session}
-use Rattle.osi_rules.specs.declared.findings.Reach.TheVariants as reach
 use Rattle.osi_tap.proofs.who_is_to_blame.{nobody_begun}
 use Rattle.osi_tap.proofs.who_broke_first_stays_to_blame.{still_begun, told_some}
 

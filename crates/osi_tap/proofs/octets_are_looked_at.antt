@@ -1,5 +1,5 @@
 -- What the reader of packets says of octets is what their front is: for the packets of one direction.
-use Rattle.osi_tap.proofs.Vocabulary.{◌≡◌, ℕ, ◌+◌, ◌-◌, ◌<◌, ◌≤◌, List, ◌++◌, length, take, drop, arith, le-ltb, lt-ltb, take-append-drop}
+use Rattle.osi_tap.proofs.Vocabulary.{◌≡◌, ℕ, ◌+◌, ◌<◌, ◌≤◌, List, ◌++◌, length, take, arith, le-ltb, lt-ltb, take-append-drop}
 use Rattle.osi_tap.proofs.Vocabulary.{length-append, take-append_seam, IsPacket, IsPartial, IsFaultOf, TpktFault, partial, faulty, whole}
 use Rattle.osi_tap.proofs.Vocabulary.{sized, front_of}
 

@@ -8,7 +8,6 @@ use Rattle.osi_tap.proofs.Vocabulary.{packet_by, IsFirst, HoldsBy, HoldsState, I
 use Rattle.osi_tap.proofs.Vocabulary.{stream_of, with_stream, begun, octet_passes, begin, after, comes_to}
 use Rattle.osi_tap.proofs.Vocabulary.{begin_within, Room}
 use Rattle.osi_rules.specs.Traffic as traffic
-use Rattle.osi_rules.specs.declared.findings.Reach.TheVariants as reach
 use Rattle.osi_tap.proofs.a_piece_comes_to_what_its_octets_do.{looks}
 
 -- ---- one mark more

@@ -1,6 +1,6 @@
 -- What is kept of a connection is no more than its bound, and a TSDU takes no room with the outline of the one before it: for the law
 -- that says so.
-use Rattle.osi_tap.proofs.Vocabulary.{◌≡◌, subst, ℕ, zero, suc, ◌+◌, ◌-◌, ◌≤◌, Bool, if◌then◌else◌, cond, arith, List, [], ◌∷◌, ◌++◌}
+use Rattle.osi_tap.proofs.Vocabulary.{◌≡◌, subst, ℕ, zero, suc, ◌+◌, ◌≤◌, Bool, if◌then◌else◌, cond, arith, List, [], ◌∷◌, ◌++◌}
 use Rattle.osi_tap.proofs.Vocabulary.{length, map, set, Option, Some, leb-true, length-append, map-append, find, slice_get, Meaning, Value}
 use Rattle.osi_tap.proofs.Vocabulary.{Capture, Direction, Room, All, Octets, Over, kept_of, kept_on, IsWithin, Joined, Sessions}
 use Rattle.osi_tap.proofs.Vocabulary.{packet_begins, adds, adds_all, has_number, numbered, taken, taken_at, after, begin_within, heard}

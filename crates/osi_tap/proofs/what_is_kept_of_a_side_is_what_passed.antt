@@ -1,6 +1,6 @@
 -- What is kept of both sides of a connection stays what passed of them, as DTs pass and TSDUs are handed over: for what is
 -- kept of a connection.
-use Rattle.osi_tap.proofs.Vocabulary.{◌≡◌, ◌∙◌, refl, sym, ap, subst, ℕ, zero, suc, ◌+◌, List, [], ◌∷◌, ◌++◌, length, Bool, true, false}
+use Rattle.osi_tap.proofs.Vocabulary.{◌≡◌, ◌∙◌, refl, sym, ap, subst, ℕ, zero, suc, List, [], ◌∷◌, ◌++◌, length, Bool, true, false}
 use Rattle.osi_tap.proofs.Vocabulary.{Some, arith, append-nil, map-append, length-map, Seen, Tells, last_place, Finding, Kept, Watched}
 use Rattle.osi_tap.proofs.Vocabulary.{Watches, FoundNext, IsFound, HasRoom, outline, outlines, Stage, Between, Within, Unheard}
 use Rattle.osi_tap.proofs.Vocabulary.{seen_calling, seen_called, other, begin_of, Direction, Left, Right, Connection, Line, Joined}

@@ -1,6 +1,6 @@
 -- Octets that are taken of a piece at once come to the same as one after the other: up to the end of the header or of the packet
 -- none but the last completes it; or no packet begins with the first, and the others are counted.
-use Rattle.osi_tap.proofs.Vocabulary.{◌≡◌, ◌∙◌, refl, sym, ap, ℕ, ◌+◌, ◌-◌, ◌<◌, ◌≤◌, ◌==◌, ◌⊎◌, Bool, true, false, if◌then◌else◌, List, []}
+use Rattle.osi_tap.proofs.Vocabulary.{◌≡◌, ◌∙◌, refl, sym, ap, ℕ, ◌+◌, ◌<◌, ◌≤◌, ◌==◌, ◌⊎◌, Bool, true, false, if◌then◌else◌, List, []}
 use Rattle.osi_tap.proofs.Vocabulary.{◌∷◌, ◌++◌, length, take, arith, le-ltb, lt-ltb, length-append, BadVersion, BadLength, of, piece}
 use Rattle.osi_tap.proofs.Vocabulary.{Direction, BadPacket, Watch, Course, unread, HoldsAll, IsPart, HoldsOpen, HoldsStream, partial}
 use Rattle.osi_tap.proofs.Vocabulary.{faulty, whole, front_of, Streamed, counted, gathered, ended, are_none, begins_at, wanted, used_of}

@@ -1,6 +1,6 @@
 -- What is told of the session of a side is by what passed on its connection: for the functions that tell it, and for what is kept of
 -- a connection that is over.
-use Rattle.osi_tap.proofs.Vocabulary.{◌≡◌, ℕ, List, length, Option, arith, Direction, Watched, Watches, Connection}
+use Rattle.osi_tap.proofs.Vocabulary.{◌≡◌, ℕ, arith, Direction, Connection}
 use Rattle.osi_tap.proofs.Vocabulary.{Joined, spoken, line_in, HoldsJoined, IsHeard, IsPlace, IsOutcomeOf, SaysSo}
 use Rattle.osi_tap.proofs.Vocabulary.{violation_of}
 use Rattle.osi_judge.specs.declared.findings.Finding.TheVariants as finding

@@ -1,4 +1,4 @@
-use Rattle.osi_tap.proofs.Vocabulary.{◌<◌, length, take, arith, take-append_seam, packet_begins}
+use Rattle.osi_tap.proofs.Vocabulary.{◌<◌, length, arith, take-append_seam, packet_begins}
 use Rattle.osi_tap.proofs.each_connection_is_kept.{begun_step, begun_all}
 use Rattle.osi_tap.proofs.sessions.begin_each.Goals as goal
 

@@ -1,5 +1,4 @@
 use Rattle.std.proofs.Common.{arith}
-use Rattle.osi_judge.specs.Captures.{other}
 use Rattle.osi_tap.proofs.a_unit_changes_one_finding.{lines_stay}
 use Rattle.osi_tap.proofs.sessions.mean.Goals as goal
 

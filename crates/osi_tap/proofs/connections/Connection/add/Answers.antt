@@ -1,6 +1,6 @@
 use Rattle.osi_tap.proofs.Vocabulary.{◌∙◌, sym, other}
 use Rattle.osi_tap.proofs.a_dt_is_judged_if_there_is_room.{finding_stays, over_stays}
-use Rattle.osi_tap.proofs.what_holds_of_a_result.{any_err, on_ok, on_err}
+use Rattle.osi_tap.proofs.what_holds_of_a_result.{on_ok, on_err}
 use Rattle.osi_tap.proofs.connections.Connection.add.Goals as goal
 
 pub returns-then-is_over-clause-ok : goal.returns-then-is_over-clause-ok

@@ -1,5 +1,5 @@
 use Rattle.std.proofs.Common.{arith}
-use Rattle.osi_tap.proofs.Vocabulary.{value, Asks, source_of}
+use Rattle.osi_tap.proofs.Vocabulary.{value, source_of}
 use Rattle.osi_tap.proofs.what_holds_of_a_result.{any_ok, on_ok}
 use Rattle.osi_tap.proofs.who_is_to_blame.{one_asked}
 use Rattle.osi_tap.proofs.who_broke_first_stays_to_blame.{still_asked, still_either, else_either}

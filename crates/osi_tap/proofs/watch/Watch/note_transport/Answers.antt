@@ -1,5 +1,4 @@
 use Rattle.std.proofs.Common.{arith}
-use Rattle.osi_tap.proofs.Vocabulary.{Some}
 use Rattle.osi_tap.proofs.watch.Watch.note_transport.Goals as goal
 
 pub returns-in-None-clause-holds : goal.returns-in-None-clause-holds
