@@ -1,7 +1,7 @@
 -- What has become certain of a text is written while it is read: for the functions of `live`.
 use Rattle.std.proofs.Common.{◌≡◌, ◌∙◌, ◌⊎◌, inl, inr, ℕ, ◌+◌, Option, Some, None, List, [], ◌∷◌, ◌++◌, zero, suc, length, take, refl, sym, ap, arith}
 use Rattle.std.proofs.lemmas.List.{append_assoc}
-use Rattle.std.specs.Prelude.{IfErr, IfSome, Result, Ok, Err}
+use Rattle.std.specs.Prelude.{IfErr, IfSome, OnErr, Result, Ok, Err}
 use Rattle.std.specs.Io.KnownBytes.{Appends, Keeps}
 use Rattle.osi_dispute.specs.Disputes.{IsJudgement}
 use Rattle.osi_dispute.specs.Hearing.{Fails, IsHeard}
@@ -43,9 +43,16 @@ pub announced_part : (text told : List ℕ) (old new : Option (List ℕ)) → Is
     → AnnouncesPart text old new
 announced_part text told old new h b = record { told = told; is_told = h; begun = b }
 
-pub if_write_fails : (r : Result (Unit {0}) ToolFault) (P : Type 0) → P → IfErr r (λ f. f ≡ tool.Write → P)
+pub nothing_in_part : (text : List ℕ) (c : Option (List ℕ)) → AnnouncesPart text c c
+nothing_in_part text c = record { told = []; is_told = none_told text; begun = (0, appends_none c) }
+
+pub if_write_fails : {A : Type 0} (r : Result A ToolFault) (P : Type 0) → P → IfErr r (λ f. f ≡ tool.Write → P)
 if_write_fails (Ok x) P p = tt
 if_write_fails (Err f) P p = λ e. p
+
+pub on_failure : (r : Result (Unit {0}) ToolFault) (P : Type 0) → P → OnErr r P
+on_failure (Ok x) P p = tt
+on_failure (Err f) P p = p
 
 announced_both : (text : List ℕ) (old mid new : Option (List ℕ)) → Announces text old mid → Announces text mid new
     → Announces text old new

@@ -1,7 +1,8 @@
 //! `osi judge --live`: each finding is written as soon as it is certain, while the capture is read.
 
-ghost use Rattle.std.specs.Prelude.{◌≡◌, ◌<◌, true, ℕ, List, [], IfOk, IfErr, IfSome, OnOk};
+ghost use Rattle.std.specs.Prelude.{◌≡◌, ◌<◌, true, ℕ, List, [], IfOk, IfErr, IfSome, OnOk, OnErr};
 ghost use Rattle.std.specs.Io.KnownBytes.{IsAtEnd};
+ghost use Rattle.osi_dispute.specs.Disputes.{IsJudgement};
 ghost use Rattle.osi_dispute.specs.Hearing.{IsHeard};
 ghost use Rattle.osi_dispute.specs.News.{IsTold};
 ghost use Rattle.osi_listing.specs.Capture.{IsNoCapture};
@@ -11,7 +12,7 @@ ghost use Rattle.osi_commands.specs.Live.{Announces, AnnouncesPart, BeginsLive, 
 use crate::faults::{Failure, ToolFault};
 use crate::judging::{PIECE, hear, judgement_of};
 use crate::watched::Watch;
-use osi_dispute::Hearing;
+use osi_dispute::{Hearing, Judgement};
 use osi_listing::CaptureFault;
 use std::alloc::Global;
 use std::io::{Read, Write};
@@ -34,7 +35,7 @@ fn news_of(alloc: Global, hearing: &mut Hearing) -> Result<Vec<u8>, ToolFault>
 }
 
 /// Writes what has become certain of what was heard, and flushes the writer.
-#[tactic(auto, using(crate::proofs::what_is_certain_is_written::nothing_announced, crate::proofs::what_is_certain_is_written::announced, crate::proofs::what_is_certain_is_written::announced_part))]
+#[tactic(auto, using(crate::proofs::what_is_certain_is_written::nothing_announced, crate::proofs::what_is_certain_is_written::announced, crate::proofs::what_is_certain_is_written::nothing_in_part))]
 fn announce<W: Write>(
     alloc: Global,
     watch: &mut Watch,
@@ -49,7 +50,7 @@ fn announce<W: Write>(
         → IsNoCapture whole) }
     ensures input { IfErr result (λ fault. fault ≡ ToolFault.Input → ⊥) }
     ensures write { IfErr result (λ fault. fault ≡ ToolFault.Write → watch.new.write_failed ≡ true) }
-    ensures part { IfErr result (λ fault. fault ≡ ToolFault.Write → (whole rest : List ℕ) → IsHeard hearing.old whole rest
+    ensures part { OnErr result ((whole rest : List ℕ) → IsHeard hearing.old whole rest
         → AnnouncesPart whole (W.contents writer.old) (W.contents writer.new)) }
     ensures others { IfErr result (λ fault. (fault ≡ ToolFault.Write → ⊥) → writer.new ≡ writer.old) }
 {
@@ -97,6 +98,32 @@ fn hear_live<R: Read, W: Write>(
     Err(ToolFault::Input)
 }
 
+/// The judgement of all that a reader gives. What has become certain after each piece is written.
+#[tactic(auto, using(crate::proofs::what_is_certain_is_written::told_all))]
+fn judgement_live<R: Read, W: Write>(
+    alloc: Global,
+    watch: &mut Watch,
+    reader: &mut R,
+    writer: &mut W,
+) -> Result<Judgement, ToolFault>
+    ensures judged { IfOk result (λ j. IfSome (R.remaining reader.old) (λ text. IsJudgement text j.lines.items j.status)) }
+    ensures told { OnOk result (IfSome (R.remaining reader.old) (λ text.
+        Announces text (W.contents writer.old) (W.contents writer.new))) }
+    ensures status { IfOk result (λ j. j.status < 2) }
+    ensures end { OnOk result (IsAtEnd (R.remaining reader.new)) }
+    ensures input { IfErr result (λ fault. fault ≡ ToolFault.Input → FailsToHear watch.new.read_failed (R.remaining reader.old)) }
+    ensures bad_hex { IfErr result (λ fault. fault ≡ ToolFault.BadHex → IfSome (R.remaining reader.old) IsNoCapture) }
+    ensures write { IfErr result (λ fault. fault ≡ ToolFault.Write → watch.new.write_failed ≡ true) }
+    ensures part { IfErr result (λ fault. fault ≡ ToolFault.Write → IfSome (R.remaining reader.old) (λ text.
+        AnnouncesPart text (W.contents writer.old) (W.contents writer.new))) }
+    ensures others { IfErr result (λ fault. (fault ≡ ToolFault.Write → ⊥) → IfSome (R.remaining reader.old) (λ text.
+        Announces text (W.contents writer.old) (W.contents writer.new))) }
+{
+    let mut hearing = Hearing::new(alloc);
+    hear_live(alloc, watch, reader, writer, &mut hearing)?;
+    judgement_of(&mut hearing)
+}
+
 /// Judges what a reader gives, writes each finding as soon as it is certain, and remembers which call failed.
 #[tactic(auto, using(crate::proofs::what_is_certain_is_written::found_live, crate::proofs::what_is_certain_is_written::found_in_part))]
 fn judge_live_watched<R: Read, W: Write>(
@@ -116,9 +143,7 @@ fn judge_live_watched<R: Read, W: Write>(
     ensures others { IfErr result (λ fault. (fault ≡ ToolFault.Write → ⊥) → IfSome (R.remaining reader.old) (λ text.
         Announces text (W.contents writer.old) (W.contents writer.new))) }
 {
-    let mut hearing = Hearing::new(alloc);
-    hear_live(alloc, watch, reader, writer, &mut hearing)?;
-    let judgement = judgement_of(&mut hearing)?;
+    let judgement = judgement_live(alloc, watch, reader, writer)?;
     watch.write_text(writer, judgement.lines.as_slice())?;
     Ok(judgement.status)
 }

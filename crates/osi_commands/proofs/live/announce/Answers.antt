@@ -1,7 +1,7 @@
 use Rattle.std.proofs.Common.{◌≡◌, List, ℕ, subst, sym}
 use Rattle.std.specs.Io.KnownBytes.{Appends}
 use Rattle.osi_commands.specs.Show.{BeginsToAppend}
-use Rattle.osi_commands.proofs.what_is_certain_is_written.{announced, announced_part, if_write_fails}
+use Rattle.osi_commands.proofs.what_is_certain_is_written.{announced, announced_part, on_failure}
 use Rattle.osi_commands.proofs.live.announce.Goals as goal
 
 pub returns-clause-told : goal.returns-clause-told
@@ -17,6 +17,6 @@ returns-in_err-write_text-clause-part g c =
     let contents = g.W.Write.contents in
     let old = contents c.args.writer.now in
     let new = contents c.write_text.new.writer in
-    if_write_fails c.from_residual-in_err-write_text.result _
+    on_failure c.from_residual-in_err-write_text.result _
     (λ whole rest k. announced_part whole c.in_ok-told.told.items old new (c.in_ok-told.ensures.told whole rest k)
     (subst (λ (t : List ℕ). BeginsToAppend old new t) c.as_slice.ensures.value c.in_err-write_text.ensures.begun))
