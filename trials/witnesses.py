@@ -65,19 +65,6 @@ def whole(stream):
     return stream[:ends[-1]] if ends else b""
 
 
-def data_in_parts(stream):
-    """Whether the last data of a direction is in parts of which some are missing."""
-    begun, tsdu = False, b""
-    for _, _, unit in packets(stream):
-        if unit[1] & 0xF0 != 0xF0:
-            continue
-        tsdu += unit[3:]
-        if unit[2] & 0x80:
-            found = re.match(rb"\x01\x00\x01\x03\x19\x01(.)", tsdu, re.S)
-            begun, tsdu = (begun if found is None else not found.group(1)[0] & 2), b""
-    return begun
-
-
 # What an end sends by itself when it takes an AB: AA.
 ANSWER = b"\x1a\x00"
 
@@ -201,6 +188,20 @@ def are_in_order(had, ran, side):
     return all(before <= known[min(number, len(known) - 1)] for number, (before, _) in enumerate(ran[side]))
 
 
+def lacks_parts(tsdus):
+    """Whether the last data of a side of a connection is in parts of which some are missing."""
+    begun = False
+    for _, octets in tsdus:
+        if found := re.match(rb"\x01\x00\x01\x03\x19\x01(.)", octets, re.S):
+            begun = not found[1][0] & 2
+    return begun
+
+
+def ends_within_data(connections):
+    """Whether a side of one of them sent data in parts and not the last of these."""
+    return any(lacks_parts(connection[side]) for connection in connections for side in SIDES)
+
+
 # Where a script stops, and the side of a verdict that broke the protocol or left the profile first.
 STOPS = re.compile(r"^# (left|right) packet (\d+): .+\n\Z", re.M)
 FIRST = re.compile(r"^(left|right) (?:broke the protocol|leaves the profile) first, packet (\d+): .+\n\Z", re.M)
@@ -288,7 +289,7 @@ class Witnesses:
         status, script = self.osi(["judge", "--script"], text)
         again = played(script)
         again.close()
-        is_cut = status == 1 and any(data_in_parts(had[side]) for side in SIDES) and UNFINISHED.search(script)
+        is_cut = status == 1 and UNFINISHED.search(script) and ends_within_data(Connections(run.pieces).found)
         holds = status == 0 or is_cut
         for side in SIDES:
             sent = again.sent[side]
@@ -304,8 +305,7 @@ class Witnesses:
         run.close()
         status, script = self.osi(["judge", "--script"], text)
         ran = played_at(script)
-        # Data in parts may end within, and data that waits for credit may make the other side take an AB too early.
-        is_cut = status == 1 and UNFINISHED.search(script)
+        is_cut = status == 1 and UNFINISHED.search(script) and ends_within_data(had)
         holds = (status == 0 or is_cut) and (is_cut or len(had) == len(ran))
         for connection, of_both in zip(had, ran):
             for side in SIDES:
@@ -326,7 +326,7 @@ class Witnesses:
                 said = time.monotonic()
                 print(f"{number + 1} runs {kind} in {said - began:.0f} s, {self.failed} failed", file=sys.stderr, flush=True)
         print(f"{count} random runs {kind} of seed {seed}, {calls} calls, {octets} octets: {count - cut} told to their end; {cut} told up "
-              f"to what no call sends", flush=True)
+              f"to data in parts that ends within", flush=True)
 
     def all(self, runs, seed):
         self.captures()

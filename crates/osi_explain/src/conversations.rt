@@ -166,8 +166,10 @@ impl Conversation {
 
     /// The run of each side is read off.
     pub(crate) fn trace(&mut self, alloc: Global) -> Result<(), AllocError> {
-        let left = run_of(alloc, &self.left, &self.right)?;
-        let right = run_of(alloc, &self.right, &self.left)?;
+        // In class 2 each end acknowledges what it takes, so the runs take what they can before they send.
+        let is_late = self.class() == Some(2);
+        let left = run_of(alloc, &self.left, &self.right, is_late)?;
+        let right = run_of(alloc, &self.right, &self.left, is_late)?;
         self.left.has_run(left);
         self.right.has_run(right);
         Ok(())

@@ -4,7 +4,8 @@
 //! A [`Capture`] reads packets and judges their units by `osi_rules`. It has a [`Conversation`] for each connection, of either class.
 //! Each side of it (a [`Stream`]) tells its TSDUs to a `Side` of `osi_judge`, and keeps the sessions that this keeps after each unit.
 //! The run is read off from these backwards. It says of each unit after how many TSDUs of the other side its session sent it, and
-//! whether it did so by itself ([`Said`]). [`request_of`] is the call that sends a message, and [`push_line`] writes the line of a
+//! whether it did so by itself ([`Said`]). In class 0 these TSDUs are as few as may be; in class 2, where an end acknowledges what it
+//! takes, they are as many as come to the same. [`request_of`] is the call that sends a message, and [`push_line`] writes the line of a
 //! script that makes this call.
 //!
 //! ```text

@@ -24,6 +24,8 @@ pub(crate) struct Kept {
     pub(crate) tsdu: usize,
     /// Its place among the units of this TSDU as they act.
     pub(crate) place: usize,
+    /// How many TSDUs of the other side had passed before it.
+    pub(crate) before: usize,
     pub(crate) members: Vec<Member>,
 }
 
@@ -112,6 +114,7 @@ fn kept_after(
         kept.push(Kept {
             tsdu: number,
             place,
+            before,
             members,
         })?;
     }

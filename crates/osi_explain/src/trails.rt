@@ -3,18 +3,23 @@
 //! The judge keeps a session after a unit only if one that it kept before the unit goes on to it. So from the last unit on,
 //! each session has one before it, and only the TSDUs between the two are looked at.
 
-use crate::streams::{Kept, Said, Stream};
+use crate::streams::{Said, Stream};
 use crate::units::acting_unit;
 use osi_judge::Member;
 use osi_session::{Reply, Standing, is_restart_unit};
 use osi_spdu::Spdu;
 use std::alloc::{AllocError, Global};
 
-/// How a session went on to a unit: after how many TSDUs of the other side it sent it, whether as an answer, and its state then.
+/// How a session went on to a unit.
 #[derive(Clone, Copy)]
 struct Step {
+    /// How many TSDUs of the other side it took before it.
     taken: usize,
+    /// Whether it is the answer to the last of these.
     is_answer: bool,
+    /// The state in which it sent the unit; that after the unit if this is an answer.
+    from: Standing,
+    /// Its state after the unit.
     standing: Standing,
 }
 
@@ -73,6 +78,7 @@ impl Goal<'_> {
         Ok(Some(Step {
             taken,
             is_answer: false,
+            from: *standing,
             standing: said,
         }))
     }
@@ -88,6 +94,7 @@ impl Goal<'_> {
         Some(Step {
             taken,
             is_answer: true,
+            from: next,
             standing: next,
         })
     }
@@ -113,6 +120,45 @@ impl Goal<'_> {
         self.said_at(alloc, &standing, self.after.taken)
     }
 
+    /// The same step after one TSDU more; none if the session can't take this TSDU before the unit, or is in another state then
+    /// than if it takes it after the unit.
+    fn later(&self, alloc: Global, step: &Step) -> Result<Option<Step>, AllocError> {
+        let tsdu = self.heard.tsdu(step.taken);
+        let Some(from) = hears(alloc, &step.from, tsdu)? else {
+            return Ok(None);
+        };
+        let Some(standing) = hears(alloc, &step.standing, tsdu)? else {
+            return Ok(None);
+        };
+        let Ok(said) = from.say(self.unit, self.octets) else {
+            return Ok(None);
+        };
+        if !said.is_same(&standing) {
+            return Ok(None);
+        }
+        Ok(Some(Step {
+            taken: step.taken.saturating_add(1),
+            is_answer: false,
+            from,
+            standing: said,
+        }))
+    }
+
+    /// The same step after as many TSDUs more as it can take, up to so many in all. An answer stays where it is.
+    fn latest(&self, alloc: Global, step: Step, most: usize) -> Result<Step, AllocError> {
+        let mut last = step;
+        if last.is_answer {
+            return Ok(last);
+        }
+        'takes: for _ in step.taken..most {
+            match self.later(alloc, &last)? {
+                Some(later) => last = later,
+                None => return Ok(last),
+            }
+        }
+        Ok(last)
+    }
+
     /// The first of these sessions that goes on to the unit, and how.
     fn first_step(
         &self,
@@ -128,15 +174,19 @@ impl Goal<'_> {
     }
 }
 
-/// The session before a unit, and how it went on to it and to the session after it.
+/// The session before the unit with this number, and how it went on to it and to the session after it. It sends the unit as early as
+/// it can, or later, if it is in the same state then: after up to so many TSDUs of the other side.
 fn step_back(
     alloc: Global,
     own: &Stream,
     heard: &Stream,
-    kept: &Kept,
-    before: &[Member],
+    number: usize,
     after: &Member,
+    most: usize,
 ) -> Result<Option<(Member, Step)>, AllocError> {
+    let Some(kept) = own.kept().get(number) else {
+        return Ok(None);
+    };
     let tsdu = own.tsdu(kept.tsdu);
     let Some(unit) = acting_unit(tsdu, kept.place) else {
         return Ok(None);
@@ -147,7 +197,20 @@ fn step_back(
         after,
         heard,
     };
-    goal.first_step(alloc, before)
+    let Some((before, step)) = goal.first_step(alloc, own.kept_before(number))? else {
+        return Ok(None);
+    };
+    let latest = goal.latest(alloc, step, most.min(kept.before))?;
+    Ok(Some((before, latest)))
+}
+
+/// How many TSDUs of the other side a session took at most before the unit that it sent before this step.
+fn most_before(step: &Step) -> usize {
+    if step.is_answer {
+        step.taken.saturating_sub(1)
+    } else {
+        step.taken
+    }
 }
 
 /// Units that are not told yet, one for each that has sessions.
@@ -165,26 +228,27 @@ fn untold(alloc: Global, own: &Stream) -> Result<Vec<Said>, AllocError> {
     Ok(said)
 }
 
-/// A run of a session that sends what a side sent, up to its limit: that of the first session that is kept at its end. None if a
-/// session has none before it, which doesn't happen.
+/// A run of a session that sends what a side sent, up to its limit: that of the first session that is kept at its end. If it is late,
+/// the session takes what it can before it sends a unit, and otherwise it takes as little as it can. None if a session has none before
+/// it, which doesn't happen.
 pub(crate) fn run_of(
     alloc: Global,
     own: &Stream,
     heard: &Stream,
+    is_late: bool,
 ) -> Result<Option<Vec<Said>>, AllocError> {
     let mut said = untold(alloc, own)?;
     let Some(last) = own.kept_before(own.kept().len()).first() else {
         return Ok(None);
     };
     let mut after = *last;
+    let mut most = if is_late { usize::MAX } else { 0 };
     let mut number = own.kept().len();
     'units: for unit in said.iter_mut().rev() {
         number = number.saturating_sub(1);
-        let Some(kept) = own.kept().get(number) else {
-            return Ok(None);
-        };
-        match step_back(alloc, own, heard, kept, own.kept_before(number), &after)? {
+        match step_back(alloc, own, heard, number, &after, most)? {
             Some((before, step)) => {
+                most = most.min(most_before(&step));
                 unit.taken = step.taken;
                 unit.is_answer = step.is_answer;
                 unit.standing = step.standing;

@@ -38,7 +38,15 @@ fn usual_window() -> Window {
     }
 }
 
-/// The window of both ends in class 2, where most data may be on its way.
+/// The TPDU size of both ends in class 2, so that most data is in one unit: 8,192 octets.
+fn largest_size() -> SizeCode {
+    match SizeCode::new(13) {
+        Some(size) => size,
+        None => unreachable!(),
+    }
+}
+
+/// The window of both ends in class 2, so that most units may be on their way.
 fn widest_window() -> Window {
     match Window::new(15) {
         Some(window) => window,
@@ -84,17 +92,21 @@ fn size_of(request: &Conversation) -> SizeCode {
 
 /// The two ends of a capture that was accepted in a class.
 fn ends_in_class(class: u8, accepted: &Conversation) -> Ends {
-    let is_two = class == 2;
-    let credit = accepted.request.credit;
+    let caller = caller_of(accepted);
+    if class == 2 {
+        return Ends {
+            caller,
+            called: Classes::Two,
+            size: largest_size(),
+            window: widest_window(),
+            refuses: false,
+        };
+    }
     Ends {
-        caller: caller_of(accepted),
-        called: if is_two { Classes::Two } else { Classes::Zero },
+        caller,
+        called: Classes::Zero,
         size: size_of(accepted),
-        window: if is_two {
-            widest_window()
-        } else {
-            window_of(credit)
-        },
+        window: window_of(accepted.request.credit),
         refuses: false,
     }
 }

@@ -319,10 +319,15 @@ impl Player {
         self.ask(Side::Left, command)
     }
 
-    /// The user of a side makes a call. All that it sends leaves.
-    pub(crate) fn call(&mut self, side: Side, request: Request<'_>) -> Result<(), Halt> {
+    /// The user of a side makes a call. All that it sends leaves. If it waits for credit the other side first takes so many TSDUs.
+    pub(crate) fn call(
+        &mut self,
+        side: Side,
+        request: Request<'_>,
+        ahead: usize,
+    ) -> Result<(), Halt> {
         self.begin_call(side, request)?;
-        self.drain(side)
+        self.drain(side, ahead)
     }
 
     fn begin_call(&mut self, side: Side, request: Request<'_>) -> Result<(), Halt> {
@@ -337,8 +342,13 @@ impl Player {
         )
     }
 
-    /// Octets are carried both ways until a side has sent all that waits for credit.
-    fn drain(&mut self, side: Side) -> Result<(), Halt> {
+    /// Octets are carried both ways until a side has sent all that waits for credit. First the other side takes so many TSDUs, and what
+    /// acknowledges them is carried: that may be enough.
+    fn drain(&mut self, side: Side, ahead: usize) -> Result<(), Halt> {
+        if self.unsent(side) == 0 {
+            return Ok(());
+        }
+        self.carry_tsdus(side, ahead, false)?;
         'turns: for _ in 0..MOST_TURNS {
             if self.unsent(side) == 0 {
                 return Ok(());
@@ -379,6 +389,7 @@ impl Player {
         side: Side,
         user_data: &[u8],
         parts: usize,
+        ahead: usize,
     ) -> Result<(), Halt> {
         let before = self.sent(side);
         let waiting = self.outgoing(side).len();
@@ -386,7 +397,7 @@ impl Player {
         let more = self.outgoing(side).get(waiting..).unwrap_or_default();
         let ends = ends_in(self.alloc, more)?;
         let is_same = ends.len() == parts;
-        self.drain(side)?;
+        self.drain(side, ahead)?;
         'parts: for part in 0..parts.saturating_sub(1) {
             let end = if is_same {
                 ends.get(part).copied().unwrap_or(0)

@@ -245,13 +245,27 @@ impl<'c, 'p> Telling<'c, 'p> {
         Ok(None)
     }
 
+    /// How many TSDUs of the other side, of those that were told, a side takes before it sends its next unit.
+    fn ahead(&self, side: Side) -> usize {
+        let Some((said, _)) = self.next_of(side) else {
+            return 0;
+        };
+        let most = if said.is_answer {
+            said.taken.saturating_sub(1)
+        } else {
+            said.taken
+        };
+        most.min(self.player.tsdus(other(side)))
+    }
+
     /// A side sends data in parts. Says how many of its units are told then.
     fn say_parts(&mut self, side: Side) -> Result<usize, Halt> {
         let Some(joined) = self.joined(side)? else {
             return Err(Halt::NoCall);
         };
+        let ahead = self.ahead(other(side));
         self.player
-            .send_parts(side, joined.octets.as_slice(), joined.tsdus)?;
+            .send_parts(side, joined.octets.as_slice(), joined.tsdus, ahead)?;
         Ok(joined.units)
     }
 
@@ -264,7 +278,10 @@ impl<'c, 'p> Telling<'c, 'p> {
             return self.say_connect();
         }
         match request_of(message, self.offer) {
-            Some(request) => self.player.call(side, request),
+            Some(request) => {
+                let ahead = self.ahead(other(side));
+                self.player.call(side, request, ahead)
+            }
             None => Err(Halt::NoCall),
         }
     }
