@@ -743,7 +743,9 @@ void osi_judge_free(osi_judge *judge);
  * once, and what has passed of unfinished ones: at most 3,145,728 octets, of which each TSDU counts 48 more
  * than it has. So data may pass for ever, and a TSDU of each side may be as long as one may be. If there is no
  * room for a DT, the connection is judged no further, and the verdict on a side that was kept until then is
- * OSI_VERDICT_NOT_JUDGED with OSI_RULE_LIMIT. What is kept of a connection takes at most 8 MiB, and stays until osi_judge_free, also if the connection is over. */
+ * OSI_VERDICT_NOT_JUDGED with OSI_RULE_LIMIT. What is kept of a connection takes at most 8 MiB. Once it is over
+ * and another connection has its place, some 100 octets are left of it, and as much again for each side that
+ * broke the protocol; they stay until osi_judge_free. */
 uint32_t osi_judge_feed(osi_judge *judge, uint32_t side, const uint8_t *piece, size_t length, size_t *used) OSI_LOOK;
 
 /* Writes a verdict that is certain to *verdict: OSI_OK. If there is none the struct is all 0: OSI_NOTHING; or
