@@ -27,8 +27,8 @@ static const struct packet packets[] = {
 };
 #define PACKETS (sizeof packets / sizeof packets[0])
 #define PIECE 6u
-/* More than the judge has places for without more memory. */
-#define CONNECTIONS 300
+/* More than a growth or two have room for. */
+#define CONNECTIONS 100
 
 static osi_judge judge;
 static struct text told, ample, written;

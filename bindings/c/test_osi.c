@@ -693,7 +693,7 @@ static void each_word_is_known(void)
 /* The packet of a minor synchronisation point with this number, in a DT of class 2 to reference 2. Returns its length. */
 static size_t point_of(uint8_t *packet, unsigned number)
 {
-    const uint8_t head[] = {3, 0, 0, 0, 4, 0xF0, 0, 2, 0x80 | ((number + 1) & 127), 1, 0, 49, 0, 42, 0};
+    const uint8_t head[] = {3, 0, 0, 0, 4, 0xF0, 0, 2, 0x80 | (number & 127), 1, 0, 49, 0, 42, 0};
     memcpy(packet, head, sizeof head);
     const int digits = snprintf((char *)packet + sizeof head, 7, "%u", number);
     packet[14] = (uint8_t)digits;
@@ -712,7 +712,7 @@ static unsigned points_that_fit(osi_judge *judge)
     do {
         length = point_of(packet, ++number);
         pass(judge, OSI_LEFT, packet, length);
-        ak[8] = (number + 2) & 127;
+        ak[8] = (number + 1) & 127;
         pass(judge, OSI_RIGHT, ak, sizeof ak);
         kept += length - 9 + OF_EACH_TSDU;
     } while (kept <= MOST_KEPT && has_none(judge));
