@@ -31,6 +31,13 @@ BLAMES = re.compile(r"(left|right) (\d+ )?(broke packet|leaves packet|too many|n
 OWN = re.compile(r"(left|right) not judged after \1 (packet .*)")
 
 
+def point(number):
+    """The packet of a minor synchronization point, in a DT of class 0."""
+    digits = str(number).encode("ascii")
+    user = bytes([1, 0, 49, 2 + len(digits), 42, len(digits)]) + digits
+    return bytes([3, 0, 0, 7 + len(user), 2, 0xF0, 0x80]) + user
+
+
 def opened(opening=OPENING) -> Judge:
     judge = Judge()
     for side, octets in opening:
@@ -148,10 +155,11 @@ class Judges(unittest.TestCase):
             self.assertEqual(text.splitlines(), printed, title)
 
     def test_a_judge_keeps_no_more_than_its_bound(self):
-        judge, told = opened(), []
-        part = DT[:6] + b"\0" + DT[7:]  # a part of a TSDU that has no end
-        while not told:
-            told = [one for side in TapSide for one in judge.feed(side, part * 1000)]
+        judge, told, number = opened(), [], 0
+        while not told:  # points, each of which is kept, since it has a number of its own
+            told = list(judge.feed(TapSide.LEFT, b"".join(map(point, range(number + 1, number + 1001)))))
+            number += 1000
+        self.assertGreater(number, 50_000)
         self.assertEqual([(one.side, one.kind, one.rule) for one in told],
                          [(side, VerdictKind.NOT_JUDGED, Rule.LIMIT) for side in TapSide])
         self.assertEqual(list(judge.feed(TapSide.RIGHT, DT)), [])

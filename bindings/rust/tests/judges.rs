@@ -52,20 +52,27 @@ fn a_break_is_told_once() {
     assert_eq!(text.lines().last(), Some("right broke the protocol first, packet 41: Data TokenNotHeld"));
 }
 
+/// The packet of a minor synchronization point, in a DT of class 0.
+fn point(number: u32) -> Vec<u8> {
+    let digits = number.to_string();
+    let length = digits.len() as u8;
+    let head = [3, 0, 0, 13 + length, 2, 0xF0, 0x80, 1, 0, 49, 2 + length, 42, length];
+    [&head, digits.as_bytes()].concat()
+}
+
 #[test]
 fn a_judge_keeps_no_more_than_its_bound() {
     let mut judge = opened();
-    // A part of a TSDU that has no end, of each side.
-    let part = [&DT[..6], &[0], &DT[7..]].concat();
-    let mut sent = 0;
+    // Points, each of which is kept, since it has a number of its own.
+    let mut number = 0;
     let told = loop {
-        judge.feed(if sent % 2 == 0 { TapSide::Left } else { TapSide::Right }, &part).unwrap();
-        sent += 1;
+        number += 1;
+        judge.feed(TapSide::Left, &point(number)).unwrap();
         if let Some(told) = judge.next_verdict().unwrap() {
             break told;
         }
     };
-    assert!(sent * part.len() > 1_000_000);
+    assert!(number > 50_000);
     assert_eq!((told.side, told.kind, told.rule), (TapSide::Left, VerdictKind::NotJudged, Rule::Limit));
     let told = judge.next_verdict().unwrap().unwrap();
     assert_eq!((told.side, told.kind, told.rule), (TapSide::Right, VerdictKind::NotJudged, Rule::Limit));
