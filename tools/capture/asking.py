@@ -160,7 +160,7 @@ def why_not(stream):
         return f"the first {gap.many()} of {gap.side} are lost, at frame {gap.frame}" if gap.octets else \
             f"the first octets of {gap.side}, in frame {gap.frame}, were sent again as others in frame {gap.again}"
     silent = set(streams.SIDES) - {side for side, _ in stream.by_side()}
-    return f"{silent.pop()} sent nothing" if len(silent) == 1 else None
+    return f"{silent.pop()} sent nothing" if len(silent) == 1 and not gap else None
 
 
 def write_all(files):

@@ -15,8 +15,8 @@ def coded(octets):
 
 
 def optional(octets):
-    """User data, which is not written if it is empty."""
-    return coded(octets) if octets else 0
+    """User data, which is not written if it is empty. If its length isn't known (None), neither is that of the unit (TypeError)."""
+    return coded(octets) if octets != 0 else 0
 
 
 def serial_length(number):

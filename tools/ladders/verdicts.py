@@ -163,7 +163,7 @@ def tokens_missed(verdict, side, what, packet):
     """Which tokens a side did not hold, and since when the other side held them, if that is known."""
     state = verdict.state(side)
     needed = (packet and packet.tokens) if what == "Give" else NEEDS.get(what)
-    missed = [name for name, bit, _ in TOKENS if name in (needed or ()) and state and not state.held & bit]
+    missed = [name for name, bit, _ in TOKENS if name in (needed or ()) and (len(needed) == 1 if state is None else not state.held & bit)]
     since = {name: packet.since(other(side), name) for name in missed} if packet else {}
     told = [f"the {tokens} with {other(side)} since {place}" for tokens, place in together(since)]
     if told:
