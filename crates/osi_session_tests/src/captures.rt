@@ -5,7 +5,7 @@ use crate::checks::Checks;
 use crate::sessions::cut;
 use crate::taps::{CC, CR, DT, MIP, taken};
 use osi_judge::{Direction, Finding};
-use osi_tap::Tap;
+use osi_tap::{Found, Tap};
 use std::alloc::Global;
 use std::test::Fail;
 
@@ -196,8 +196,10 @@ fn feed(checks: &Checks, tap: &mut Tap, direction: Direction, octets: &[u8], mos
 /// Whether this is found of both sides of the connection.
 fn are_found(tap: &Tap, left: Finding, right: Finding) -> bool {
     match tap.connection(0) {
-        Some(connection) => connection.finding(Left) == left && connection.finding(Right) == right,
-        None => false,
+        Some(Found::Placed(connection)) => {
+            connection.finding(Left) == left && connection.finding(Right) == right
+        }
+        _ => false,
     }
 }
 
@@ -280,10 +282,10 @@ fn feed_a_thousand(checks: &Checks, tap: &mut Tap) {
 /// Whether left said this many TSDUs, and the session of right heard them.
 fn are_said(tap: &Tap, told: usize) -> bool {
     match tap.connection(0) {
-        Some(connection) => {
+        Some(Found::Placed(connection)) => {
             connection.side(Left).told() == told && connection.side(Right).heard() == told
         }
-        None => false,
+        _ => false,
     }
 }
 
