@@ -48,30 +48,30 @@ pub use Rattle.osi_machine.specs.Machine.{Ending, Entry, HasNumber, Step, calls,
 pub use Rattle.osi_machine.specs.Sayings.{one_or_none, said_in, units_in}
 pub use Rattle.osi_machine.specs.Tables.{Line, Seat, Tables, refusal, run, step}
 pub use Rattle.osi_machine.specs.Worlds.{Message, Transport, accepts, class_0, gone, linked, replied, unit}
-pub use Rattle.osi_judge.proofs.honest.a_caller_is_explained.{front_told}
-pub use Rattle.osi_judge.specs.Captures.{Capture, Passed, other}
-pub use Rattle.osi_judge.specs.Explaining.{Explains, IsExplained, Remark, Told, remark, remarks, remarks_of}
-pub use Rattle.osi_judge.specs.declared.directions.Direction.{Direction}
-pub use Rattle.osi_judge.specs.declared.directions.Direction.TheVariants.{Left, Right}
-pub use Rattle.osi_judge.specs.declared.findings.Finding.TheVariants.{Broke, Kept}
+pub use Rattle.osi_side.proofs.honest.a_caller_is_explained.{front_told}
+pub use Rattle.osi_side.specs.Captures.{Capture, Passed, other}
+pub use Rattle.osi_side.specs.Explaining.{Explains, IsExplained, Remark, Told, remark, remarks, remarks_of}
+pub use Rattle.osi_side.specs.declared.directions.Direction.{Direction}
+pub use Rattle.osi_side.specs.declared.directions.Direction.TheVariants.{Left, Right}
+pub use Rattle.osi_side.specs.declared.findings.Finding.TheVariants.{Broke, Kept}
 pub use Rattle.osi_tpkt.specs.Stream.{offset_of}
 pub use Rattle.osi_tpdu.specs.Value.{Value}
-pub use Rattle.osi_tap.proofs.a_claim_on_connections_holds_of_captures.{IsClaim, after_kept}
-pub use Rattle.osi_tap.proofs.a_piece_comes_to_what_its_octets_do.{after_more}
-pub use Rattle.osi_tap.proofs.what_is_kept_of_a_side_is_what_passed.{found_at}
-pub use Rattle.osi_tap.specs.Connections.{Joined, Sessions, adds_all, adds_if, all_begin, asked, changed, count, has_number, meant}
-pub use Rattle.osi_tap.specs.Connections.{none, numbered, packet_begins, placed, source_of, spoken, taken, taken_at}
-pub use Rattle.osi_tap.specs.Holding.{HoldsJoined, line_in}
-pub use Rattle.osi_tap.specs.Lines.{Spoken, before, begun_octets, heard, silent, told, told_of}
-pub use Rattle.osi_tap.specs.Tapping.{begin_within}
-pub use Rattle.osi_tap.specs.declared.connections.Connection.{Connection}
-pub use Rattle.osi_tap.specs.declared.rooms.Room.{Room}
+pub use Rattle.osi_judge.proofs.a_claim_on_connections_holds_of_captures.{IsClaim, after_kept}
+pub use Rattle.osi_judge.proofs.a_piece_comes_to_what_its_octets_do.{after_more}
+pub use Rattle.osi_judge.proofs.what_is_kept_of_a_side_is_what_passed.{found_at}
+pub use Rattle.osi_judge.specs.Connections.{Joined, Sessions, adds_all, adds_if, all_begin, asked, changed, count, has_number, meant}
+pub use Rattle.osi_judge.specs.Connections.{none, numbered, packet_begins, placed, source_of, spoken, taken, taken_at}
+pub use Rattle.osi_judge.specs.Holding.{HoldsJoined, line_in}
+pub use Rattle.osi_judge.specs.Lines.{Spoken, before, begun_octets, heard, silent, told, told_of}
+pub use Rattle.osi_judge.specs.States.{begin_within}
+pub use Rattle.osi_judge.specs.declared.connections.Connection.{Connection}
+pub use Rattle.osi_judge.specs.declared.rooms.Room.{Room}
 pub use Rattle.osi_accord.specs.Accords.{Accords, AreInOrder, Sending, Turn, end_of, octets_told, own, sending, sending_of, told_by}
 pub use Rattle.osi_accord.specs.Accords.{tsdus_by, turn, words_in}
 pub use Rattle.osi_accord.specs.Liberties.{IsCall, as_called, has_size_of, has_sizes_of, is_called}
 pub use Rattle.osi_accord.specs.Machines.{AreWritten, IsByCall, IsCoreCall, IsMessage, Plays, TakesNoLiberty, Utterance, connect_of}
 pub use Rattle.osi_accord.specs.Machines.{is_connect, sent_at, side_at, utters}
 pub use Rattle.osi_accord.specs.Pairs.{Pair, Party, channel_of, has_taken, pair_of, party_of, session_of, with_channel, with_session}
-pub use Rattle.osi_accord.specs.Taps.{AreTold, BeginWith, IsAccord, IsFoundOn, IsToldOn, connection_in}
+pub use Rattle.osi_accord.specs.Judges.{AreTold, BeginWith, IsAccord, IsFoundOn, IsToldOn, connection_in}
 pub use Rattle.osi_accord.specs.Wholes.{CallsAndAnswers, IsAnyCall, IsByAnyCall, PlaysWhole, end_if, its_own, start_0, uttered_at}
 pub use Rattle.osi_accord.specs.Wholes.{uttered_by, uttered_in}

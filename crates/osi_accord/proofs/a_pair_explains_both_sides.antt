@@ -3,7 +3,7 @@
 use Rattle.osi_accord.proofs.Vocabulary.{[], ap, arith, get_or, length, List, map, refl, subst, ℕ, ◌++◌, ◌+◌, ◌∙◌, ◌∷◌, ◌≡◌}
 use Rattle.osi_accord.proofs.Vocabulary.{get_or-append_seam, flat_map, Seen, Takes, Explains, IsExplained, Remark, remarks, Direction, Left}
 use Rattle.osi_accord.proofs.Vocabulary.{Right, Accords, Sending, sending, sending_of, told_by, tsdus_by, Turn, turn, Pair, pair_of}
-use Rattle.osi_judge.specs.Explaining as explained
+use Rattle.osi_side.specs.Explaining as explained
 use Rattle.osi_accord.specs.Accords as accord
 use Rattle.osi_accord.proofs.two_runs_are_one.{one_more, remarks_are, said_as, taken_one}
 

@@ -5,20 +5,20 @@ use Rattle.osi_accord.proofs.Vocabulary.{◌^◌, ◌∙◌, ◌∷◌, ◌≡�
 use Rattle.osi_accord.proofs.Vocabulary.{Left, Right, Broke, Kept, begin_within, Connection, found_at, heard, HoldsJoined, Joined, line_in}
 use Rattle.osi_accord.proofs.Vocabulary.{Room, Spoken, told, told_of, connection_in, IsAccord, IsFoundOn, IsToldOn, AreTold, octets_told, told_by}
 use Rattle.osi_accord.proofs.Vocabulary.{Turn, tsdus_by}
-use Rattle.osi_judge.specs.declared.findings.Finding.{Finding}
-use Rattle.osi_judge.specs.declared.findings.Finding.TheVariants as finding
-use Rattle.osi_judge.specs.Captures.{other}
-use Rattle.osi_judge.specs.Judging.{IsFound}
-use Rattle.osi_judge.specs.Sides.{begin_of}
-use Rattle.osi_tap.specs.declared.outcomes.Outcome.{Outcome}
-use Rattle.osi_tap.specs.declared.outcomes.Outcome.TheVariants as outcome
-use Rattle.osi_tap.specs.declared.pasts.Past.{Past}
-use Rattle.osi_tap.specs.Connections.{spoken}
-use Rattle.osi_tap.specs.Outcomes.{IsOutcomeOf, SaysSo}
-use Rattle.osi_tap.specs.Pasts.{HoldsPast, outcome_in}
-use Rattle.osi_tap.proofs.the_session_of_a_side_is_known.{session_found}
-use Rattle.osi_tap.specs.Lines.{Said, octets_of}
-use Rattle.osi_tap.specs.Tapping.{after}
+use Rattle.osi_side.specs.declared.findings.Finding.{Finding}
+use Rattle.osi_side.specs.declared.findings.Finding.TheVariants as finding
+use Rattle.osi_side.specs.Captures.{other}
+use Rattle.osi_side.specs.Judging.{IsFound}
+use Rattle.osi_side.specs.Sides.{begin_of}
+use Rattle.osi_judge.specs.declared.outcomes.Outcome.{Outcome}
+use Rattle.osi_judge.specs.declared.outcomes.Outcome.TheVariants as outcome
+use Rattle.osi_judge.specs.declared.pasts.Past.{Past}
+use Rattle.osi_judge.specs.Connections.{spoken}
+use Rattle.osi_judge.specs.Outcomes.{IsOutcomeOf, SaysSo}
+use Rattle.osi_judge.specs.Pasts.{HoldsPast, outcome_in}
+use Rattle.osi_judge.proofs.the_session_of_a_side_is_known.{session_found}
+use Rattle.osi_judge.specs.Lines.{Said, octets_of}
+use Rattle.osi_judge.specs.States.{after}
 use Rattle.osi_accord.proofs.a_pair_explains_both_sides.{both_explained}
 use Rattle.osi_accord.proofs.one_connection_has_a_number.{told_of_one}
 use Rattle.osi_accord.proofs.two_runs_are_one.{accord_of}
@@ -86,11 +86,11 @@ not_blamed Right room number capture turns i a f =
     let e = right_told turns f.connection are (both_explained seen_calling seen_called turns a.runs).1 in
     f.found.0.broke (grind (arith, front_told, take-append-drop (i + 1) (told f.connection.right)))
 
--- ---- what a tap tells
+-- ---- what a judge tells
 
-pub tap_tells : (d : Direction) (room : Room) (number : ℕ) (capture : Capture) (c : Connection) (j : Joined) →
+pub judge_tells : (d : Direction) (room : Room) (number : ℕ) (capture : Capture) (c : Connection) (j : Joined) →
     connection_in room number capture ≡ Some j → HoldsJoined c j → IsFoundOn d room number capture (line_in d c).side.finding
-tap_tells d room number capture c j e h = record { connection = j; there = e; found = found_at d c j h }
+judge_tells d room number capture c j e h = record { connection = j; there = e; found = found_at d c j h }
 
 -- of a connection that is over
 

@@ -5,7 +5,7 @@ use Rattle.osi_accord.proofs.Vocabulary.{true, ℕ, ◌++◌, ◌+◌, ◌<◌, 
 use Rattle.osi_accord.proofs.Vocabulary.{answers_word, CanSay, Count, listens, Seen, Takes, Explains, IsExplained, Remark, remark, remarks}
 use Rattle.osi_accord.proofs.Vocabulary.{remarks_of, Told, Direction, Left, Right, Accords, AreInOrder, Sending, sending, sending_of}
 use Rattle.osi_accord.proofs.Vocabulary.{told_by, tsdus_by, Turn, turn, words_in, Pair, pair_of, Party}
-use Rattle.osi_judge.specs.Explaining as explained
+use Rattle.osi_side.specs.Explaining as explained
 use Rattle.osi_accord.specs.Accords as accord
 
 -- ---- a pair, seen from one of its sides

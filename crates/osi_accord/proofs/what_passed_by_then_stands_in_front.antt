@@ -4,7 +4,7 @@ use Rattle.osi_accord.proofs.Vocabulary.{[], ap, append-nil, append_assoc, arith
 use Rattle.osi_accord.proofs.Vocabulary.{List, refl, Some, subst, suc, sym, take, take-append-le, true, zero, ℕ, ◌++◌, ◌-◌, ◌<◌, ◌^◌, ◌∙◌}
 use Rattle.osi_accord.proofs.Vocabulary.{◌∷◌, ◌≡◌, ◌≤◌, ◌⊎◌, Capture, Passed, after_kept, after_more, begin_within, Joined, Room, AreTold}
 use Rattle.osi_accord.proofs.Vocabulary.{BeginWith, connection_in, Turn}
-use Rattle.osi_tap.specs.Tapping.{State, after}
+use Rattle.osi_judge.specs.States.{State, after}
 use Rattle.osi_accord.proofs.one_connection_has_a_number.{Later, Tells, later_claim, nothing_told, same_later, told_of_one}
 
 take_all : (k : ℕ) (capture : Capture) → length capture ≤ k → take k capture ≡ capture

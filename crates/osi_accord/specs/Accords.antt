@@ -7,10 +7,10 @@ use Rattle.osi_message.specs.Reading.{said_at}
 use Rattle.osi_message.specs.Words.{Word, Words}
 use Rattle.osi_session.specs.Joining.{acting_words}
 use Rattle.osi_session.specs.Standing.{Count, Seen, CanSay, Takes, answers_word, listens}
-use Rattle.osi_judge.specs.declared.directions.Direction.{Direction}
-use Rattle.osi_judge.specs.declared.directions.Direction.TheVariants.{Left, Right}
-use Rattle.osi_judge.specs.Captures.{other}
-use Rattle.osi_judge.specs.Explaining.{Told}
+use Rattle.osi_side.specs.declared.directions.Direction.{Direction}
+use Rattle.osi_side.specs.declared.directions.Direction.TheVariants.{Left, Right}
+use Rattle.osi_side.specs.Captures.{other}
+use Rattle.osi_side.specs.Explaining.{Told}
 use Rattle.osi_accord.specs.Pairs.{Pair, session_of, taken_of, channel_of, with_session, with_channel, has_taken}
 
 -- ---- what both sides send

@@ -1,6 +1,6 @@
 pub mod Pairs
 pub mod Accords
-pub mod Taps
+pub mod Judges
 pub mod Liberties
 pub mod Machines
 pub mod Wholes

@@ -14,8 +14,8 @@ use Rattle.osi_session.specs.Standing.{Seen}
 use Rattle.osi_machine.specs.Core.{Core, CoreStep, Offer, Side, call_at, core_run, core_step, offer_sent, stays_in_core, take_at}
 use Rattle.osi_machine.specs.Core as machine
 use Rattle.osi_machine.specs.Parties.{IsNumberedStep}
-use Rattle.osi_judge.specs.declared.directions.Direction.{Direction}
-use Rattle.osi_judge.specs.declared.directions.Direction.TheVariants.{Left, Right}
+use Rattle.osi_side.specs.declared.directions.Direction.{Direction}
+use Rattle.osi_side.specs.declared.directions.Direction.TheVariants.{Left, Right}
 use Rattle.osi_accord.specs.Accords.{Accords, Sending, sending, words_in}
 use Rattle.osi_accord.specs.Accords as accord
 use Rattle.osi_accord.specs.Liberties.{IsCall}

@@ -1,9 +1,9 @@
 -- Two sessions that are connected: each sends TSDUs, and takes those of the other in the order in which they were sent.
 use Rattle.std.specs.Prelude.{ℕ, ◌+◌, List, []}
 use Rattle.osi_session.specs.Standing.{Seen, Count, after_count}
-use Rattle.osi_judge.specs.declared.directions.Direction.{Direction}
-use Rattle.osi_judge.specs.declared.directions.Direction.TheVariants.{Left, Right}
-use Rattle.osi_judge.specs.Captures.{other}
+use Rattle.osi_side.specs.declared.directions.Direction.{Direction}
+use Rattle.osi_side.specs.declared.directions.Direction.TheVariants.{Left, Right}
+use Rattle.osi_side.specs.Captures.{other}
 
 -- A side: its session, how many TSDUs of the other side it has taken, and the TSDUs that it has sent and the other side has not
 -- taken, the oldest first.

@@ -12,8 +12,8 @@ use Rattle.osi_machine.specs.Machine.{Ending, HasNumber, Step, closed_here}
 use Rattle.osi_machine.specs.Sayings.{said_at, units_in}
 use Rattle.osi_machine.specs.Tables.{Line, Tables, run, start, step}
 use Rattle.osi_machine.specs.Worlds.{accepts, class_0}
-use Rattle.osi_judge.specs.declared.directions.Direction.{Direction}
-use Rattle.osi_judge.specs.declared.directions.Direction.TheVariants.{Left, Right}
+use Rattle.osi_side.specs.declared.directions.Direction.{Direction}
+use Rattle.osi_side.specs.declared.directions.Direction.TheVariants.{Left, Right}
 use Rattle.osi_accord.specs.Accords.{Accords, Sending}
 use Rattle.osi_accord.specs.Accords as accord
 use Rattle.osi_accord.specs.Liberties.{IsCall}

@@ -15,21 +15,21 @@ ghost use Rattle.osi_machine.specs.Promises.{IsReached};
 ghost use Rattle.osi_machine.specs.Sayings.{said_in};
 ghost use Rattle.osi_machine.specs.Tables.{refusal};
 ghost use Rattle.osi_machine.specs.Tables as tables;
-ghost use Rattle.osi_judge.specs.declared.directions.Direction.{Direction};
-ghost use Rattle.osi_judge.specs.declared.findings.Finding.{Finding};
-ghost use Rattle.osi_judge.specs.Captures.{Capture};
-ghost use Rattle.osi_judge.specs.Explaining.{IsExplained};
-ghost use Rattle.osi_tap.specs.declared.connections.Connection.{Connection};
-ghost use Rattle.osi_tap.specs.declared.rooms.Room.{Room};
-ghost use Rattle.osi_tap.specs.declared.pasts.Past.{Past};
-ghost use Rattle.osi_tap.specs.Connections.{Joined};
-ghost use Rattle.osi_tap.specs.Holding.{HoldsJoined, line_in};
-ghost use Rattle.osi_tap.specs.Pasts.{HoldsPast, outcome_in};
+ghost use Rattle.osi_side.specs.declared.directions.Direction.{Direction};
+ghost use Rattle.osi_side.specs.declared.findings.Finding.{Finding};
+ghost use Rattle.osi_side.specs.Captures.{Capture};
+ghost use Rattle.osi_side.specs.Explaining.{IsExplained};
+ghost use Rattle.osi_judge.specs.declared.connections.Connection.{Connection};
+ghost use Rattle.osi_judge.specs.declared.rooms.Room.{Room};
+ghost use Rattle.osi_judge.specs.declared.pasts.Past.{Past};
+ghost use Rattle.osi_judge.specs.Connections.{Joined};
+ghost use Rattle.osi_judge.specs.Holding.{HoldsJoined, line_in};
+ghost use Rattle.osi_judge.specs.Pasts.{HoldsPast, outcome_in};
 ghost use Rattle.osi_accord.specs.Accords.{Accords, AreInOrder, Sending, Turn, end_of, sending_of, told_by, tsdus_by};
 ghost use Rattle.osi_accord.specs.Liberties.{IsCall, as_called, is_called};
 ghost use Rattle.osi_accord.specs.Machines.{AreWritten, IsMessage, Plays, TakesNoLiberty, Utterance, connect_of, side_at, utters};
 ghost use Rattle.osi_accord.specs.Pairs.{Pair, pair_of};
-ghost use Rattle.osi_accord.specs.Taps.{IsAccord, IsFoundOn, IsToldOn, connection_in};
+ghost use Rattle.osi_accord.specs.Judges.{IsAccord, IsFoundOn, IsToldOn, connection_in};
 ghost use Rattle.osi_accord.specs.Wholes.{CallsAndAnswers, PlaysWhole, start_0, uttered_by, uttered_in};
 
 use osi_message::laws::what_is_sent_is_read;
@@ -48,17 +48,17 @@ pub fn two_explained_sides_are_a_pair()
         × IsExplained right (tsdus_by Direction.Left turns) (told_by Direction.Right turns) }
 {}
 
-/// If a tap finds that both sides of a connection kept the protocol, there are two sessions, a calling and a called one, that make
+/// If a judge finds that both sides of a connection kept the protocol, there are two sessions, a calling and a called one, that make
 /// what passed on it (`pair`), in class 0 and in class 2, among any number of other connections. They send all its whole TSDUs that
-/// the tap judges, in the order in which these had passed as a whole. A side takes a TSDU after the other side has sent it, and before
+/// the judge judges, in the order in which these had passed as a whole. A side takes a TSDU after the other side has sent it, and before
 /// it sends a TSDU it takes only those that had passed as a whole before the first packet of that one. And if there are two such
-/// sessions, the tap blames neither side (`only`). What the tap finds of a side is what it tells of a connection that it has with
-/// this number: one that has a place (`told`, [`osi_tap::Tap::connection`], [`osi_tap::Connection::finding`]), or one that is over and
-/// whose place another has (`over`, [`osi_tap::Past::outcome`]).
+/// sessions, the judge blames neither side (`only`). What the judge finds of a side is what it tells of a connection that it has with
+/// this number: one that has a place (`told`, [`osi_judge::Judge::connection`], [`osi_judge::Connection::finding`]), or one that is over and
+/// whose place another has (`over`, [`osi_judge::Past::outcome`]).
 ///
-/// A tap judges all TSDUs that passed, but for those after a break of transport that ends the judging of their side or of the
-/// connection, and those beyond its bound, if it has one ([`osi_tap::Connection::is_over`]). It is assumed that the number of the
-/// connection is below 2^64 - 1: a tap counts no further.
+/// A judge judges all TSDUs that passed, but for those after a break of transport that ends the judging of their side or of the
+/// connection, and those beyond its bound, if it has one ([`osi_judge::Connection::is_over`]). It is assumed that the number of the
+/// connection is below 2^64 - 1: a judge counts no further.
 pub fn two_kept_sides_are_a_pair()
     ensures pair { (room : Room) (number : ℕ) (capture : Capture) → number < 2 ^ 64 - 1 →
         IsFoundOn Direction.Left room number capture Finding.Kept → IsFoundOn Direction.Right room number capture Finding.Kept →

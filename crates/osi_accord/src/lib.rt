@@ -12,10 +12,10 @@
 //!   (`Takes`, `CanSay`).
 //! - [`laws::two_explained_sides_are_a_pair`]: two sides that are explained apart from each other have such a run, and only
 //!   such sides have one. All that is needed is that each TSDU that counts as passed before another one stands before it.
-//! - `IsAccord` (`specs/Taps.antt`) is such a run for a connection of a capture, of class 0 or 2, as a tap reads it (`osi_tap`).
+//! - `IsAccord` (`specs/Judges.antt`) is such a run for a connection of a capture, of class 0 or 2, as a judge reads it (`osi_judge`).
 //!   The TSDUs are sent in the order in which they had passed as a whole, and before a TSDU its side takes only what had passed
-//!   before it. [`laws::two_kept_sides_are_a_pair`]: if a tap finds that both sides kept the protocol there is one, and if there is
-//!   one the tap blames neither side.
+//!   before it. [`laws::two_kept_sides_are_a_pair`]: if a judge finds that both sides kept the protocol there is one, and if there is
+//!   one the judge blames neither side.
 //!
 //! The judge is wider than the sessions of this product, because X.225 allows more than they do. Three laws say by how much:
 //!

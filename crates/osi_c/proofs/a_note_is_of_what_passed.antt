@@ -2,21 +2,21 @@
 -- For the functions of `notes` and `verdicts`.
 use Rattle.std.proofs.Common.{arith, ◌≡◌, ◌∙◌, sym, ℕ, Bool, Option, Some, None}
 use Rattle.std.specs.Prelude.{◌&&◌, not}
-use Rattle.osi_judge.specs.declared.directions.Direction.{Direction}
-use Rattle.osi_judge.specs.declared.findings.Finding.{Finding}
-use Rattle.osi_tap.specs.declared.outcomes.Outcome.{Outcome}
-use Rattle.osi_tap.specs.declared.outcomes.Outcome.TheVariants as outcome
-use Rattle.osi_tap.specs.declared.outcomes.Violation.{Violation}
-use Rattle.osi_tap.specs.declared.sessions.Found.{Found}
-use Rattle.osi_tap.specs.Outcomes.{IsOutcomeOf, violation_of}
-use Rattle.osi_judge.specs.Captures.{other}
-use Rattle.osi_tap.specs.declared.connections.Connection.{Connection}
-use Rattle.osi_tap.specs.Connections.{Joined, spoken}
-use Rattle.osi_tap.specs.Holding.{line_in, HoldsEither, HoldsFound, HoldsJoined, IsHeard, IsPlace}
-use Rattle.osi_tap.specs.Rooms.{is_over}
-use Rattle.osi_tap.proofs.the_session_of_a_side_is_known.{session_at}
-use Rattle.osi_dispute.specs.Telling.{is_dropped, leaves}
-use Rattle.osi_dispute.proofs.a_report_says_what_a_tap_holds.{found_leaves}
+use Rattle.osi_side.specs.declared.directions.Direction.{Direction}
+use Rattle.osi_side.specs.declared.findings.Finding.{Finding}
+use Rattle.osi_judge.specs.declared.outcomes.Outcome.{Outcome}
+use Rattle.osi_judge.specs.declared.outcomes.Outcome.TheVariants as outcome
+use Rattle.osi_judge.specs.declared.outcomes.Violation.{Violation}
+use Rattle.osi_judge.specs.declared.sessions.Found.{Found}
+use Rattle.osi_judge.specs.Outcomes.{IsOutcomeOf, violation_of}
+use Rattle.osi_side.specs.Captures.{other}
+use Rattle.osi_judge.specs.declared.connections.Connection.{Connection}
+use Rattle.osi_judge.specs.Connections.{Joined, spoken}
+use Rattle.osi_judge.specs.Holding.{line_in, HoldsEither, HoldsFound, HoldsJoined, IsHeard, IsPlace}
+use Rattle.osi_judge.specs.Rooms.{is_over}
+use Rattle.osi_judge.proofs.the_session_of_a_side_is_known.{session_at}
+use Rattle.osi_report.specs.Telling.{is_dropped, leaves}
+use Rattle.osi_report.proofs.a_report_says_what_a_judge_holds.{found_leaves}
 use Rattle.osi_c.specs.Notes.{note_of_found, note_of_outcome, note_unless, IsNoteOf, IsNoteAt}
 use Rattle.osi_c.specs.Verdicts.{named_in}
 use Rattle.osi_c.specs.declared.notes.Note.{Note}

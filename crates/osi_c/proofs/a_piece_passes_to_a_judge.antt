@@ -4,44 +4,44 @@ use Rattle.std.proofs.Common.{Bool, ◌==◌}
 use Rattle.std.specs.Prelude.{Result, Ok, Err, OnErr}
 use Rattle.std.proofs.lemmas.List.{append-nil, append_assoc, map-append, length-append, take-append-drop}
 use Rattle.std.proofs.Math.Seq.{take-append_seam}
-use Rattle.osi_judge.specs.declared.directions.Direction.{Direction}
-use Rattle.osi_judge.specs.declared.directions.Direction.TheVariants.{Left}
-use Rattle.osi_judge.specs.Captures.{Capture, of, piece, stream}
-use Rattle.osi_tap.proofs.a_piece_comes_to_what_its_octets_do.{after_more}
-use Rattle.osi_tap.specs.declared.rooms.Room.TheVariants.{Octets}
-use Rattle.osi_tap.specs.Standing.{HoldsState}
-use Rattle.osi_tap.specs.Tapping.{State, after, begin_within}
-use Rattle.osi_dispute.specs.Openings.{Opens}
-use Rattle.osi_dispute.specs.declared.openings.Opening.{Opening}
+use Rattle.osi_side.specs.declared.directions.Direction.{Direction}
+use Rattle.osi_side.specs.declared.directions.Direction.TheVariants.{Left}
+use Rattle.osi_side.specs.Captures.{Capture, of, piece, stream}
+use Rattle.osi_judge.proofs.a_piece_comes_to_what_its_octets_do.{after_more}
+use Rattle.osi_judge.specs.declared.rooms.Room.TheVariants.{Octets}
+use Rattle.osi_judge.specs.Standing.{HoldsState}
+use Rattle.osi_judge.specs.States.{State, after, begin_within}
+use Rattle.osi_report.specs.Openings.{Opens}
+use Rattle.osi_report.specs.declared.openings.Opening.{Opening}
 use Rattle.osi_c.specs.Judges.{fed, Knows, Passes, TakesPiece}
-use Rattle.osi_c.specs.declared.judges.Judge.{Judge}
+use Rattle.osi_c.specs.declared.judges.HeldJudge.{HeldJudge}
 
 -- ---- what a judge knows
 
 fed_more : (a b : Capture) → fed (a ++ b) ≡ after b (fed a)
 fed_more a b = after_more a b (begin_within (Octets 3145728))
 
--- octets passed to its tap and to its opening
-pub octets_known : (d : Direction) (octets : List ℕ) (old new : Judge)
-    → ((s : State) → HoldsState old.tap s → HoldsState new.tap (after (piece d octets) s))
+-- octets passed to its judge and to its opening
+pub octets_known : (d : Direction) (octets : List ℕ) (old new : HeldJudge)
+    → ((s : State) → HoldsState old.judge s → HoldsState new.judge (after (piece d octets) s))
     → ((capture : Capture) → Opens old.opening (stream Left capture) → Opens new.opening (stream Left (capture ++ piece d octets)))
     → (capture : Capture) → Knows old capture → Knows new (capture ++ piece d octets)
-octets_known d octets old new taps opens capture k = record {
-  holds = subst (HoldsState new.tap) (sym (fed_more capture (piece d octets))) (taps (fed capture) k.holds);
+octets_known d octets old new judges opens capture k = record {
+  holds = subst (HoldsState new.judge) (sym (fed_more capture (piece d octets))) (judges (fed capture) k.holds);
   opens = opens capture k.opens;
 }
 
--- its tap goes on, and nothing passes
-pub still_known : (old new : Judge) → ((s : State) → HoldsState old.tap s → HoldsState new.tap s) → new.opening ≡ old.opening
+-- its judge goes on, and nothing passes
+pub still_known : (old new : HeldJudge) → ((s : State) → HoldsState old.judge s → HoldsState new.judge s) → new.opening ≡ old.opening
     → (capture : Capture) → Knows old capture → Knows new capture
-still_known old new taps same capture k = record {
-  holds = taps (fed capture) k.holds;
+still_known old new judges same capture k = record {
+  holds = judges (fed capture) k.holds;
   opens = subst (λ (o : Opening). Opens o (stream Left capture)) (sym same) k.opens;
 }
 
 -- ---- nothing passes
 
-pub none_passes : (d : Direction) (old new : Judge) → ((capture : Capture) → Knows old capture → Knows new capture)
+pub none_passes : (d : Direction) (old new : HeldJudge) → ((capture : Capture) → Knows old capture → Knows new capture)
     → new.told ≡ old.told → new.text ≡ old.text → Passes d [] old new
 none_passes d old new knows told text = record {
   knows = λ capture k. subst (Knows new) (sym (append-nil capture)) (knows capture k);
@@ -55,7 +55,7 @@ joined : (d : Direction) (capture : Capture) (a b : List ℕ) → (capture ++ pi
 joined d capture a b =
     append_assoc capture (piece d a) (piece d b) ∙ ap (λ (z : Capture). capture ++ z) (sym (map-append (of d) a b))
 
-both_pass : (d : Direction) (old now new : Judge) (a b : List ℕ) → Passes d a old now → Passes d b now new → Passes d (a ++ b) old new
+both_pass : (d : Direction) (old now new : HeldJudge) (a b : List ℕ) → Passes d a old now → Passes d b now new → Passes d (a ++ b) old new
 both_pass d old now new a b p q = record {
   knows = λ capture k. subst (Knows new) (joined d capture a b) (q.knows (capture ++ piece d a) (p.knows capture k));
   told = q.told ∙ p.told;
@@ -63,15 +63,15 @@ both_pass d old now new a b p q = record {
 }
 
 -- of a piece these octets are left, and the others passed
-pub record IsPassing (d : Direction) (octets rest : List ℕ) (old now : Judge) : Type 0 where
+pub record IsPassing (d : Direction) (octets rest : List ℕ) (old now : HeldJudge) : Type 0 where
   pub fed : List ℕ
   pub parts : octets ≡ fed ++ rest
   pub passes : Passes d fed old now
 
-pub nothing_passed : (d : Direction) (octets : List ℕ) (w : Judge) → IsPassing d octets octets w w
+pub nothing_passed : (d : Direction) (octets : List ℕ) (w : HeldJudge) → IsPassing d octets octets w w
 nothing_passed d octets w = record { fed = []; parts = refl; passes = none_passes d w w (λ capture k. k) refl refl }
 
-pub more_passed : (d : Direction) (octets rest : List ℕ) (old now new : Judge) (n : ℕ) → IsPassing d octets rest old now
+pub more_passed : (d : Direction) (octets rest : List ℕ) (old now new : HeldJudge) (n : ℕ) → IsPassing d octets rest old now
     → Passes d (take n rest) now new → IsPassing d octets (drop n rest) old new
 more_passed d octets rest old now new n p q = record {
   fed = p.fed ++ take n rest;
@@ -81,17 +81,17 @@ more_passed d octets rest old now new n p q = record {
 
 -- ---- a piece
 
-counted : (d : Direction) (octets rest : List ℕ) (old now : Judge) (p : IsPassing d octets rest old now)
+counted : (d : Direction) (octets rest : List ℕ) (old now : HeldJudge) (p : IsPassing d octets rest old now)
     → length octets ≡ length p.fed + length rest
 counted d octets rest old now p = ap length p.parts ∙ length-append p.fed rest
 
 -- of which so many passed
-passed : (d : Direction) (octets rest : List ℕ) (old now : Judge) (n : ℕ) (p : IsPassing d octets rest old now) → n ≡ length p.fed
+passed : (d : Direction) (octets rest : List ℕ) (old now : HeldJudge) (n : ℕ) (p : IsPassing d octets rest old now) → n ≡ length p.fed
     → TakesPiece d octets n old now
 passed d octets rest old now n p is = grind (arith, counted d octets rest old now p, take-append_seam)
 
 -- all
-pub all_passed : (d : Direction) (octets rest : List ℕ) (old now : Judge) → rest ≡ [] → IsPassing d octets rest old now
+pub all_passed : (d : Direction) (octets rest : List ℕ) (old now : HeldJudge) → rest ≡ [] → IsPassing d octets rest old now
     → TakesPiece d octets (length octets) old now
 all_passed d octets rest old now none p =
     let m = counted d octets rest old now p in let z : length rest ≡ 0 = ap length none in
@@ -101,7 +101,7 @@ last_fed : (fed rest : List ℕ) (n m : ℕ) → n ≡ m - length rest → m ≡
 last_fed fed rest n m is all = let e = ap length (append-nil fed) in omega (arith, is, all, e)
 
 -- or memory ran out
-pub refused : (d : Direction) (octets rest : List ℕ) (old now new : Judge) (n : ℕ) → n ≡ length octets - length rest
+pub refused : (d : Direction) (octets rest : List ℕ) (old now new : HeldJudge) (n : ℕ) → n ≡ length octets - length rest
     → IsPassing d octets rest old now → Passes d [] now new → TakesPiece d octets n old new
 refused d octets rest old now new n is p q =
     let r : IsPassing d octets rest old new = record {

@@ -1,24 +1,24 @@
--- If nothing is due of each connection that a tap holds, nothing is due of the connection with any number.
+-- If nothing is due of each connection that a judge holds, nothing is due of the connection with any number.
 -- For `is_still`, `due_by`, `due_of_each` and `sessions_due`.
 use Rattle.std.proofs.Common.{◌≡◌, ◌∙◌, refl, sym, ap, subst, ℕ, zero, suc, ◌+◌, ◌<◌, ◌≤◌, ◌⊎◌, inl, inr, arith, List, [], ◌∷◌, ◌++◌, length, get_or}
 use Rattle.std.proofs.Common.{Bool, true, false, Option, Some, None}
 use Rattle.std.proofs.lemmas.Bool.{eqb-true}
 use Rattle.std.specs.Prelude.{IfNone, slice_get}
 use Rattle.std.specs.List.{find}
-use Rattle.osi_judge.specs.Captures.{Capture}
-use Rattle.osi_judge.specs.declared.directions.Direction.{Direction}
-use Rattle.osi_judge.specs.declared.directions.Direction.TheVariants.{Left, Right}
-use Rattle.osi_tap.specs.declared.connections.Connection.{Connection}
-use Rattle.osi_tap.specs.declared.pasts.Past.{Past}
-use Rattle.osi_tap.specs.Connections.{Joined, has_number, numbered}
-use Rattle.osi_tap.specs.Pasts.{AllPast, HoldsPast}
-use Rattle.osi_tap.specs.Holding.{AreHeard, HoldAll, HoldsJoined, IsHeard}
-use Rattle.osi_tap.specs.Standing.{HoldsState, IsJudged, IsSettled}
-use Rattle.osi_tap.specs.Tapping.{State}
+use Rattle.osi_side.specs.Captures.{Capture}
+use Rattle.osi_side.specs.declared.directions.Direction.{Direction}
+use Rattle.osi_side.specs.declared.directions.Direction.TheVariants.{Left, Right}
+use Rattle.osi_judge.specs.declared.connections.Connection.{Connection}
+use Rattle.osi_judge.specs.declared.pasts.Past.{Past}
+use Rattle.osi_judge.specs.Connections.{Joined, has_number, numbered}
+use Rattle.osi_judge.specs.Pasts.{AllPast, HoldsPast}
+use Rattle.osi_judge.specs.Holding.{AreHeard, HoldAll, HoldsJoined, IsHeard}
+use Rattle.osi_judge.specs.Standing.{HoldsState, IsJudged, IsSettled}
+use Rattle.osi_judge.specs.States.{State}
 use Rattle.osi_c.specs.Judges.{fed, Knows}
 use Rattle.osi_c.specs.Notes.{IsNoteAt, IsNoteOf, IsStill, IsStillOf, IsStillPast, StillIf, StillPastIf, is_certain}
 use Rattle.osi_c.specs.Fetching.{is_among, HasNone, HasNoneBy, HasNoneByEach, HasNoneByPast, HasNoneByPasts, HasNoneOf, HasNoneOfSessions}
-use Rattle.osi_c.specs.declared.judges.Judge.{Judge}
+use Rattle.osi_c.specs.declared.judges.HeldJudge.{HeldJudge}
 use Rattle.osi_c.specs.declared.notes.Note.{Note}
 use Rattle.osi_c.specs.declared.notes.Note.TheVariants as note
 use Rattle.osi_c.specs.declared.subjects.Subject.{Subject}
@@ -44,11 +44,11 @@ pub none_as : {X : Type 0} (r : Option X) (A B : Type 0) → (A → B) → IfNon
 none_as h h2 h3 f h4 = grind arith
 
 -- by its number
-pub by_its_number : (w : Judge) (told : List Subject) (c : Connection) (n : ℕ) → ((j : Joined) → HoldsJoined c j → n ≡ j.number)
+pub by_its_number : (w : HeldJudge) (told : List Subject) (c : Connection) (n : ℕ) → ((j : Joined) → HoldsJoined c j → n ≡ j.number)
     → HasNoneOf w told n → HasNoneBy w told c
 by_its_number w told c n is h = inr (λ j holds. subst (λ (m : ℕ). HasNoneOf w told m) (is j holds) h)
 
-pub past_by_its_number : (w : Judge) (told : List Subject) (p : Past) (n : ℕ) → ((j : Joined) → HoldsPast p j → n ≡ j.number)
+pub past_by_its_number : (w : HeldJudge) (told : List Subject) (p : Past) (n : ℕ) → ((j : Joined) → HoldsPast p j → n ≡ j.number)
     → HasNoneOf w told n → HasNoneByPast w told p
 past_by_its_number w told p n is h = inr (λ j holds. subst (λ (m : ℕ). HasNoneOf w told m) (is j holds) h)
 
@@ -79,14 +79,14 @@ each_place P cs m le h i c e = let lt = within cs i c e in h i c (omega (arith, 
 -- ---- the one with a number
 
 -- nothing is certain of a side of a connection, or nothing is due of it
-abbrev Silent : Direction → Judge → List Subject → Joined → Type 0
+abbrev Silent : Direction → HeldJudge → List Subject → Joined → Type 0
 Silent d w told j = IsStillOf d j ⊎ HasNone w told (Session j.number d)
 
-abbrev AreSilent : Direction → Judge → List Subject → List Joined → Type 0
+abbrev AreSilent : Direction → HeldJudge → List Subject → List Joined → Type 0
 AreSilent d w told [] = Unit {0}
 AreSilent d w told (j ∷ js) = Silent d w told j × AreSilent d w told js
 
-none_of_a_side : (d : Direction) (w : Judge) (told : List Subject) (n : ℕ) → HasNoneOf w told n → HasNone w told (Session n d)
+none_of_a_side : (d : Direction) (w : HeldJudge) (told : List Subject) (n : ℕ) → HasNoneOf w told n → HasNone w told (Session n d)
 none_of_a_side Left w told n h = h.0
 none_of_a_side Right w told n h = h.1
 
@@ -94,14 +94,14 @@ still_of : (d : Direction) (c : Connection) (j : Joined) → IsStill c → Holds
 still_of Left c j still h k = (still j h k).0
 still_of Right c j still h k = (still j h k).1
 
-silent : (d : Direction) (w : Judge) (told : List Subject) (c : Connection) (j : Joined) → HoldsJoined c j → IsHeard c → HasNoneBy w told c
+silent : (d : Direction) (w : HeldJudge) (told : List Subject) (c : Connection) (j : Joined) → HoldsJoined c j → IsHeard c → HasNoneBy w told c
     → Silent d w told j
 silent d w told c j h k none = elim none [
   | inl still ↦ inl (still_of d c j still h k)
   | inr due ↦ inr (none_of_a_side d w told j.number (due j h))
 ]
 
-all_silent : (d : Direction) (w : Judge) (told : List Subject) (cs : List Connection) (js : List Joined) → HoldAll cs js → AreHeard cs
+all_silent : (d : Direction) (w : HeldJudge) (told : List Subject) (cs : List Connection) (js : List Joined) → HoldAll cs js → AreHeard cs
     → HasNoneByEach w told cs → AreSilent d w told js
 all_silent d w told [] [] h k each = tt
 all_silent d w told [] (j ∷ js) h k each = absurd h
@@ -113,14 +113,14 @@ past_still_of : (d : Direction) (p : Past) (j : Joined) → IsStillPast p → Ho
 past_still_of Left p j still h = (still j h).0
 past_still_of Right p j still h = (still j h).1
 
-past_silent : (d : Direction) (w : Judge) (told : List Subject) (p : Past) (j : Joined) → HoldsPast p j → HasNoneByPast w told p
+past_silent : (d : Direction) (w : HeldJudge) (told : List Subject) (p : Past) (j : Joined) → HoldsPast p j → HasNoneByPast w told p
     → Silent d w told j
 past_silent d w told p j h none = elim none [
   | inl still ↦ inl (past_still_of d p j still h)
   | inr due ↦ inr (none_of_a_side d w told j.number (due j h))
 ]
 
-pasts_silent : (d : Direction) (w : Judge) (told : List Subject) (ps : List Past) (js : List Joined) → AllPast ps js
+pasts_silent : (d : Direction) (w : HeldJudge) (told : List Subject) (ps : List Past) (js : List Joined) → AllPast ps js
     → HasNoneByPasts w told ps → AreSilent d w told js
 pasts_silent d w told [] [] h each = tt
 pasts_silent d w told [] (j ∷ js) h each = absurd h
@@ -128,16 +128,16 @@ pasts_silent d w told (p ∷ ps) [] h each = absurd h
 pasts_silent d w told (p ∷ ps) (j ∷ js) h each =
     (past_silent d w told p j h.0 (each zero p refl), pasts_silent d w told ps js h.1 (λ i x e. each (suc i) x e))
 
-both_silent : (d : Direction) (w : Judge) (told : List Subject) (js ks : List Joined) → AreSilent d w told js → AreSilent d w told ks
+both_silent : (d : Direction) (w : HeldJudge) (told : List Subject) (js ks : List Joined) → AreSilent d w told js → AreSilent d w told ks
     → AreSilent d w told (js ++ ks)
 both_silent d w told [] ks h k = k
 both_silent d w told (j ∷ js) ks h k = (h.0, both_silent d w told js ks h.1 k)
 
-abbrev SilentAt : Direction → Judge → List Subject → ℕ → Option Joined → Type 0
+abbrev SilentAt : Direction → HeldJudge → List Subject → ℕ → Option Joined → Type 0
 SilentAt d w told number None = Unit {0}
 SilentAt d w told number (Some j) = (j.number ≡ number) × Silent d w told j
 
-silent_found : (d : Direction) (w : Judge) (told : List Subject) (number : ℕ) (js : List Joined) → AreSilent d w told js
+silent_found : (d : Direction) (w : HeldJudge) (told : List Subject) (number : ℕ) (js : List Joined) → AreSilent d w told js
     → SilentAt d w told number (find (has_number number) js)
 silent_found d w told number [] h = tt
 silent_found d w told number (j ∷ js) h = grind (arith, eqb-true, silent_found d w told number js h.1)
@@ -149,16 +149,16 @@ not_both b h k = cc
 abbrev IsStillAt : Direction → Option Joined → Type 0
 IsStillAt d o = (n : Note) × IsNoteAt d o n × (is_certain n ≡ false)
 
-of_none : (d : Direction) (w : Judge) (told : List Subject) (capture : Capture) (number : ℕ) (j : Joined) → j.number ≡ number
-    → Knows w capture → IsSettled w.tap → is_among told (Session number d) ≡ false → HasNone w told (Session j.number d)
+of_none : (d : Direction) (w : HeldJudge) (told : List Subject) (capture : Capture) (number : ℕ) (j : Joined) → j.number ≡ number
+    → Knows w capture → IsSettled w.judge → is_among told (Session number d) ≡ false → HasNone w told (Session j.number d)
     → IsStillAt d (numbered number (fed capture).course.sessions)
 of_none d w told capture number j e h k fresh none = elim none [
   | inl before ↦ absurd (not_both (is_among told (Session number d)) (ap (λ (n : ℕ). is_among told (Session n d)) (sym e) ∙ before) fresh)
   | inr nothing ↦ subst (λ (n : ℕ). IsStillAt d (numbered n (fed capture).course.sessions)) e (nothing capture h k)
 ]
 
-note_of_silent : (d : Direction) (w : Judge) (told : List Subject) (capture : Capture) (number : ℕ) (o : Option Joined)
-    → numbered number (fed capture).course.sessions ≡ o → Knows w capture → IsSettled w.tap → is_among told (Session number d) ≡ false
+note_of_silent : (d : Direction) (w : HeldJudge) (told : List Subject) (capture : Capture) (number : ℕ) (o : Option Joined)
+    → numbered number (fed capture).course.sessions ≡ o → Knows w capture → IsSettled w.judge → is_among told (Session number d) ≡ false
     → SilentAt d w told number o → IsStillAt d (numbered number (fed capture).course.sessions)
 note_of_silent d w told capture number None e h k fresh is =
     subst (λ (o : Option Joined). IsStillAt d o) (sym e) (note.Silent, refl, refl)
@@ -169,12 +169,12 @@ note_of_silent d w told capture number (Some j) e h k fresh is = elim is.1 [
 
 -- ---- any number
 
-module _ (w : Judge) (told : List Subject) (cs : List Connection) (ps : List Past)
-    (placed : (s : State) → HoldsState w.tap s → IsJudged w.tap → HoldAll cs s.course.sessions.live)
-    (heard : IsSettled w.tap → AreHeard cs)
-    (replaced : (s : State) → HoldsState w.tap s → IsJudged w.tap → AllPast ps s.course.sessions.done)
+module _ (w : HeldJudge) (told : List Subject) (cs : List Connection) (ps : List Past)
+    (placed : (s : State) → HoldsState w.judge s → IsJudged w.judge → HoldAll cs s.course.sessions.live)
+    (heard : IsSettled w.judge → AreHeard cs)
+    (replaced : (s : State) → HoldsState w.judge s → IsJudged w.judge → AllPast ps s.course.sessions.done)
     (each : HasNoneByEach w told cs) (gone : HasNoneByPasts w told ps) where
-  by_number : (d : Direction) (number : ℕ) (capture : Capture) → Knows w capture → IsSettled w.tap
+  by_number : (d : Direction) (number : ℕ) (capture : Capture) → Knows w capture → IsSettled w.judge
       → is_among told (Session number d) ≡ false → IsStillAt d (numbered number (fed capture).course.sessions)
   by_number d number capture h k fresh =
       let all = (fed capture).course.sessions in

@@ -3,13 +3,13 @@
 use Rattle.std.proofs.Common.{◌≡◌, ◌∙◌, sym, ap, subst, inl, inr, arith, Bool, List, [], ◌∷◌, ◌++◌, true, false, is_some, Option}
 use Rattle.std.proofs.Common.{Some, None}
 use Rattle.std.specs.Prelude.{IfSome, IfNone}
-use Rattle.osi_judge.specs.Captures.{Capture, stream}
-use Rattle.osi_judge.specs.declared.directions.Direction.TheVariants.{Left, Right}
-use Rattle.osi_tap.specs.Standing.{HoldsState, IsSettled, first_in}
-use Rattle.osi_tap.specs.Tapping.{State}
-use Rattle.osi_tap.specs.declared.tap.Tap.{Tap}
-use Rattle.osi_dispute.specs.Openings.{Opens}
-use Rattle.osi_dispute.specs.declared.openings.Opening.{Opening}
+use Rattle.osi_side.specs.Captures.{Capture, stream}
+use Rattle.osi_side.specs.declared.directions.Direction.TheVariants.{Left, Right}
+use Rattle.osi_judge.specs.Standing.{HoldsState, IsSettled, first_in}
+use Rattle.osi_judge.specs.States.{State}
+use Rattle.osi_judge.specs.declared.judge.Judge.{Judge}
+use Rattle.osi_report.specs.Openings.{Opens}
+use Rattle.osi_report.specs.declared.openings.Opening.{Opening}
 use Rattle.osi_c.specs.Judges.{fed, Keeps, Knows}
 use Rattle.osi_c.specs.Verdicts.{Shows}
 use Rattle.osi_c.specs.Notes.{Tells, TellsNothing, is_certain}
@@ -20,14 +20,14 @@ use Rattle.osi_c.specs.declared.verdicts.OsiVerdict.{OsiVerdict}
 use Rattle.osi_c.specs.declared.notes.Note.{Note}
 use Rattle.osi_c.specs.declared.subjects.Subject.{Subject}
 use Rattle.osi_c.specs.declared.subjects.Subject.TheVariants.{Transport, Rest}
-use Rattle.osi_c.specs.declared.judges.Judge.{Judge}
+use Rattle.osi_c.specs.declared.judges.HeldJudge.{HeldJudge}
 use Rattle.osi_c.specs.declared.fetching.Fetched.{Fetched}
 use Rattle.osi_c.specs.declared.fetching.Fetched.TheVariants as fetched
 use Rattle.osi_c.proofs.a_piece_passes_to_a_judge.{still_known}
 
 -- ---- a subject
 
-pub none_of : (w : Judge) (told : List Subject) (k : Subject) (n : Note) → Tells w k n → is_certain n ≡ false → HasNone w told k
+pub none_of : (w : HeldJudge) (told : List Subject) (k : Subject) (n : Note) → Tells w k n → is_certain n ≡ false → HasNone w told k
 none_of w told k n tells e = inr (λ capture h settled. (n, tells capture h settled, e))
 
 -- ---- some of several
@@ -35,12 +35,12 @@ none_of w told k n tells e = inr (λ capture h settled. (n, tells capture h sett
 pub none_of_both : {X : Type 0} (r : Option X) (A B : Type 0) → A → IfNone r B → IfNone r (A × B)
 none_of_both h h2 h3 a b = grind arith
 
-pub none_of_transport : {X : Type 0} (r : Option X) (w : Judge) (told : List Subject)
+pub none_of_transport : {X : Type 0} (r : Option X) (w : HeldJudge) (told : List Subject)
     → HasNone w told (Transport Left) × HasNone w told (Transport Right)
     → IfNone r (HasNone w told (Rest Left) × HasNone w told (Rest Right)) → IfNone r (HasNoneOfTransport w told)
 none_of_transport h w told a b = grind arith
 
-pub none_at_all : {X : Type 0} (r : Option X) (w : Judge) (told : List Subject) → HasNoLeading w told
+pub none_at_all : {X : Type 0} (r : Option X) (w : HeldJudge) (told : List Subject) → HasNoLeading w told
     → IfNone r (HasNoneOfTransport w told × HasNoneOfSessions w told) → IfNone r (HasNothing w told)
 none_at_all h w told a b = grind arith
 
@@ -50,11 +50,11 @@ both_some h h2 h3 h4 k = grind arith
 pub some_as : {X : Type 0} (r : Option X) (P Q : X → Type 0) → ((x : X) → P x → Q x) → IfSome r P → IfSome r Q
 some_as h h2 h3 f h4 = grind arith
 
-pub no_leading : (w : Judge) (told : List Subject) (o : Option Subject) → o ≡ leading (first_in w.tap) → HasNoneIf w told o
+pub no_leading : (w : HeldJudge) (told : List Subject) (o : Option Subject) → o ≡ leading (first_in w.judge) → HasNoneIf w told o
     → HasNoLeading w told
 no_leading w told o e h = subst (HasNoneIf w told) e h
 
-pub none_if_leading : {X : Type 0} (r : Option X) (w : Judge) (told : List Subject) (k : Subject) → Some k ≡ leading (first_in w.tap)
+pub none_if_leading : {X : Type 0} (r : Option X) (w : HeldJudge) (told : List Subject) (k : Subject) → Some k ≡ leading (first_in w.judge)
     → IfNone r (HasNone w told k) → IfNone r (HasNoLeading w told)
 none_if_leading h w told k e h2 = grind (arith, no_leading)
 
@@ -68,83 +68,83 @@ none_is h h2 e h3 = grind arith
 
 -- ---- a judge that was told of more
 
--- it keeps its tap, its opening and its text
-pub record IsSame (old new : Judge) : Type 0 where
-  pub tap : new.tap ≡ old.tap
+-- it keeps its judge, its opening and its text
+pub record IsSame (old new : HeldJudge) : Type 0 where
+  pub judge : new.judge ≡ old.judge
   pub opening : new.opening ≡ old.opening
   pub text : new.text ≡ old.text
 
 -- so it knows the same
-same_known : (old new : Judge) → IsSame old new → (capture : Capture) → Knows old capture → Knows new capture
+same_known : (old new : HeldJudge) → IsSame old new → (capture : Capture) → Knows old capture → Knows new capture
 same_known old new s capture k = record {
-  holds = subst (λ (t : Tap). HoldsState t (fed capture)) (sym s.tap) k.holds;
+  holds = subst (λ (t : Judge). HoldsState t (fed capture)) (sym s.judge) k.holds;
   opens = subst (λ (o : Opening). Opens o (stream Left capture)) (sym s.opening) k.opens;
 }
 
-known_before : (old new : Judge) → IsSame old new → (capture : Capture) → Knows new capture → Knows old capture
+known_before : (old new : HeldJudge) → IsSame old new → (capture : Capture) → Knows new capture → Knows old capture
 known_before old new s capture k = record {
-  holds = subst (λ (t : Tap). HoldsState t (fed capture)) s.tap k.holds;
+  holds = subst (λ (t : Judge). HoldsState t (fed capture)) s.judge k.holds;
   opens = subst (λ (o : Opening). Opens o (stream Left capture)) s.opening k.opens;
 }
 
-settled_before : (old new : Judge) → IsSame old new → IsSettled new.tap → IsSettled old.tap
-settled_before old new s k = subst IsSettled s.tap k
+settled_before : (old new : HeldJudge) → IsSame old new → IsSettled new.judge → IsSettled old.judge
+settled_before old new s k = subst IsSettled s.judge k
 
-same_tells : (old new : Judge) (k : Subject) (n : Note) → IsSame old new → Tells old k n → Tells new k n
+same_tells : (old new : HeldJudge) (k : Subject) (n : Note) → IsSame old new → Tells old k n → Tells new k n
 same_tells old new k n s tells capture h settled = tells capture (known_before old new s capture h) (settled_before old new s settled)
 
-same_nothing : (old new : Judge) (k : Subject) → IsSame old new → TellsNothing old k → TellsNothing new k
+same_nothing : (old new : HeldJudge) (k : Subject) → IsSame old new → TellsNothing old k → TellsNothing new k
 same_nothing old new k s tells capture h settled = tells capture (known_before old new s capture h) (settled_before old new s settled)
 
-same_late : (b : Bool) (old new : Judge) → IsSame old new → MayBeLate b old → MayBeLate b new
+same_late : (b : Bool) (old new : HeldJudge) → IsSame old new → MayBeLate b old → MayBeLate b new
 same_late b old new s late capture h settled = late capture (known_before old new s capture h) (settled_before old new s settled)
 
-same_none : (old new : Judge) (told : List Subject) (k : Subject) → IsSame old new → HasNone old told k → HasNone new told k
+same_none : (old new : HeldJudge) (told : List Subject) (k : Subject) → IsSame old new → HasNone old told k → HasNone new told k
 same_none old new told k s h = elim h [ inl before ↦ inl before | inr nothing ↦ inr (same_nothing old new k s nothing) ]
 
-same_none_if : (old new : Judge) (told : List Subject) (o : Option Subject) → IsSame old new → HasNoneIf old told o → HasNoneIf new told o
+same_none_if : (old new : HeldJudge) (told : List Subject) (o : Option Subject) → IsSame old new → HasNoneIf old told o → HasNoneIf new told o
 same_none_if old new told None s h = h
 same_none_if old new told (Some k) s h = same_none old new told k s h
 
-same_turn : (old new : Judge) (told : List Subject) (k : Subject) → IsSame old new → InTurn old told k → InTurn new told k
+same_turn : (old new : HeldJudge) (told : List Subject) (k : Subject) → IsSame old new → InTurn old told k → InTurn new told k
 same_turn old new told k s h = elim h [
-  | inl leads ↦ inl (subst (λ (t : Tap). leading (first_in t) ≡ Some k) (sym s.tap) leads)
-  | inr none ↦ inr (subst (λ (t : Tap). HasNoneIf new told (leading (first_in t))) (sym s.tap)
-      (same_none_if old new told (leading (first_in old.tap)) s none))
+  | inl leads ↦ inl (subst (λ (t : Judge). leading (first_in t) ≡ Some k) (sym s.judge) leads)
+  | inr none ↦ inr (subst (λ (t : Judge). HasNoneIf new told (leading (first_in t))) (sym s.judge)
+      (same_none_if old new told (leading (first_in old.judge)) s none))
 ]
 
-pub same_kept : (old new : Judge) → IsSame old new → new.told.items ≡ old.told.items → Keeps old new
+pub same_kept : (old new : HeldJudge) → IsSame old new → new.told.items ≡ old.told.items → Keeps old new
 same_kept old new s told = record { knows = same_known old new s; told = told; text = s.text }
 
--- its tap goes on, and nothing passes
-pub tap_kept : (old new : Judge) → ((s : State) → HoldsState old.tap s → HoldsState new.tap s) → new.opening ≡ old.opening
+-- its judge goes on, and nothing passes
+pub judge_kept : (old new : HeldJudge) → ((s : State) → HoldsState old.judge s → HoldsState new.judge s) → new.opening ≡ old.opening
     → new.told.items ≡ old.told.items → new.text ≡ old.text → Keeps old new
-tap_kept old new holds opening told text = record { knows = still_known old new holds opening; told = told; text = text }
+judge_kept old new holds opening told text = record { knows = still_known old new holds opening; told = told; text = text }
 
-pub late_is : (b t : Bool) (w : Judge) → MayBeLate b w → b ≡ t → MayBeLate t w
+pub late_is : (b t : Bool) (w : HeldJudge) → MayBeLate b w → b ≡ t → MayBeLate t w
 late_is b t w h e = subst (λ (x : Bool). MayBeLate x w) e h
 
 -- ---- a verdict
 
 -- that is due, once all that passed is judged
-pub given : (old new : Judge) (k : Subject) (n : Note) (v : OsiVerdict) → IsSettled old.tap → MayBeLate false old
-    → InTurn old old.told.items k → IsDue old old.told.items k n → Shows old.tap k n v → IsSame old new
+pub given : (old new : HeldJudge) (k : Subject) (n : Note) (v : OsiVerdict) → IsSettled old.judge → MayBeLate false old
+    → InTurn old old.told.items k → IsDue old old.told.items k n → Shows old.judge k n v → IsSame old new
     → new.told.items ≡ old.told.items ++ k ∷ [] → Gives old v new
 given old new k n v settled decided turn due shows s told = record {
   knows = same_known old new s;
-  settled = subst IsSettled (sym s.tap) settled;
+  settled = subst IsSettled (sym s.judge) settled;
   decided = same_late false old new s decided;
   subject = k;
   tells = n;
   turn = same_turn old new old.told.items k s turn;
   due = record { fresh = due.fresh; tells = same_tells old new k n s due.tells; certain = due.certain };
-  shows = subst (λ (t : Tap). Shows t k n v) (sym s.tap) shows;
+  shows = subst (λ (t : Judge). Shows t k n v) (sym s.judge) shows;
   told = told;
   text = s.text;
 }
 
--- what is fetched after the tap has judged all that passed
-pub kept_after : (old now new : Judge) → ((capture : Capture) → Knows old capture → Knows now capture)
+-- what is fetched after the judge has judged all that passed
+pub kept_after : (old now new : HeldJudge) → ((capture : Capture) → Knows old capture → Knows now capture)
     → now.told.items ≡ old.told.items → now.text ≡ old.text → Keeps now new → Keeps old new
 kept_after old now new knows told text g = record {
   knows = λ capture k. g.knows capture (knows capture k);
@@ -152,7 +152,7 @@ kept_after old now new knows told text g = record {
   text = g.text ∙ text;
 }
 
-given_after : (old now new : Judge) (v : OsiVerdict) → ((capture : Capture) → Knows old capture → Knows now capture)
+given_after : (old now new : HeldJudge) (v : OsiVerdict) → ((capture : Capture) → Knows old capture → Knows now capture)
     → now.told.items ≡ old.told.items → now.text ≡ old.text → Gives now v new → Gives old v new
 given_after old now new v knows told text g = record {
   knows = λ capture k. g.knows capture (knows capture k);
@@ -167,14 +167,14 @@ given_after old now new v knows told text g = record {
   text = g.text ∙ text;
 }
 
-none_after : (old now new : Judge) → ((capture : Capture) → Knows old capture → Knows now capture)
+none_after : (old now new : HeldJudge) → ((capture : Capture) → Knows old capture → Knows now capture)
     → now.told.items ≡ old.told.items → now.text ≡ old.text → GivesNone now new → GivesNone old new
 none_after old now new knows told text g = record {
   settles = record { keeps = kept_after old now new knows told text g.settles.keeps; settled = g.settles.settled };
   none = g.none;
 }
 
-pub after_settling : (r : Fetched) (old now new : Judge) → ((s : State) → HoldsState old.tap s → HoldsState now.tap s)
+pub after_settling : (r : Fetched) (old now new : HeldJudge) → ((s : State) → HoldsState old.judge s → HoldsState now.judge s)
     → now.opening ≡ old.opening → now.told.items ≡ old.told.items → now.text ≡ old.text → HasFetched r now new → HasFetched r old new
 after_settling (fetched.Given v) old now new holds opening told text h =
     given_after old now new v (still_known old now holds opening) told text h

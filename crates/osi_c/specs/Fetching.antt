@@ -2,15 +2,15 @@
 use Rattle.std.specs.Prelude.{◌≡◌, ◌⊎◌, ◌<◌, ℕ, Bool, true, false, List, [], ◌∷◌, ◌++◌, Option, Some, None, slice_get}
 use Rattle.std.specs.List.{list_any}
 use Rattle.osi_tpkt.specs.Stream.{offset_of}
-use Rattle.osi_judge.specs.Captures.{Capture, stream}
-use Rattle.osi_judge.specs.declared.directions.Direction.TheVariants.{Left, Right}
-use Rattle.osi_tap.specs.declared.connections.Connection.{Connection}
-use Rattle.osi_tap.specs.Connections.{Joined, count}
-use Rattle.osi_tap.specs.declared.pasts.Past.{Past}
-use Rattle.osi_tap.specs.Holding.{HoldsJoined}
-use Rattle.osi_tap.specs.Pasts.{HoldsPast}
-use Rattle.osi_tap.specs.Standing.{IsSettled, first_in}
-use Rattle.osi_dispute.specs.Openings.{may_be_late}
+use Rattle.osi_side.specs.Captures.{Capture, stream}
+use Rattle.osi_side.specs.declared.directions.Direction.TheVariants.{Left, Right}
+use Rattle.osi_judge.specs.declared.connections.Connection.{Connection}
+use Rattle.osi_judge.specs.Connections.{Joined, count}
+use Rattle.osi_judge.specs.declared.pasts.Past.{Past}
+use Rattle.osi_judge.specs.Holding.{HoldsJoined}
+use Rattle.osi_judge.specs.Pasts.{HoldsPast}
+use Rattle.osi_judge.specs.Standing.{IsSettled, first_in}
+use Rattle.osi_report.specs.Openings.{may_be_late}
 use Rattle.osi_c.specs.Codes.{coded}
 use Rattle.osi_c.specs.Judges.{fed, Knows, Keeps, Settles}
 use Rattle.osi_c.specs.Notes.{IsStill, IsStillPast, Tells, TellsNothing, is_certain}
@@ -18,7 +18,7 @@ use Rattle.osi_c.specs.Subjects.{same, leading}
 use Rattle.osi_c.specs.Verdicts.{Shows, nothing}
 use Rattle.osi_c.specs.declared.fetching.Fetched.{Fetched}
 use Rattle.osi_c.specs.declared.fetching.Fetched.TheVariants as fetched
-use Rattle.osi_c.specs.declared.judges.Judge.{Judge}
+use Rattle.osi_c.specs.declared.judges.HeldJudge.{HeldJudge}
 use Rattle.osi_c.specs.declared.notes.Note.{Note}
 use Rattle.osi_c.specs.declared.subjects.Subject.{Subject}
 use Rattle.osi_c.specs.declared.subjects.Subject.TheVariants.{Session, Transport, Rest}
@@ -30,91 +30,91 @@ abbrev pub is_among : List Subject → Subject → Bool
 is_among told k = list_any (λ x. same x k) told
 
 -- it is certain, and C was not told of it
-pub record IsDue (w : Judge) (told : List Subject) (k : Subject) (n : Note) : Type 0 where
+pub record IsDue (w : HeldJudge) (told : List Subject) (k : Subject) (n : Note) : Type 0 where
   pub fresh : is_among told k ≡ false
   pub tells : Tells w k n
   pub certain : is_certain n ≡ true
 
 -- C was told of it, or nothing is certain of it
-abbrev pub HasNone : Judge → List Subject → Subject → Type 0
+abbrev pub HasNone : HeldJudge → List Subject → Subject → Type 0
 HasNone w told k = (is_among told k ≡ true) ⊎ TellsNothing w k
 
 -- of both sides of a connection
-abbrev pub HasNoneOf : Judge → List Subject → ℕ → Type 0
+abbrev pub HasNoneOf : HeldJudge → List Subject → ℕ → Type 0
 HasNoneOf w told number = HasNone w told (Session number Left) × HasNone w told (Session number Right)
 
 -- of all connections
-abbrev pub HasNoneOfSessions : Judge → List Subject → Type 0
+abbrev pub HasNoneOfSessions : HeldJudge → List Subject → Type 0
 HasNoneOfSessions w told =
-    (capture : Capture) → Knows w capture → IsSettled w.tap
+    (capture : Capture) → Knows w capture → IsSettled w.judge
     → (number : ℕ) → number < offset_of (count (fed capture).course.sessions) → HasNoneOf w told number
 
--- of both sides of a connection that the tap holds
-abbrev pub HasNoneBy : Judge → List Subject → Connection → Type 0
+-- of both sides of a connection that the judge holds
+abbrev pub HasNoneBy : HeldJudge → List Subject → Connection → Type 0
 HasNoneBy w told c = IsStill c ⊎ ((j : Joined) → HoldsJoined c j → HasNoneOf w told j.number)
 
 -- of each of these
-abbrev pub HasNoneByEach : Judge → List Subject → List Connection → Type 0
+abbrev pub HasNoneByEach : HeldJudge → List Subject → List Connection → Type 0
 HasNoneByEach w told cs = (i : ℕ) (c : Connection) → slice_get cs i ≡ Some c → HasNoneBy w told c
 
 -- of one whose place was given to another
-abbrev pub HasNoneByPast : Judge → List Subject → Past → Type 0
+abbrev pub HasNoneByPast : HeldJudge → List Subject → Past → Type 0
 HasNoneByPast w told p = IsStillPast p ⊎ ((j : Joined) → HoldsPast p j → HasNoneOf w told j.number)
 
-abbrev pub HasNoneByPasts : Judge → List Subject → List Past → Type 0
+abbrev pub HasNoneByPasts : HeldJudge → List Subject → List Past → Type 0
 HasNoneByPasts w told ps = (i : ℕ) (p : Past) → slice_get ps i ≡ Some p → HasNoneByPast w told p
 
-pub record HasNoneOfTransport (w : Judge) (told : List Subject) : Type 0 where
+pub record HasNoneOfTransport (w : HeldJudge) (told : List Subject) : Type 0 where
   pub left : HasNone w told (Transport Left)
   pub right : HasNone w told (Transport Right)
   pub left_rest : HasNone w told (Rest Left)
   pub right_rest : HasNone w told (Rest Right)
 
 -- of the break that passed first
-abbrev pub HasNoneIf : Judge → List Subject → Option Subject → Type 0
+abbrev pub HasNoneIf : HeldJudge → List Subject → Option Subject → Type 0
 HasNoneIf w told None = Unit {0}
 HasNoneIf w told (Some k) = HasNone w told k
 
-abbrev pub HasNoLeading : Judge → List Subject → Type 0
-HasNoLeading w told = HasNoneIf w told (leading (first_in w.tap))
+abbrev pub HasNoLeading : HeldJudge → List Subject → Type 0
+HasNoLeading w told = HasNoneIf w told (leading (first_in w.judge))
 
 -- of nothing
-pub record HasNothing (w : Judge) (told : List Subject) : Type 0 where
+pub record HasNothing (w : HeldJudge) (told : List Subject) : Type 0 where
   pub leading : HasNoLeading w told
   pub transport : HasNoneOfTransport w told
   pub sessions : HasNoneOfSessions w told
 
 -- the break that passed first is told first
-abbrev pub InTurn : Judge → List Subject → Subject → Type 0
-InTurn w told k = (leading (first_in w.tap) ≡ Some k) ⊎ HasNoLeading w told
+abbrev pub InTurn : HeldJudge → List Subject → Subject → Type 0
+InTurn w told k = (leading (first_in w.judge) ≡ Some k) ⊎ HasNoLeading w told
 
 -- ---- whether the capture begins in the middle of a connection
 
 -- whatever the judge was fed, this says whether what passes next may show that it does; then nothing is certain
-abbrev pub MayBeLate : Bool → Judge → Type 0
-MayBeLate b w = (capture : Capture) → Knows w capture → IsSettled w.tap → b ≡ may_be_late (fed capture) (stream Left capture)
+abbrev pub MayBeLate : Bool → HeldJudge → Type 0
+MayBeLate b w = (capture : Capture) → Knows w capture → IsSettled w.judge → b ≡ may_be_late (fed capture) (stream Left capture)
 
 -- ---- a verdict is fetched
 
 -- all that passed is judged, and a verdict is given of which C was not told before
-pub record Gives (old : Judge) (v : OsiVerdict) (new : Judge) : Type 0 where
+pub record Gives (old : HeldJudge) (v : OsiVerdict) (new : HeldJudge) : Type 0 where
   pub knows : (capture : Capture) → Knows old capture → Knows new capture
-  pub settled : IsSettled new.tap
+  pub settled : IsSettled new.judge
   pub decided : MayBeLate false new
   pub subject : Subject
   pub tells : Note
   pub turn : InTurn new old.told.items subject
   pub due : IsDue new old.told.items subject tells
-  pub shows : Shows new.tap subject tells v
+  pub shows : Shows new.judge subject tells v
   pub told : new.told.items ≡ old.told.items ++ subject ∷ []
   pub text : new.text ≡ old.text
 
 -- all that passed is judged, and there is none
-pub record GivesNone (old new : Judge) : Type 0 where
+pub record GivesNone (old new : HeldJudge) : Type 0 where
   pub settles : Settles old new
   pub none : MayBeLate true new ⊎ HasNothing new new.told.items
 
-abbrev pub HasFetched : Fetched → Judge → Judge → Type 0
+abbrev pub HasFetched : Fetched → HeldJudge → HeldJudge → Type 0
 HasFetched (fetched.Given v) old new = Gives old v new
 HasFetched fetched.Nothing old new = GivesNone old new
 HasFetched fetched.NoMemory old new = Keeps old new
@@ -130,7 +130,7 @@ abbrev pub fetching_of : ℕ → Option Fetching
 fetching_of = coded ((0, Given) ∷ (1, NoJudge) ∷ (3, NoMemory) ∷ (5, NoneDue) ∷ [])
 
 -- for a slot
-abbrev pub Fetches : Option Fetching → OsiVerdict → Option Judge → Option Judge → Type 0
+abbrev pub Fetches : Option Fetching → OsiVerdict → Option HeldJudge → Option HeldJudge → Type 0
 Fetches (Some Given) v (Some old) (Some new) = Gives old v new
 Fetches (Some NoneDue) v (Some old) (Some new) = GivesNone old new × (v ≡ nothing)
 Fetches (Some NoMemory) v (Some old) (Some new) = Keeps old new × (v ≡ nothing)

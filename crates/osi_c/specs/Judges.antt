@@ -1,15 +1,15 @@
 -- A judge of a byte connection that C feeds: what passes, and what the calls answer.
 use Rattle.std.specs.Prelude.{◌≡◌, ◌≤◌, ◌<◌, ◌∷◌, ℕ, List, [], ◌++◌, take, length, Option, Some, None}
-use Rattle.osi_judge.specs.Captures.{Capture, piece, stream}
-use Rattle.osi_judge.specs.declared.directions.Direction.{Direction}
-use Rattle.osi_judge.specs.declared.directions.Direction.TheVariants.{Left, Right}
-use Rattle.osi_tap.specs.declared.rooms.Room.TheVariants.{Octets}
-use Rattle.osi_tap.specs.Standing.{HoldsState, IsSettled}
-use Rattle.osi_tap.specs.Tapping.{State, begin_within, after}
-use Rattle.osi_dispute.specs.Openings.{Opens}
+use Rattle.osi_side.specs.Captures.{Capture, piece, stream}
+use Rattle.osi_side.specs.declared.directions.Direction.{Direction}
+use Rattle.osi_side.specs.declared.directions.Direction.TheVariants.{Left, Right}
+use Rattle.osi_judge.specs.declared.rooms.Room.TheVariants.{Octets}
+use Rattle.osi_judge.specs.Standing.{HoldsState, IsSettled}
+use Rattle.osi_judge.specs.States.{State, begin_within, after}
+use Rattle.osi_report.specs.Openings.{Opens}
 use Rattle.osi_c.specs.Codes.{coded, Made, Begun, InUse}
 use Rattle.osi_c.specs.Codes as codes
-use Rattle.osi_c.specs.declared.judges.Judge.{Judge}
+use Rattle.osi_c.specs.declared.judges.HeldJudge.{HeldJudge}
 
 -- ---- what a judge knows
 
@@ -18,25 +18,25 @@ abbrev pub fed : Capture → State
 fed capture = after capture (begin_within (Octets 3145728))
 
 -- it was fed this capture
-pub record Knows (w : Judge) (capture : Capture) : Type 0 where
-  pub holds : HoldsState w.tap (fed capture)
+pub record Knows (w : HeldJudge) (capture : Capture) : Type 0 where
+  pub holds : HoldsState w.judge (fed capture)
   pub opens : Opens w.opening (stream Left capture)
 
 -- it still knows what it was fed, C was told of nothing more, and the text is as it was
-pub record Keeps (old new : Judge) : Type 0 where
+pub record Keeps (old new : HeldJudge) : Type 0 where
   pub knows : (capture : Capture) → Knows old capture → Knows new capture
   pub told : new.told.items ≡ old.told.items
   pub text : new.text ≡ old.text
 
 -- and all that passed is judged
-pub record Settles (old new : Judge) : Type 0 where
+pub record Settles (old new : HeldJudge) : Type 0 where
   pub keeps : Keeps old new
-  pub settled : IsSettled new.tap
+  pub settled : IsSettled new.judge
 
 -- ---- making a judge
 
 -- nothing has passed, C was told of nothing, and there is no text
-pub record IsNew (w : Judge) : Type 0 where
+pub record IsNew (w : HeldJudge) : Type 0 where
   pub knows : Knows w []
   pub told : w.told.items ≡ []
   pub text : w.text.items ≡ []
@@ -44,7 +44,7 @@ pub record IsNew (w : Judge) : Type 0 where
 abbrev pub begins_of : ℕ → Option Made
 begins_of = coded ((0, Begun) ∷ (3, codes.NoMemory) ∷ (4, InUse) ∷ [])
 
-abbrev pub Begins : Option Made → Option Judge → Option Judge → Type 0
+abbrev pub Begins : Option Made → Option HeldJudge → Option HeldJudge → Type 0
 Begins (Some Begun) None (Some new) = IsNew new
 Begins (Some codes.NoMemory) None new = new ≡ None
 Begins (Some InUse) (Some old) new = new ≡ Some old
@@ -53,13 +53,13 @@ Begins answer old new = ⊥
 -- ---- feeding
 
 -- these octets of a side passed
-pub record Passes (d : Direction) (octets : List ℕ) (old new : Judge) : Type 0 where
+pub record Passes (d : Direction) (octets : List ℕ) (old new : HeldJudge) : Type 0 where
   pub knows : (capture : Capture) → Knows old capture → Knows new (capture ++ piece d octets)
   pub told : new.told ≡ old.told
   pub text : new.text ≡ old.text
 
 -- so many of a piece
-pub record TakesPiece (d : Direction) (octets : List ℕ) (used : ℕ) (old new : Judge) : Type 0 where
+pub record TakesPiece (d : Direction) (octets : List ℕ) (used : ℕ) (old new : HeldJudge) : Type 0 where
   pub passes : Passes d (take used octets) old new
   pub within : used ≤ length octets
 
@@ -77,13 +77,13 @@ abbrev pub side_of : ℕ → Option Direction
 side_of = coded ((0, Left) ∷ (1, Right) ∷ [])
 
 -- if memory ran out, the octets before passed, and the next did not
-abbrev pub FedTo : Direction → List ℕ → ℕ → Feeding → Judge → Judge → Type 0
+abbrev pub FedTo : Direction → List ℕ → ℕ → Feeding → HeldJudge → HeldJudge → Type 0
 FedTo d octets used Fed old new = TakesPiece d octets used old new × (used ≡ length octets)
 FedTo d octets used NoMemory old new = TakesPiece d octets used old new × (used < length octets)
 FedTo d octets used answer old new = ⊥
 
 -- for a slot
-abbrev pub Feeds : ℕ → List ℕ → ℕ → Option Feeding → Option Judge → Option Judge → Type 0
+abbrev pub Feeds : ℕ → List ℕ → ℕ → Option Feeding → Option HeldJudge → Option HeldJudge → Type 0
 Feeds side octets used (Some NoSide) old new = (side_of side ≡ None) × (used ≡ 0) × (new ≡ old)
 Feeds side octets used (Some NoJudge) None new = (side_of side ≡ None → ⊥) × (used ≡ 0) × (new ≡ None)
 Feeds side octets used (Some answer) (Some old) (Some new) =

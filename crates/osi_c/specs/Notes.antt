@@ -1,30 +1,30 @@
 -- What C is told of a byte connection, by what passed.
 use Rattle.std.specs.Prelude.{◌≡◌, ℕ, Bool, true, false, if◌then◌else◌, Option, Some, None}
-use Rattle.osi_judge.specs.declared.directions.Direction.{Direction}
-use Rattle.osi_judge.specs.declared.directions.Direction.TheVariants.{Left, Right}
-use Rattle.osi_judge.specs.declared.findings.Finding.{Finding}
-use Rattle.osi_judge.specs.declared.findings.Finding.TheVariants as finding
-use Rattle.osi_judge.specs.Captures.{Capture, other, stream}
-use Rattle.osi_judge.specs.Judging.{Watched}
-use Rattle.osi_tap.specs.declared.connections.Connection.{Connection}
-use Rattle.osi_tap.specs.declared.marks.Mark.{Mark}
-use Rattle.osi_tap.specs.declared.outcomes.Outcome.{Outcome}
-use Rattle.osi_tap.specs.declared.outcomes.Outcome.TheVariants as outcome
-use Rattle.osi_tap.specs.declared.outcomes.Violation.{Violation}
-use Rattle.osi_tap.specs.declared.pasts.Past.{Past}
-use Rattle.osi_tap.specs.Connections.{Joined, spoken, numbered}
-use Rattle.osi_tap.specs.Courses.{marks_of}
-use Rattle.osi_tap.specs.Holding.{HoldsJoined, IsHeard, IsPlace}
-use Rattle.osi_tap.specs.KnownSessions.{IsSession}
-use Rattle.osi_tap.specs.Outcomes.{violation_of}
-use Rattle.osi_tap.specs.Pasts.{HoldsPast}
-use Rattle.osi_tap.specs.Rooms.{is_over}
-use Rattle.osi_tap.specs.Standing.{IsSettled}
-use Rattle.osi_tap.specs.Tapping.{State}
-use Rattle.osi_dispute.specs.Telling.{is_dropped}
-use Rattle.osi_dispute.specs.Openings.{begins_late}
+use Rattle.osi_side.specs.declared.directions.Direction.{Direction}
+use Rattle.osi_side.specs.declared.directions.Direction.TheVariants.{Left, Right}
+use Rattle.osi_side.specs.declared.findings.Finding.{Finding}
+use Rattle.osi_side.specs.declared.findings.Finding.TheVariants as finding
+use Rattle.osi_side.specs.Captures.{Capture, other, stream}
+use Rattle.osi_side.specs.Judging.{Observed}
+use Rattle.osi_judge.specs.declared.connections.Connection.{Connection}
+use Rattle.osi_judge.specs.declared.marks.Mark.{Mark}
+use Rattle.osi_judge.specs.declared.outcomes.Outcome.{Outcome}
+use Rattle.osi_judge.specs.declared.outcomes.Outcome.TheVariants as outcome
+use Rattle.osi_judge.specs.declared.outcomes.Violation.{Violation}
+use Rattle.osi_judge.specs.declared.pasts.Past.{Past}
+use Rattle.osi_judge.specs.Connections.{Joined, spoken, numbered}
+use Rattle.osi_judge.specs.Courses.{marks_of}
+use Rattle.osi_judge.specs.Holding.{HoldsJoined, IsHeard, IsPlace}
+use Rattle.osi_judge.specs.KnownSessions.{IsSession}
+use Rattle.osi_judge.specs.Outcomes.{violation_of}
+use Rattle.osi_judge.specs.Pasts.{HoldsPast}
+use Rattle.osi_judge.specs.Rooms.{is_over}
+use Rattle.osi_judge.specs.Standing.{IsSettled}
+use Rattle.osi_judge.specs.States.{State}
+use Rattle.osi_report.specs.Telling.{is_dropped}
+use Rattle.osi_report.specs.Openings.{begins_late}
 use Rattle.osi_c.specs.Judges.{fed, Knows}
-use Rattle.osi_c.specs.declared.judges.Judge.{Judge}
+use Rattle.osi_c.specs.declared.judges.HeldJudge.{HeldJudge}
 use Rattle.osi_c.specs.declared.notes.Note.{Note}
 use Rattle.osi_c.specs.declared.notes.Note.TheVariants.{Silent, Kept, Broke, Leaves, TooMany, Over, Stopped, Halted, Unopened}
 use Rattle.osi_c.specs.declared.subjects.Subject.{Subject}
@@ -58,8 +58,8 @@ note_unless false n = n
 
 -- of a side of a connection
 pub record IsNoteOf (d : Direction) (j : Joined) (n : Note) : Type 0 where
-  pub own : Watched
-  pub beside : Watched
+  pub own : Observed
+  pub beside : Observed
   pub of_own : IsSession d j own
   pub of_beside : IsSession (other d) j beside
   pub offset : ℕ
@@ -94,8 +94,8 @@ abbrev pub is_late_in : Capture → Bool
 is_late_in capture = begins_late (fed capture) (stream Left capture)
 
 -- whatever the judge was fed
-abbrev pub Tells : Judge → Subject → Note → Type 0
-Tells w k n = (capture : Capture) → Knows w capture → IsSettled w.tap → IsNote (fed capture) (is_late_in capture) k n
+abbrev pub Tells : HeldJudge → Subject → Note → Type 0
+Tells w k n = (capture : Capture) → Knows w capture → IsSettled w.judge → IsNote (fed capture) (is_late_in capture) k n
 
 -- ---- what is certain
 
@@ -109,7 +109,7 @@ is_certain n = true
 abbrev pub IsStillOf : Direction → Joined → Type 0
 IsStillOf d j = (n : Note) × IsNoteOf d j n × (is_certain n ≡ false)
 
--- of either side of a connection that a tap holds, once each session has heard all
+-- of either side of a connection that a judge holds, once each session has heard all
 abbrev pub IsStill : Connection → Type 0
 IsStill c = (j : Joined) → HoldsJoined c j → IsHeard c → IsStillOf Left j × IsStillOf Right j
 
@@ -126,6 +126,6 @@ StillPastIf true p = IsStillPast p
 StillPastIf false p = Unit {0}
 
 -- of a subject, whatever the judge was fed
-abbrev pub TellsNothing : Judge → Subject → Type 0
-TellsNothing w k = (capture : Capture) → Knows w capture → IsSettled w.tap
+abbrev pub TellsNothing : HeldJudge → Subject → Type 0
+TellsNothing w k = (capture : Capture) → Knows w capture → IsSettled w.judge
     → (n : Note) × IsNote (fed capture) (is_late_in capture) k n × (is_certain n ≡ false)

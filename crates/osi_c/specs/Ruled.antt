@@ -1,7 +1,7 @@
 -- The numbers of what a side sent, and of the rules that it broke.
 use Rattle.std.specs.Prelude.{◌≡◌, ℕ, Option, Some, None}
-use Rattle.osi_judge.specs.declared.rules.Rule.{Rule}
-use Rattle.osi_judge.specs.declared.rules.Rule.TheVariants as rule
+use Rattle.osi_side.specs.declared.rules.Rule.{Rule}
+use Rattle.osi_side.specs.declared.rules.Rule.TheVariants as rule
 use Rattle.osi_session.specs.declared.breaches.Breach.{Breach}
 use Rattle.osi_session.specs.declared.breaches.Breach.TheVariants as breach
 use Rattle.osi_spdu.specs.declared.faults.SpduFault.{SpduFault}

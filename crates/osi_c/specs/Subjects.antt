@@ -1,10 +1,10 @@
 -- Of what C is told on a byte connection.
 use Rattle.std.specs.Prelude.{ℕ, ◌==◌, if◌then◌else◌, Bool, true, false, Option, Some, None}
-use Rattle.osi_judge.specs.declared.directions.Direction.{Direction}
-use Rattle.osi_judge.specs.declared.directions.Direction.TheVariants.{Left, Right}
-use Rattle.osi_tap.specs.declared.marks.First.{First}
-use Rattle.osi_tap.specs.declared.marks.Layer.{Layer}
-use Rattle.osi_tap.specs.declared.marks.Layer.TheVariants as layer
+use Rattle.osi_side.specs.declared.directions.Direction.{Direction}
+use Rattle.osi_side.specs.declared.directions.Direction.TheVariants.{Left, Right}
+use Rattle.osi_judge.specs.declared.marks.First.{First}
+use Rattle.osi_judge.specs.declared.marks.Layer.{Layer}
+use Rattle.osi_judge.specs.declared.marks.Layer.TheVariants as layer
 use Rattle.osi_c.specs.declared.subjects.Subject.{Subject}
 use Rattle.osi_c.specs.declared.subjects.Subject.TheVariants.{Session, Transport, Rest}
 

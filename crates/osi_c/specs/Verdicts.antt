@@ -1,16 +1,16 @@
 -- What C is told of a byte connection, in the numbers of C.
 use Rattle.std.specs.Prelude.{◌≡◌, ℕ, ◌-◌, ◌^◌, Option, Some, None}
-use Rattle.osi_judge.specs.declared.directions.Direction.{Direction}
+use Rattle.osi_side.specs.declared.directions.Direction.{Direction}
 use Rattle.osi_rules.specs.declared.findings.Rule.{Rule}
 use Rattle.osi_rules.specs.declared.findings.Rule.TheVariants as rule
-use Rattle.osi_tap.specs.declared.marks.Cause.{Cause}
-use Rattle.osi_tap.specs.declared.marks.Cause.TheVariants as cause
-use Rattle.osi_tap.specs.declared.marks.UnitKind.{UnitKind}
-use Rattle.osi_tap.specs.declared.marks.UnitKind.TheVariants as unit
-use Rattle.osi_tap.specs.declared.tap.Tap.{Tap}
-use Rattle.osi_tap.specs.Connections.{Joined, numbered}
-use Rattle.osi_tap.specs.Standing.{HoldsState, IsSettled}
-use Rattle.osi_tap.specs.Tapping.{State}
+use Rattle.osi_judge.specs.declared.marks.Cause.{Cause}
+use Rattle.osi_judge.specs.declared.marks.Cause.TheVariants as cause
+use Rattle.osi_judge.specs.declared.marks.UnitKind.{UnitKind}
+use Rattle.osi_judge.specs.declared.marks.UnitKind.TheVariants as unit
+use Rattle.osi_judge.specs.declared.judge.Judge.{Judge}
+use Rattle.osi_judge.specs.Connections.{Joined, numbered}
+use Rattle.osi_judge.specs.Standing.{HoldsState, IsSettled}
+use Rattle.osi_judge.specs.States.{State}
 use Rattle.osi_c.specs.Judges.{side_of}
 use Rattle.osi_c.specs.declared.verdicts.OsiVerdict.{OsiVerdict}
 use Rattle.osi_c.specs.declared.verdicts.References.{References}
@@ -151,14 +151,14 @@ abbrev pub named_in : Option Joined → References
 named_in None = record { left = 0; right = 0 }
 named_in (Some j) = record { left = j.calling; right = reference_code j.called }
 
-abbrev pub IsNamed : Tap → Option ℕ → (left right : ℕ) → Type 0
+abbrev pub IsNamed : Judge → Option ℕ → (left right : ℕ) → Type 0
 IsNamed t None left right = (left ≡ 0) × (right ≡ 0)
 IsNamed t (Some number) left right = (s : State) → HoldsState t s → IsSettled t
     → (left ≡ (named_in (numbered number s.course.sessions)).left) × (right ≡ (named_in (numbered number s.course.sessions)).right)
 
 -- ---- a verdict
 
-pub record Shows (t : Tap) (k : Subject) (n : Note) (v : OsiVerdict) : Type 0 where
+pub record Shows (t : Judge) (k : Subject) (n : Note) (v : OsiVerdict) : Type 0 where
   pub offset : v.offset ≡ offset_in n
   pub connection : v.connection ≡ number_code (number_in k n)
   pub kind : v.kind ≡ kind_code n

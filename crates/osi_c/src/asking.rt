@@ -1,7 +1,7 @@
 //! The verdicts on a byte connection that C asks for, by what has passed so far.
 
 ghost use Rattle.std.specs.Prelude.{◌≡◌, Some, IfOk, OnErr};
-ghost use Rattle.osi_tap.specs.Standing.{IsSettled};
+ghost use Rattle.osi_judge.specs.Standing.{IsSettled};
 ghost use Rattle.osi_c.specs.Judges.{Keeps, Settles};
 ghost use Rattle.osi_c.specs.Asking.{number_of, HasAsked, IsNumbered, ShowsOf, ShowsTransport, Asks, asking_of};
 ghost use Rattle.osi_c.specs.Asking.{AsksCount, Counts, counting_of};
@@ -9,11 +9,11 @@ ghost use Rattle.osi_c.specs.Asking.{AsksCount, Counts, counting_of};
 use crate::codes::{BAD_ARGUMENT, CLOSED, NO_MEMORY, OK};
 use crate::header::NO_SUCH_CONNECTION;
 use crate::judge_slots::OsiJudge;
-use crate::judges::Judge;
+use crate::judges::HeldJudge;
 use crate::notes::{is_certain, note_of};
 use crate::subjects::Subject;
 use crate::verdicts::{OsiVerdict, nothing, shown, side_by};
-use osi_judge::Direction;
+use osi_side::Direction;
 use std::alloc::AllocError;
 
 /// The number that stands for no connection.
@@ -30,30 +30,30 @@ fn number_by(number: u64) -> Option<usize>
 }
 
 /// What is told of a subject so far.
-fn told_of(judge: &Judge, subject: Subject) -> OsiVerdict
-    ensures { ShowsOf judge.now subject result }
+fn told_of(held: &HeldJudge, subject: Subject) -> OsiVerdict
+    ensures { ShowsOf held.now subject result }
 {
-    let note = note_of(judge, subject);
-    shown(&judge.tap, subject, &note)
+    let note = note_of(held, subject);
+    shown(&held.judge, subject, &note)
 }
 
 /// What is told of the transport of a side: of its first break, or, if there is none, of the rest of it.
-fn told_of_transport(judge: &Judge, direction: Direction) -> OsiVerdict
-    ensures { ShowsTransport judge.now direction result }
+fn told_of_transport(held: &HeldJudge, direction: Direction) -> OsiVerdict
+    ensures { ShowsTransport held.now direction result }
 {
     let transport = Subject::Transport(direction);
-    let note = note_of(judge, transport);
+    let note = note_of(held, transport);
     if is_certain(&note) {
-        return shown(&judge.tap, transport, &note);
+        return shown(&held.judge, transport, &note);
     }
-    told_of(judge, Subject::Rest(direction))
+    told_of(held, Subject::Rest(direction))
 }
 
 /// Whether a connection has this number, once all that passed is judged.
-fn is_numbered(judge: &Judge, number: usize) -> bool
-    ensures { IsSettled judge.now.tap → IsNumbered judge.now number result }
+fn is_numbered(held: &HeldJudge, number: usize) -> bool
+    ensures { IsSettled held.now.judge → IsNumbered held.now number result }
 {
-    judge.tap.connection(number).is_some()
+    held.judge.connection(number).is_some()
 }
 
 /// What is asked for.
@@ -67,31 +67,31 @@ pub(crate) enum Asked {
 }
 
 /// What is told of the session of a side of the connection with this number, once all that passed is judged.
-fn asked_at(judge: &Judge, number: usize, direction: Direction) -> Asked
-    ensures { IsSettled judge.now.tap → HasAsked result (Some number) direction judge.now judge.now }
+fn asked_at(held: &HeldJudge, number: usize, direction: Direction) -> Asked
+    ensures { IsSettled held.now.judge → HasAsked result (Some number) direction held.now held.now }
 {
-    if !is_numbered(judge, number) {
+    if !is_numbered(held, number) {
         return Asked::Unknown;
     }
-    Asked::Shown(told_of(judge, Subject::Session(number, direction)))
+    Asked::Shown(told_of(held, Subject::Session(number, direction)))
 }
 
 /// What is told of the session of a side of a connection, or of its transport, once all that passed is judged.
-fn asked_of(judge: &Judge, number: Option<usize>, direction: Direction) -> Asked
-    ensures { IsSettled judge.now.tap → HasAsked result number direction judge.now judge.now }
+fn asked_of(held: &HeldJudge, number: Option<usize>, direction: Direction) -> Asked
+    ensures { IsSettled held.now.judge → HasAsked result number direction held.now held.now }
 {
     match number {
-        None => Asked::Shown(told_of_transport(judge, direction)),
-        Some(number) => asked_at(judge, number, direction),
+        None => Asked::Shown(told_of_transport(held, direction)),
+        Some(number) => asked_at(held, number, direction),
     }
 }
 
 /// The same.
-fn ask(judge: &mut Judge, number: Option<usize>, direction: Direction) -> Asked
-    ensures { HasAsked result number direction judge.old judge.new }
+fn ask(held: &mut HeldJudge, number: Option<usize>, direction: Direction) -> Asked
+    ensures { HasAsked result number direction held.old held.new }
 {
-    match judge.tap.settle() {
-        Ok(()) => asked_of(judge, number, direction),
+    match held.judge.settle() {
+        Ok(()) => asked_of(held, number, direction),
         Err(_) => Asked::NoMemory,
     }
 }
@@ -125,13 +125,13 @@ pub extern "C" fn osi_judge_verdict(
 }
 
 /// How many connections were requested.
-fn count(judge: &mut Judge) -> Result<usize, AllocError>
-    ensures counts { IfOk result (λ n. Counts judge.new n) }
-    ensures settles { IfOk result (λ n. Settles judge.old judge.new) }
-    ensures err { OnErr result (Keeps judge.old judge.new) }
+fn count(held: &mut HeldJudge) -> Result<usize, AllocError>
+    ensures counts { IfOk result (λ n. Counts held.new n) }
+    ensures settles { IfOk result (λ n. Settles held.old held.new) }
+    ensures err { OnErr result (Keeps held.old held.new) }
 {
-    judge.tap.settle()?;
-    Ok(judge.tap.count())
+    held.judge.settle()?;
+    Ok(held.judge.count())
 }
 
 /// Stores how many connections were requested so far.

@@ -4,7 +4,7 @@ ghost use Rattle.std.specs.Prelude.{◌≡◌, is_some};
 
 use crate::handles::judge::JudgeHandle;
 use crate::handles::loose::Loose;
-use crate::judges::Judge;
+use crate::judges::HeldJudge;
 use std::alloc::Global;
 use std::mem::replace;
 
@@ -22,7 +22,7 @@ impl OsiJudge {
     ghost use Rattle.osi_c.specs.LentJudge.{KeepsSlot};
 
     /// What the slot holds, to be read.
-    pub(crate) fn get(&mut self) -> Option<&Judge>
+    pub(crate) fn get(&mut self) -> Option<&HeldJudge>
         ensures* same { sem 𝓛 (KeepsSlot self.entry) }
         ensures value { option_map (λ c. c.now) result ≡ self.old.inner.value }
     {
@@ -33,7 +33,7 @@ impl OsiJudge {
     }
 
     /// Puts a box into an empty slot.
-    pub(crate) fn fill(&mut self, loose: Loose<Judge, Global>)
+    pub(crate) fn fill(&mut self, loose: Loose<HeldJudge, Global>)
         requires { IsNone self.old.inner.value }
         ensures { self.new.inner.value ≡ Some loose.value }
     {

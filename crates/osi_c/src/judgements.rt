@@ -2,22 +2,22 @@
 
 ghost use types.Logic.{sem};
 ghost use Rattle.std.specs.Prelude.{◌≡◌, IfOk};
-ghost use Rattle.osi_tap.specs.Standing.{IsSettled};
+ghost use Rattle.osi_judge.specs.Standing.{IsSettled};
 ghost use Rattle.osi_c.specs.LentJudge.{KeepsSlot};
 ghost use Rattle.osi_c.specs.Judgements.{HasWritten, IsTextOf, Writes, writing_of, last_text};
 
 use crate::codes::{CLOSED, NO_MEMORY, OK};
 use crate::judge_slots::OsiJudge;
-use crate::judges::Judge;
-use osi_dispute::push_judgement;
+use crate::judges::HeldJudge;
+use osi_report::push_judgement;
 use std::alloc::{AllocError, Global};
 
 /// The text of the judgement of what passed, once all of it is judged.
-fn text_of(alloc: Global, judge: &Judge) -> Result<Vec<u8>, AllocError>
-    ensures { IfOk result (λ t. IsSettled judge.now.tap → IsTextOf judge.now t.items) }
+fn text_of(alloc: Global, held: &HeldJudge) -> Result<Vec<u8>, AllocError>
+    ensures { IfOk result (λ t. IsSettled held.now.judge → IsTextOf held.now t.items) }
 {
     let mut text = Vec::new(alloc);
-    push_judgement(&mut text, &judge.tap, &judge.opening)?;
+    push_judgement(&mut text, &held.judge, &held.opening)?;
     Ok(text)
 }
 
@@ -30,16 +30,16 @@ pub(crate) enum Written {
 }
 
 /// Writes the text of the judgement of what passed so far.
-fn write(alloc: Global, judge: &mut Judge) -> Written
-    ensures { HasWritten result judge.old judge.new }
+fn write(alloc: Global, held: &mut HeldJudge) -> Written
+    ensures { HasWritten result held.old held.new }
 {
-    let Ok(()) = judge.tap.settle() else {
+    let Ok(()) = held.judge.settle() else {
         return Written::NoMemory;
     };
-    let Ok(text) = text_of(alloc, judge) else {
+    let Ok(text) = text_of(alloc, held) else {
         return Written::NoMemory;
     };
-    judge.text = text;
+    held.text = text;
     Written::Text
 }
 
@@ -70,9 +70,9 @@ fn text(judge: &mut OsiJudge) -> &[u8]
 
 /// Lends the text that was written last; none for an empty slot.
 #[unsafe(no_mangle)]
-pub extern "C" fn osi_judge_text<'a>(judge: &'a mut OsiJudge, octets: &mut &'a [u8])
-    ensures* same { sem 𝓛 (KeepsSlot judge.entry) }
-    ensures value { octets.new.now ≡ last_text judge.old.inner.value }
+pub extern "C" fn osi_judge_text<'a>(held: &'a mut OsiJudge, octets: &mut &'a [u8])
+    ensures* same { sem 𝓛 (KeepsSlot held.entry) }
+    ensures value { octets.new.now ≡ last_text held.old.inner.value }
 {
-    *octets = text(judge);
+    *octets = text(held);
 }

@@ -1,7 +1,7 @@
 //! One end of a byte connection, and the judge of one that passes, for C: the functions that `include/osi.h` declares.
 //!
-//! Each function is a call of [`osi_stack::Stack`] or [`osi_tap::Tap`], and its contract says what that call's contract says, in
-//! the numbers of C. The text of a judge is that of `osi_dispute`. `OsiEnd` and `OsiJudge` are the slots that a C program
+//! Each function is a call of [`osi_stack::Stack`] or [`osi_judge::Judge`], and its contract says what that call's contract says, in
+//! the numbers of C. The text of a judge is that of `osi_report`. `OsiEnd` and `OsiJudge` are the slots that a C program
 //! holds. Every argument is allowed except a pointer to nothing: numbers that are out of range give `BAD_ARGUMENT`, and
 //! an empty slot gives `CLOSED`.
 //!

@@ -1,21 +1,21 @@
 //! What C is told of a byte connection.
 
 ghost use Rattle.std.specs.Prelude.{◌≡◌, ◌&&◌, not};
-ghost use Rattle.osi_judge.specs.Captures.{Capture};
-ghost use Rattle.osi_tap.specs.Connections.{Joined, numbered};
-ghost use Rattle.osi_tap.specs.Holding.{HoldsJoined, IsHeard};
-ghost use Rattle.osi_tap.specs.Pasts.{HoldsPast};
-ghost use Rattle.osi_tap.specs.Standing.{HoldsState, IsSettled};
-ghost use Rattle.osi_tap.specs.Tapping.{State};
-ghost use Rattle.osi_dispute.specs.Telling.{is_left, is_dropped, leaves};
+ghost use Rattle.osi_side.specs.Captures.{Capture};
+ghost use Rattle.osi_judge.specs.Connections.{Joined, numbered};
+ghost use Rattle.osi_judge.specs.Holding.{HoldsJoined, IsHeard};
+ghost use Rattle.osi_judge.specs.Pasts.{HoldsPast};
+ghost use Rattle.osi_judge.specs.Standing.{HoldsState, IsSettled};
+ghost use Rattle.osi_judge.specs.States.{State};
+ghost use Rattle.osi_report.specs.Telling.{is_left, is_dropped, leaves};
 ghost use Rattle.osi_c.specs.Judges.{Knows};
 ghost use Rattle.osi_c.specs.Notes.{note_of_found, note_of_kept, note_of_outcome, note_unless, note_of_break, note_of_halt, is_certain, is_late_in};
 ghost use Rattle.osi_c.specs.Notes.{IsNoteOf, IsNoteAt, StillIf, StillPastIf, Tells};
 
-use crate::judges::Judge;
+use crate::judges::HeldJudge;
 use crate::subjects::Subject;
-use osi_judge::{Direction, Finding};
-use osi_tap::{Connection, Found, Mark, Outcome, Past, Tap, Violation};
+use osi_judge::{Connection, Found, Judge, Mark, Outcome, Past, Violation};
+use osi_side::{Direction, Finding};
 
 /// What is told.
 #[derive(Clone, Copy)]
@@ -137,10 +137,10 @@ fn note_of_past(past: &Past, direction: Direction) -> Note
 }
 
 /// The same of the connection with this number.
-fn note_of_session(tap: &Tap, number: usize, direction: Direction) -> Note
-    ensures { (s : State) → HoldsState tap.now s → IsSettled tap.now → IsNoteAt direction (numbered number s.course.sessions) result }
+fn note_of_session(judge: &Judge, number: usize, direction: Direction) -> Note
+    ensures { (s : State) → HoldsState judge.now s → IsSettled judge.now → IsNoteAt direction (numbered number s.course.sessions) result }
 {
-    match tap.connection(number) {
+    match judge.connection(number) {
         None => Note::Silent,
         Some(Found::Placed(joint)) => note_of_joint(joint, direction),
         Some(Found::Replaced(past)) => note_of_past(past, direction),
@@ -208,21 +208,21 @@ fn note_of_halt(is_late: bool, halted: Option<Mark>) -> Note
 }
 
 /// Whether the capture begins in the middle of a connection.
-fn is_late(judge: &Judge) -> bool
-    ensures { (capture : Capture) → Knows judge.now capture → IsSettled judge.now.tap → result ≡ is_late_in capture }
+fn is_late(held: &HeldJudge) -> bool
+    ensures { (capture : Capture) → Knows held.now capture → IsSettled held.now.judge → result ≡ is_late_in capture }
 {
-    osi_dispute::is_late(&judge.tap, &judge.opening)
+    osi_report::is_late(&held.judge, &held.opening)
 }
 
 /// What is told, once all that passed is judged.
-pub(crate) fn note_of(judge: &Judge, subject: Subject) -> Note
-    ensures { Tells judge.now subject result }
+pub(crate) fn note_of(held: &HeldJudge, subject: Subject) -> Note
+    ensures { Tells held.now subject result }
 {
-    let tap = &judge.tap;
+    let judge = &held.judge;
     match subject {
-        Subject::Session(number, direction) => note_of_session(tap, number, direction),
-        Subject::Transport(direction) => note_of_break(is_late(judge), tap.broke(direction)),
-        Subject::Rest(direction) => note_of_halt(is_late(judge), tap.halted(direction)),
+        Subject::Session(number, direction) => note_of_session(judge, number, direction),
+        Subject::Transport(direction) => note_of_break(is_late(held), judge.broke(direction)),
+        Subject::Rest(direction) => note_of_halt(is_late(held), judge.halted(direction)),
     }
 }
 

@@ -5,8 +5,8 @@ ghost use Rattle.osi_c.specs.Ruled.{said_code, IsBreach, spelling_code, IsRule, 
 
 use crate::codes::{NO_MEMORY, refusal};
 use crate::header;
-use osi_judge::Rule;
 use osi_session::Breach;
+use osi_side::Rule;
 use osi_spdu::{Kind, SpduFault};
 use osi_tpdu::TpduFault;
 use osi_tpkt::TpktFault;

@@ -4,8 +4,8 @@ ghost use Rattle.std.specs.Prelude.{◌≡◌};
 ghost use Rattle.std.specs.List.{list_any};
 ghost use Rattle.osi_c.specs.Subjects.{same_side, same_session, same, leading_session, leading_by, leading};
 
-use osi_judge::Direction;
-use osi_tap::{First, Layer};
+use osi_judge::{First, Layer};
+use osi_side::Direction;
 
 /// What C is told of, once.
 #[derive(Clone, Copy)]

@@ -1,11 +1,11 @@
 //! What C is told of a byte connection, in the numbers of C.
 
 ghost use Rattle.std.specs.Prelude.{◌≡◌, Some};
-ghost use Rattle.osi_tap.specs.Connections.{Joined, numbered, reference_of};
-ghost use Rattle.osi_tap.specs.Holding.{HoldsJoined};
-ghost use Rattle.osi_tap.specs.Pasts.{HoldsPast};
-ghost use Rattle.osi_tap.specs.Standing.{HoldsState, IsSettled};
-ghost use Rattle.osi_tap.specs.Tapping.{State};
+ghost use Rattle.osi_judge.specs.Connections.{Joined, numbered, reference_of};
+ghost use Rattle.osi_judge.specs.Holding.{HoldsJoined};
+ghost use Rattle.osi_judge.specs.Pasts.{HoldsPast};
+ghost use Rattle.osi_judge.specs.Standing.{HoldsState, IsSettled};
+ghost use Rattle.osi_judge.specs.States.{State};
 ghost use Rattle.osi_c.specs.Verdicts.{transport_rule_code, cause_code, unit_said_code, unread_said_code, mark_said_code};
 ghost use Rattle.osi_c.specs.Verdicts.{mark_kind_code, kind_code};
 ghost use Rattle.osi_c.specs.Verdicts.{IsRuleOf, said_in, offset_in, by_in, number_of_mark, number_in, number_code};
@@ -18,9 +18,9 @@ use crate::header;
 use crate::notes::Note;
 use crate::rules::{packet_code, rule_code, said_code, unit_code};
 use crate::subjects::Subject;
-use osi_judge::Direction;
+use osi_judge::{Cause, Connection, Found, Judge, Past, UnitKind};
 use osi_rules::Rule;
-use osi_tap::{Cause, Connection, Found, Past, Tap, UnitKind};
+use osi_side::Direction;
 
 /// A verdict on a side of a byte connection, in the numbers of C.
 #[repr(C)]
@@ -329,10 +329,10 @@ fn references_past(past: &Past) -> References
 }
 
 /// The same of the connection with this number.
-fn references_at(tap: &Tap, number: usize) -> References
-    ensures { (s : State) → HoldsState tap.now s → IsSettled tap.now → result ≡ named_in (numbered number s.course.sessions) }
+fn references_at(judge: &Judge, number: usize) -> References
+    ensures { (s : State) → HoldsState judge.now s → IsSettled judge.now → result ≡ named_in (numbered number s.course.sessions) }
 {
-    match tap.connection(number) {
+    match judge.connection(number) {
         None => References { left: 0, right: 0 },
         Some(Found::Placed(joint)) => references_in(joint),
         Some(Found::Replaced(past)) => references_past(past),
@@ -340,12 +340,12 @@ fn references_at(tap: &Tap, number: usize) -> References
 }
 
 /// The same, if it is known which connection that is.
-fn references_of(tap: &Tap, number: Option<usize>) -> References
-    ensures { IsNamed tap.now number result.left result.right }
+fn references_of(judge: &Judge, number: Option<usize>) -> References
+    ensures { IsNamed judge.now number result.left result.right }
 {
     match number {
         None => References { left: 0, right: 0 },
-        Some(number) => references_at(tap, number),
+        Some(number) => references_at(judge, number),
     }
 }
 
@@ -357,17 +357,17 @@ fn connection_code(subject: Subject, note: &Note) -> u64
 }
 
 /// Its references.
-fn references_for(tap: &Tap, subject: Subject, note: &Note) -> References
-    ensures { IsNamed tap.now (number_in subject note.now) result.left result.right }
+fn references_for(judge: &Judge, subject: Subject, note: &Note) -> References
+    ensures { IsNamed judge.now (number_in subject note.now) result.left result.right }
 {
-    references_of(tap, number_in(subject, note))
+    references_of(judge, number_in(subject, note))
 }
 
 /// What is told, in the numbers of C.
-pub(crate) fn shown(tap: &Tap, subject: Subject, note: &Note) -> OsiVerdict
-    ensures { Shows tap.now subject note.now result }
+pub(crate) fn shown(judge: &Judge, subject: Subject, note: &Note) -> OsiVerdict
+    ensures { Shows judge.now subject note.now result }
 {
-    let references = references_for(tap, subject, note);
+    let references = references_for(judge, subject, note);
     OsiVerdict {
         offset: offset_in(note),
         connection: connection_code(subject, note),

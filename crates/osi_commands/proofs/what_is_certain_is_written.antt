@@ -3,13 +3,13 @@ use Rattle.std.proofs.Common.{◌≡◌, ◌∙◌, ◌⊎◌, inl, inr, ℕ, �
 use Rattle.std.proofs.lemmas.List.{append_assoc}
 use Rattle.std.specs.Prelude.{IfErr, IfSome, OnErr, Result, Ok, Err}
 use Rattle.std.specs.Io.KnownBytes.{Appends, Keeps}
-use Rattle.osi_dispute.specs.Disputes.{IsJudgement}
-use Rattle.osi_dispute.specs.Hearing.{Fails, IsHeard}
+use Rattle.osi_report.specs.Disputes.{IsJudgement}
+use Rattle.osi_report.specs.Hearing.{Fails, IsHeard}
 use Rattle.osi_listing.specs.Capture.{IsNoCapture}
 use Rattle.osi_listing.specs.declared.capture.CaptureFault.TheVariants as fault
-use Rattle.osi_dispute.specs.News.{AreToldOf, IsTold, joined}
-use Rattle.osi_dispute.specs.declared.hearing.Hearing.{Hearing}
-use Rattle.osi_dispute.proofs.what_is_told_is_of_the_report.{joined_both}
+use Rattle.osi_report.specs.News.{AreToldOf, IsTold, joined}
+use Rattle.osi_report.specs.declared.hearing.Hearing.{Hearing}
+use Rattle.osi_report.proofs.what_is_told_is_of_the_report.{joined_both}
 use Rattle.osi_commands.specs.declared.faults.ToolFault.{ToolFault}
 use Rattle.osi_commands.specs.declared.faults.ToolFault.TheVariants as tool
 use Rattle.osi_commands.specs.Live.{Announces, AnnouncesPart, BeginsLive, FindsLive, FindsLivePart}

@@ -2,8 +2,8 @@
 use Rattle.std.proofs.Common.{ℕ, ◌<◌, ◌≤◌, ◌+◌, Option, Some, None, List, ◌++◌, length, take, subst, arith}
 use Rattle.std.proofs.lemmas.List.{length-append, length-take}
 use Rattle.std.specs.Io.KnownBytes.{Consumes}
-use Rattle.osi_dispute.specs.Hearing.{IsHeard}
-use Rattle.osi_dispute.specs.declared.hearing.Hearing.{Hearing}
+use Rattle.osi_report.specs.Hearing.{IsHeard}
+use Rattle.osi_report.specs.declared.hearing.Hearing.{Hearing}
 use Rattle.osi_commands.proofs.reads_one_after_the_other_read_all.{consumes-append}
 
 -- so many octets were read, or more

@@ -1,7 +1,7 @@
 -- The effect of `judge`, for a reader and a writer that give access to their octets.
 use Rattle.std.specs.Prelude.{◌≡◌, ℕ, ◌-◌, ◌^◌, ◌≤◌, ◌⊎◌, Bool, true, List, length, Option, IfSome}
 use Rattle.std.specs.Io.KnownBytes.{Appends}
-use Rattle.osi_dispute.specs.Disputes.{IsJudgement}
+use Rattle.osi_report.specs.Disputes.{IsJudgement}
 use Rattle.osi_commands.specs.Show.{BeginsToAppend}
 
 -- what was found of the text is written, and nothing else

@@ -1,8 +1,8 @@
 -- The effect of `judge_live`, for a reader and a writer that give access to their octets.
 use Rattle.std.specs.Prelude.{◌≡◌, ◌++◌, ◌⊎◌, ℕ, List, Option}
 use Rattle.std.specs.Io.KnownBytes.{Appends}
-use Rattle.osi_dispute.specs.Disputes.{IsJudgement}
-use Rattle.osi_dispute.specs.News.{IsTold}
+use Rattle.osi_report.specs.Disputes.{IsJudgement}
+use Rattle.osi_report.specs.News.{IsTold}
 use Rattle.osi_commands.specs.Show.{BeginsToAppend}
 
 -- what was certain of the text while it was read is written, and nothing else: lines of the report of what had passed by then

@@ -1,6 +1,6 @@
 //! Why a job fails.
 
-use crate::watched::Watch;
+use crate::calls::Calls;
 
 /// Why a job failed.
 #[derive(Clone, Copy)]
@@ -22,5 +22,5 @@ pub struct Failure {
     /// Why it failed.
     pub fault: ToolFault,
     /// Whether a read failed, and whether a write did.
-    pub watch: Watch,
+    pub calls: Calls,
 }

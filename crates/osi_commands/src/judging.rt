@@ -2,15 +2,15 @@
 
 ghost use Rattle.std.specs.Prelude.{◌≡◌, ◌<◌, ◌⊎◌, ◌++◌, true, ℕ, List, [], IfOk, IfErr, IfSome, OnOk};
 ghost use Rattle.std.specs.Io.KnownBytes.{IsAtEnd};
-ghost use Rattle.osi_dispute.specs.Disputes.{IsJudgement};
-ghost use Rattle.osi_dispute.specs.Hearing.{IsHeard};
+ghost use Rattle.osi_report.specs.Disputes.{IsJudgement};
+ghost use Rattle.osi_report.specs.Hearing.{IsHeard};
 ghost use Rattle.osi_listing.specs.Capture.{IsNoCapture};
 ghost use Rattle.osi_commands.specs.Judging.{FailsToHear, Finds, FindsPart};
 
+use crate::calls::Calls;
 use crate::faults::{Failure, ToolFault};
-use crate::watched::Watch;
-use osi_dispute::{Hearing, Judgement};
 use osi_listing::CaptureFault;
+use osi_report::{Hearing, Judgement};
 use std::alloc::Global;
 use std::io::{Read, Write};
 
@@ -48,13 +48,13 @@ pub(crate) fn judgement_of(hearing: &mut Hearing) -> Result<Judgement, ToolFault
 
 /// Hears all that a reader gives, piece by piece.
 fn hear_all<R: Read>(
-    watch: &mut Watch,
+    calls: &mut Calls,
     reader: &mut R,
     hearing: &mut Hearing,
 ) -> Result<(), ToolFault>
     ensures heard { OnOk result (IfSome (R.remaining reader.old) (λ text. IsHeard hearing.old text text → IsHeard hearing.new text [])) }
     ensures end { OnOk result (IsAtEnd (R.remaining reader.new)) }
-    ensures input { IfErr result (λ fault. fault ≡ ToolFault.Input → FailsToHear watch.new.read_failed (R.remaining reader.old)) }
+    ensures input { IfErr result (λ fault. fault ≡ ToolFault.Input → FailsToHear calls.new.read_failed (R.remaining reader.old)) }
     ensures bad_hex { IfErr result (λ fault. fault ≡ ToolFault.BadHex → IfSome (R.remaining reader.old) (λ text.
         IsHeard hearing.old text text → IsNoCapture text)) }
     ensures write { IfErr result (λ fault. fault ≡ ToolFault.Write → ⊥) }
@@ -62,7 +62,7 @@ fn hear_all<R: Read>(
     let mut piece = [0; PIECE];
     let mut turns: u64 = 0;
     'pieces: while turns < u64::MAX {
-        let count = watch.read(reader, &mut piece[..])?;
+        let count = calls.read(reader, &mut piece[..])?;
         if count == 0 {
             return Ok(());
         }
@@ -75,25 +75,25 @@ fn hear_all<R: Read>(
 /// The judgement of all that a reader gives. Nothing of the text is kept.
 fn judgement_by<R: Read>(
     alloc: Global,
-    watch: &mut Watch,
+    calls: &mut Calls,
     reader: &mut R,
 ) -> Result<Judgement, ToolFault>
     ensures judged { IfOk result (λ j. IfSome (R.remaining reader.old) (λ text. IsJudgement text j.lines.items j.status)) }
     ensures status { IfOk result (λ j. j.status < 2) }
     ensures end { OnOk result (IsAtEnd (R.remaining reader.new)) }
-    ensures input { IfErr result (λ fault. fault ≡ ToolFault.Input → FailsToHear watch.new.read_failed (R.remaining reader.old)) }
+    ensures input { IfErr result (λ fault. fault ≡ ToolFault.Input → FailsToHear calls.new.read_failed (R.remaining reader.old)) }
     ensures bad_hex { IfErr result (λ fault. fault ≡ ToolFault.BadHex → IfSome (R.remaining reader.old) IsNoCapture) }
     ensures write { IfErr result (λ fault. fault ≡ ToolFault.Write → ⊥) }
 {
     let mut hearing = Hearing::new(alloc);
-    hear_all(watch, reader, &mut hearing)?;
+    hear_all(calls, reader, &mut hearing)?;
     judgement_of(&mut hearing)
 }
 
 /// Judges what a reader gives, and remembers which call failed.
-fn judge_watched<R: Read, W: Write>(
+fn judge_by<R: Read, W: Write>(
     alloc: Global,
-    watch: &mut Watch,
+    calls: &mut Calls,
     reader: &mut R,
     writer: &mut W,
 ) -> Result<u8, ToolFault>
@@ -102,15 +102,15 @@ fn judge_watched<R: Read, W: Write>(
     ensures status { IfOk result (λ status. status < 2) }
     ensures end { OnOk result (IsAtEnd (R.remaining reader.new)) }
     ensures input { IfErr result (λ fault. fault ≡ ToolFault.Input →
-        FailsToHear watch.new.read_failed (R.remaining reader.old) × (writer.new ≡ writer.old)) }
+        FailsToHear calls.new.read_failed (R.remaining reader.old) × (writer.new ≡ writer.old)) }
     ensures bad_hex { IfErr result (λ fault. fault ≡ ToolFault.BadHex →
         IfSome (R.remaining reader.old) IsNoCapture × (writer.new ≡ writer.old)) }
-    ensures write { IfErr result (λ fault. fault ≡ ToolFault.Write → (watch.new.write_failed ≡ true)
+    ensures write { IfErr result (λ fault. fault ≡ ToolFault.Write → (calls.new.write_failed ≡ true)
         × IfSome (R.remaining reader.old) (λ text. FindsPart text (W.contents writer.old) (W.contents writer.new))) }
     ensures memory { IfErr result (λ fault. fault ≡ ToolFault.OutOfMemory → writer.new ≡ writer.old) }
 {
-    let judgement = judgement_by(alloc, watch, reader)?;
-    watch.write_text(writer, judgement.lines.as_slice())?;
+    let judgement = judgement_by(alloc, calls, reader)?;
+    calls.write_text(writer, judgement.lines.as_slice())?;
     Ok(judgement.status)
 }
 
@@ -129,16 +129,16 @@ pub fn judge<R: Read, W: Write>(
     ensures status { IfOk result (λ status. status < 2) }
     ensures end { OnOk result (IsAtEnd (R.remaining reader.new)) }
     ensures input { IfErr result (λ f. f.fault ≡ ToolFault.Input →
-        FailsToHear f.watch.read_failed (R.remaining reader.old) × (writer.new ≡ writer.old)) }
+        FailsToHear f.calls.read_failed (R.remaining reader.old) × (writer.new ≡ writer.old)) }
     ensures bad_hex { IfErr result (λ f. f.fault ≡ ToolFault.BadHex →
         IfSome (R.remaining reader.old) IsNoCapture × (writer.new ≡ writer.old)) }
-    ensures write { IfErr result (λ f. f.fault ≡ ToolFault.Write → (f.watch.write_failed ≡ true)
+    ensures write { IfErr result (λ f. f.fault ≡ ToolFault.Write → (f.calls.write_failed ≡ true)
         × IfSome (R.remaining reader.old) (λ text. FindsPart text (W.contents writer.old) (W.contents writer.new))) }
     ensures memory { IfErr result (λ f. f.fault ≡ ToolFault.OutOfMemory → writer.new ≡ writer.old) }
 {
-    let mut watch = Watch::new();
-    match judge_watched(alloc, &mut watch, reader, writer) {
+    let mut calls = Calls::new();
+    match judge_by(alloc, &mut calls, reader, writer) {
         Ok(status) => Ok(status),
-        Err(fault) => Err(Failure { fault, watch }),
+        Err(fault) => Err(Failure { fault, calls }),
     }
 }

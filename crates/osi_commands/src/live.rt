@@ -2,18 +2,18 @@
 
 ghost use Rattle.std.specs.Prelude.{◌≡◌, ◌<◌, true, ℕ, List, [], IfOk, IfErr, IfSome, OnOk, OnErr};
 ghost use Rattle.std.specs.Io.KnownBytes.{IsAtEnd};
-ghost use Rattle.osi_dispute.specs.Disputes.{IsJudgement};
-ghost use Rattle.osi_dispute.specs.Hearing.{IsHeard};
-ghost use Rattle.osi_dispute.specs.News.{IsTold};
+ghost use Rattle.osi_report.specs.Disputes.{IsJudgement};
+ghost use Rattle.osi_report.specs.Hearing.{IsHeard};
+ghost use Rattle.osi_report.specs.News.{IsTold};
 ghost use Rattle.osi_listing.specs.Capture.{IsNoCapture};
 ghost use Rattle.osi_commands.specs.Judging.{FailsToHear};
 ghost use Rattle.osi_commands.specs.Live.{Announces, AnnouncesPart, BeginsLive, FindsLive};
 
+use crate::calls::Calls;
 use crate::faults::{Failure, ToolFault};
 use crate::judging::{PIECE, hear, judgement_of};
-use crate::watched::Watch;
-use osi_dispute::{Hearing, Judgement};
 use osi_listing::CaptureFault;
+use osi_report::{Hearing, Judgement};
 use std::alloc::Global;
 use std::io::{Read, Write};
 
@@ -38,18 +38,18 @@ fn news_of(alloc: Global, hearing: &mut Hearing) -> Result<Vec<u8>, ToolFault>
 #[tactic(auto, using(crate::proofs::what_is_certain_is_written::nothing_announced, crate::proofs::what_is_certain_is_written::announced, crate::proofs::what_is_certain_is_written::nothing_in_part))]
 fn announce<W: Write>(
     alloc: Global,
-    watch: &mut Watch,
+    calls: &mut Calls,
     writer: &mut W,
     hearing: &mut Hearing,
 ) -> Result<(), ToolFault>
     ensures kept { OnOk result ((whole rest : List ℕ) → IsHeard hearing.old whole rest → IsHeard hearing.new whole rest) }
     ensures told { OnOk result ((whole rest : List ℕ) → IsHeard hearing.old whole rest
         → Announces whole (W.contents writer.old) (W.contents writer.new)) }
-    ensures read { watch.new.read_failed ≡ watch.old.read_failed }
+    ensures read { calls.new.read_failed ≡ calls.old.read_failed }
     ensures bad_hex { IfErr result (λ fault. fault ≡ ToolFault.BadHex → (whole rest : List ℕ) → IsHeard hearing.old whole rest
         → IsNoCapture whole) }
     ensures input { IfErr result (λ fault. fault ≡ ToolFault.Input → ⊥) }
-    ensures write { IfErr result (λ fault. fault ≡ ToolFault.Write → watch.new.write_failed ≡ true) }
+    ensures write { IfErr result (λ fault. fault ≡ ToolFault.Write → calls.new.write_failed ≡ true) }
     ensures part { OnErr result ((whole rest : List ℕ) → IsHeard hearing.old whole rest
         → AnnouncesPart whole (W.contents writer.old) (W.contents writer.new)) }
     ensures others { IfErr result (λ fault. (fault ≡ ToolFault.Write → ⊥) → writer.new ≡ writer.old) }
@@ -58,7 +58,7 @@ fn announce<W: Write>(
     if told.is_empty() {
         return Ok(());
     }
-    watch.write_text(writer, told.as_slice())?;
+    calls.write_text(writer, told.as_slice())?;
     Ok(())
 }
 
@@ -66,7 +66,7 @@ fn announce<W: Write>(
 #[tactic(auto, using(crate::proofs::what_is_certain_is_written::none_so_far, crate::proofs::what_is_certain_is_written::told_all, crate::proofs::what_is_certain_is_written::part_so_far, crate::proofs::what_is_certain_is_written::bad_so_far))]
 fn hear_live<R: Read, W: Write>(
     alloc: Global,
-    watch: &mut Watch,
+    calls: &mut Calls,
     reader: &mut R,
     writer: &mut W,
     hearing: &mut Hearing,
@@ -75,10 +75,10 @@ fn hear_live<R: Read, W: Write>(
     ensures told { OnOk result (IfSome (R.remaining reader.old) (λ text. IsHeard hearing.old text text
         → Announces text (W.contents writer.old) (W.contents writer.new))) }
     ensures end { OnOk result (IsAtEnd (R.remaining reader.new)) }
-    ensures input { IfErr result (λ fault. fault ≡ ToolFault.Input → FailsToHear watch.new.read_failed (R.remaining reader.old)) }
+    ensures input { IfErr result (λ fault. fault ≡ ToolFault.Input → FailsToHear calls.new.read_failed (R.remaining reader.old)) }
     ensures bad_hex { IfErr result (λ fault. fault ≡ ToolFault.BadHex → IfSome (R.remaining reader.old) (λ text.
         IsHeard hearing.old text text → IsNoCapture text)) }
-    ensures write { IfErr result (λ fault. fault ≡ ToolFault.Write → watch.new.write_failed ≡ true) }
+    ensures write { IfErr result (λ fault. fault ≡ ToolFault.Write → calls.new.write_failed ≡ true) }
     ensures part { IfErr result (λ fault. fault ≡ ToolFault.Write → IfSome (R.remaining reader.old) (λ text.
         IsHeard hearing.old text text → AnnouncesPart text (W.contents writer.old) (W.contents writer.new))) }
     ensures others { IfErr result (λ fault. (fault ≡ ToolFault.Write → ⊥) → IfSome (R.remaining reader.old) (λ text.
@@ -87,12 +87,12 @@ fn hear_live<R: Read, W: Write>(
     let mut piece = [0; PIECE];
     let mut turns: u64 = 0;
     'pieces: while turns < u64::MAX {
-        let count = watch.read(reader, &mut piece[..])?;
+        let count = calls.read(reader, &mut piece[..])?;
         if count == 0 {
             return Ok(());
         }
         hear(hearing, &piece[..count])?;
-        announce(alloc, watch, writer, hearing)?;
+        announce(alloc, calls, writer, hearing)?;
         turns += 1;
     }
     Err(ToolFault::Input)
@@ -102,7 +102,7 @@ fn hear_live<R: Read, W: Write>(
 #[tactic(auto, using(crate::proofs::what_is_certain_is_written::told_all))]
 fn judgement_live<R: Read, W: Write>(
     alloc: Global,
-    watch: &mut Watch,
+    calls: &mut Calls,
     reader: &mut R,
     writer: &mut W,
 ) -> Result<Judgement, ToolFault>
@@ -111,24 +111,24 @@ fn judgement_live<R: Read, W: Write>(
         Announces text (W.contents writer.old) (W.contents writer.new))) }
     ensures status { IfOk result (λ j. j.status < 2) }
     ensures end { OnOk result (IsAtEnd (R.remaining reader.new)) }
-    ensures input { IfErr result (λ fault. fault ≡ ToolFault.Input → FailsToHear watch.new.read_failed (R.remaining reader.old)) }
+    ensures input { IfErr result (λ fault. fault ≡ ToolFault.Input → FailsToHear calls.new.read_failed (R.remaining reader.old)) }
     ensures bad_hex { IfErr result (λ fault. fault ≡ ToolFault.BadHex → IfSome (R.remaining reader.old) IsNoCapture) }
-    ensures write { IfErr result (λ fault. fault ≡ ToolFault.Write → watch.new.write_failed ≡ true) }
+    ensures write { IfErr result (λ fault. fault ≡ ToolFault.Write → calls.new.write_failed ≡ true) }
     ensures part { IfErr result (λ fault. fault ≡ ToolFault.Write → IfSome (R.remaining reader.old) (λ text.
         AnnouncesPart text (W.contents writer.old) (W.contents writer.new))) }
     ensures others { IfErr result (λ fault. (fault ≡ ToolFault.Write → ⊥) → IfSome (R.remaining reader.old) (λ text.
         Announces text (W.contents writer.old) (W.contents writer.new))) }
 {
     let mut hearing = Hearing::new(alloc);
-    hear_live(alloc, watch, reader, writer, &mut hearing)?;
+    hear_live(alloc, calls, reader, writer, &mut hearing)?;
     judgement_of(&mut hearing)
 }
 
 /// Judges what a reader gives, writes each finding as soon as it is certain, and remembers which call failed.
 #[tactic(auto, using(crate::proofs::what_is_certain_is_written::found_live, crate::proofs::what_is_certain_is_written::found_in_part))]
-fn judge_live_watched<R: Read, W: Write>(
+fn judge_live_by<R: Read, W: Write>(
     alloc: Global,
-    watch: &mut Watch,
+    calls: &mut Calls,
     reader: &mut R,
     writer: &mut W,
 ) -> Result<u8, ToolFault>
@@ -136,15 +136,15 @@ fn judge_live_watched<R: Read, W: Write>(
         FindsLive text (W.contents writer.old) (W.contents writer.new) status)) }
     ensures status { IfOk result (λ status. status < 2) }
     ensures end { OnOk result (IsAtEnd (R.remaining reader.new)) }
-    ensures input { IfErr result (λ fault. fault ≡ ToolFault.Input → FailsToHear watch.new.read_failed (R.remaining reader.old)) }
+    ensures input { IfErr result (λ fault. fault ≡ ToolFault.Input → FailsToHear calls.new.read_failed (R.remaining reader.old)) }
     ensures bad_hex { IfErr result (λ fault. fault ≡ ToolFault.BadHex → IfSome (R.remaining reader.old) IsNoCapture) }
-    ensures write { IfErr result (λ fault. fault ≡ ToolFault.Write → (watch.new.write_failed ≡ true)
+    ensures write { IfErr result (λ fault. fault ≡ ToolFault.Write → (calls.new.write_failed ≡ true)
         × IfSome (R.remaining reader.old) (λ text. BeginsLive text (W.contents writer.old) (W.contents writer.new))) }
     ensures others { IfErr result (λ fault. (fault ≡ ToolFault.Write → ⊥) → IfSome (R.remaining reader.old) (λ text.
         Announces text (W.contents writer.old) (W.contents writer.new))) }
 {
-    let judgement = judgement_live(alloc, watch, reader, writer)?;
-    watch.write_text(writer, judgement.lines.as_slice())?;
+    let judgement = judgement_live(alloc, calls, reader, writer)?;
+    calls.write_text(writer, judgement.lines.as_slice())?;
     Ok(judgement.status)
 }
 
@@ -166,16 +166,16 @@ pub fn judge_live<R: Read, W: Write>(
         FindsLive text (W.contents writer.old) (W.contents writer.new) status)) }
     ensures status { IfOk result (λ status. status < 2) }
     ensures end { OnOk result (IsAtEnd (R.remaining reader.new)) }
-    ensures input { IfErr result (λ f. f.fault ≡ ToolFault.Input → FailsToHear f.watch.read_failed (R.remaining reader.old)) }
+    ensures input { IfErr result (λ f. f.fault ≡ ToolFault.Input → FailsToHear f.calls.read_failed (R.remaining reader.old)) }
     ensures bad_hex { IfErr result (λ f. f.fault ≡ ToolFault.BadHex → IfSome (R.remaining reader.old) IsNoCapture) }
-    ensures write { IfErr result (λ f. f.fault ≡ ToolFault.Write → (f.watch.write_failed ≡ true)
+    ensures write { IfErr result (λ f. f.fault ≡ ToolFault.Write → (f.calls.write_failed ≡ true)
         × IfSome (R.remaining reader.old) (λ text. BeginsLive text (W.contents writer.old) (W.contents writer.new))) }
     ensures others { IfErr result (λ f. (f.fault ≡ ToolFault.Write → ⊥) → IfSome (R.remaining reader.old) (λ text.
         Announces text (W.contents writer.old) (W.contents writer.new))) }
 {
-    let mut watch = Watch::new();
-    match judge_live_watched(alloc, &mut watch, reader, writer) {
+    let mut calls = Calls::new();
+    match judge_live_by(alloc, &mut calls, reader, writer) {
         Ok(status) => Ok(status),
-        Err(fault) => Err(Failure { fault, watch }),
+        Err(fault) => Err(Failure { fault, calls }),
     }
 }

@@ -4,10 +4,10 @@ ghost use Rattle.std.specs.Prelude.{◌≡◌, ◌<◌, ◌≤◌, ◌⊎◌, �
 ghost use Rattle.osi_commands.specs.Pairing.{Tells, Pairs, PairsPart};
 ghost use Rattle.osi_commands.specs.Show.{FailsToRead, TakesAtMost};
 
+use crate::calls::Calls;
 use crate::faults::{Failure, ToolFault};
 use crate::showing::read_input;
 use crate::texts::LONGEST_INPUT;
-use crate::watched::Watch;
 use osi_transcript::{Transcript, transcribe};
 use std::alloc::Global;
 use std::io::{Read, Write};
@@ -32,9 +32,9 @@ fn transcript_of(alloc: Global, text: &[u8]) -> Result<Transcript, ToolFault>
 }
 
 /// Runs the script that a reader gives, and remembers which call failed.
-fn pair_watched<R: Read, W: Write>(
+fn pair_by<R: Read, W: Write>(
     alloc: Global,
-    watch: &mut Watch,
+    calls: &mut Calls,
     reader: &mut R,
     writer: &mut W,
 ) -> Result<u8, ToolFault>
@@ -45,15 +45,15 @@ fn pair_watched<R: Read, W: Write>(
     ensures long { IfSome (R.remaining reader.old) (λ text. 16777216 < length text →
         IsErrAnd result (λ fault. (fault ≡ ToolFault.Input) ⊎ (fault ≡ ToolFault.OutOfMemory))) }
     ensures input { IfErr result (λ fault. fault ≡ ToolFault.Input →
-        FailsToRead watch.new.read_failed (R.remaining reader.old) × (writer.new ≡ writer.old)) }
+        FailsToRead calls.new.read_failed (R.remaining reader.old) × (writer.new ≡ writer.old)) }
     ensures bad_hex { IfErr result (λ fault. fault ≡ ToolFault.BadHex → ⊥) }
-    ensures write { IfErr result (λ fault. fault ≡ ToolFault.Write → (watch.new.write_failed ≡ true)
+    ensures write { IfErr result (λ fault. fault ≡ ToolFault.Write → (calls.new.write_failed ≡ true)
         × IfSome (R.remaining reader.old) (λ text. PairsPart text (W.contents writer.old) (W.contents writer.new))) }
     ensures memory { IfErr result (λ fault. fault ≡ ToolFault.OutOfMemory → writer.new ≡ writer.old) }
 {
-    let input = read_input(alloc, watch, reader)?;
+    let input = read_input(alloc, calls, reader)?;
     let transcript = transcript_of(alloc, input.as_slice())?;
-    watch.write_text(writer, transcript.lines.as_slice())?;
+    calls.write_text(writer, transcript.lines.as_slice())?;
     Ok(transcript.status)
 }
 
@@ -71,15 +71,15 @@ pub fn pair<R: Read, W: Write>(alloc: Global, reader: &mut R, writer: &mut W) ->
     ensures long { IfSome (R.remaining reader.old) (λ text. 16777216 < length text →
         IsErrAnd result (λ f. (f.fault ≡ ToolFault.Input) ⊎ (f.fault ≡ ToolFault.OutOfMemory))) }
     ensures input { IfErr result (λ f. f.fault ≡ ToolFault.Input →
-        FailsToRead f.watch.read_failed (R.remaining reader.old) × (writer.new ≡ writer.old)) }
+        FailsToRead f.calls.read_failed (R.remaining reader.old) × (writer.new ≡ writer.old)) }
     ensures bad_hex { IfErr result (λ f. f.fault ≡ ToolFault.BadHex → ⊥) }
-    ensures write { IfErr result (λ f. f.fault ≡ ToolFault.Write → (f.watch.write_failed ≡ true)
+    ensures write { IfErr result (λ f. f.fault ≡ ToolFault.Write → (f.calls.write_failed ≡ true)
         × IfSome (R.remaining reader.old) (λ text. PairsPart text (W.contents writer.old) (W.contents writer.new))) }
     ensures memory { IfErr result (λ f. f.fault ≡ ToolFault.OutOfMemory → writer.new ≡ writer.old) }
 {
-    let mut watch = Watch::new();
-    match pair_watched(alloc, &mut watch, reader, writer) {
+    let mut calls = Calls::new();
+    match pair_by(alloc, &mut calls, reader, writer) {
         Ok(status) => Ok(status),
-        Err(fault) => Err(Failure { fault, watch }),
+        Err(fault) => Err(Failure { fault, calls }),
     }
 }

@@ -5,9 +5,9 @@ ghost use Rattle.std.specs.Io.KnownBytes.{Consumes};
 ghost use Rattle.osi_listing.specs.Capture.{IsNoCapture};
 ghost use Rattle.osi_commands.specs.Show.{FailsToRead, IsRead, Shows, ShowsPart, TakesAtMost};
 
+use crate::calls::Calls;
 use crate::faults::{Failure, ToolFault};
 use crate::texts::{LONGEST_INPUT, list_text};
-use crate::watched::Watch;
 use std::alloc::Global;
 use std::io::{Read, Write};
 
@@ -18,13 +18,13 @@ const PIECE: usize = 16384;
 /// failed.
 pub fn read_input<R: Read>(
     alloc: Global,
-    watch: &mut Watch,
+    calls: &mut Calls,
     reader: &mut R,
 ) -> Result<Vec<u8>, ToolFault>
     ensures ok { IfOk result (λ input. Consumes (R.remaining reader.old) (R.remaining reader.new) input.items
         × IsRead (R.remaining reader.new) input.items) }
     ensures most { TakesAtMost 16777217 (R.remaining reader.old) (R.remaining reader.new) }
-    ensures input { IfErr result (λ fault. fault ≡ ToolFault.Input → watch.new.read_failed ≡ true) }
+    ensures input { IfErr result (λ fault. fault ≡ ToolFault.Input → calls.new.read_failed ≡ true) }
     ensures bad_hex { IfErr result (λ fault. fault ≡ ToolFault.BadHex → ⊥) }
     ensures write { IfErr result (λ fault. fault ≡ ToolFault.Write → ⊥) }
 {
@@ -32,7 +32,7 @@ pub fn read_input<R: Read>(
     let mut piece = [0; PIECE];
     'reads: while input.len() <= LONGEST_INPUT {
         let room = (LONGEST_INPUT + 1 - input.len()).min(PIECE);
-        let count = watch.read(reader, &mut piece[..room])?;
+        let count = calls.read(reader, &mut piece[..room])?;
         if count == 0 {
             return Ok(input);
         }
@@ -53,9 +53,9 @@ fn keep(input: &mut Vec<u8>, piece: &[u8]) -> Result<(), ToolFault>
 }
 
 /// Lists what a reader gives, and remembers which call failed.
-fn show_watched<R: Read, W: Write>(
+fn show_by<R: Read, W: Write>(
     alloc: Global,
-    watch: &mut Watch,
+    calls: &mut Calls,
     reader: &mut R,
     writer: &mut W,
 ) -> Result<u8, ToolFault>
@@ -66,16 +66,16 @@ fn show_watched<R: Read, W: Write>(
     ensures long { IfSome (R.remaining reader.old) (λ text. 16777216 < length text →
         IsErrAnd result (λ fault. (fault ≡ ToolFault.Input) ⊎ (fault ≡ ToolFault.OutOfMemory))) }
     ensures input { IfErr result (λ fault. fault ≡ ToolFault.Input →
-        FailsToRead watch.new.read_failed (R.remaining reader.old) × (writer.new ≡ writer.old)) }
+        FailsToRead calls.new.read_failed (R.remaining reader.old) × (writer.new ≡ writer.old)) }
     ensures bad_hex { IfErr result (λ fault. fault ≡ ToolFault.BadHex →
         IfSome (R.remaining reader.old) IsNoCapture × (writer.new ≡ writer.old)) }
-    ensures write { IfErr result (λ fault. fault ≡ ToolFault.Write → (watch.new.write_failed ≡ true)
+    ensures write { IfErr result (λ fault. fault ≡ ToolFault.Write → (calls.new.write_failed ≡ true)
         × IfSome (R.remaining reader.old) (λ text. ShowsPart text (W.contents writer.old) (W.contents writer.new))) }
     ensures memory { IfErr result (λ fault. fault ≡ ToolFault.OutOfMemory → writer.new ≡ writer.old) }
 {
-    let input = read_input(alloc, watch, reader)?;
+    let input = read_input(alloc, calls, reader)?;
     let listed = list_text(alloc, input.as_slice())?;
-    watch.write_text(writer, listed.lines.as_slice())?;
+    calls.write_text(writer, listed.lines.as_slice())?;
     Ok(listed.status)
 }
 
@@ -91,16 +91,16 @@ pub fn show<R: Read, W: Write>(alloc: Global, reader: &mut R, writer: &mut W) ->
     ensures long { IfSome (R.remaining reader.old) (λ text. 16777216 < length text →
         IsErrAnd result (λ f. (f.fault ≡ ToolFault.Input) ⊎ (f.fault ≡ ToolFault.OutOfMemory))) }
     ensures input { IfErr result (λ f. f.fault ≡ ToolFault.Input →
-        FailsToRead f.watch.read_failed (R.remaining reader.old) × (writer.new ≡ writer.old)) }
+        FailsToRead f.calls.read_failed (R.remaining reader.old) × (writer.new ≡ writer.old)) }
     ensures bad_hex { IfErr result (λ f. f.fault ≡ ToolFault.BadHex →
         IfSome (R.remaining reader.old) IsNoCapture × (writer.new ≡ writer.old)) }
-    ensures write { IfErr result (λ f. f.fault ≡ ToolFault.Write → (f.watch.write_failed ≡ true)
+    ensures write { IfErr result (λ f. f.fault ≡ ToolFault.Write → (f.calls.write_failed ≡ true)
         × IfSome (R.remaining reader.old) (λ text. ShowsPart text (W.contents writer.old) (W.contents writer.new))) }
     ensures memory { IfErr result (λ f. f.fault ≡ ToolFault.OutOfMemory → writer.new ≡ writer.old) }
 {
-    let mut watch = Watch::new();
-    match show_watched(alloc, &mut watch, reader, writer) {
+    let mut calls = Calls::new();
+    match show_by(alloc, &mut calls, reader, writer) {
         Ok(status) => Ok(status),
-        Err(fault) => Err(Failure { fault, watch }),
+        Err(fault) => Err(Failure { fault, calls }),
     }
 }

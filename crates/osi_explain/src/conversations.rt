@@ -3,9 +3,9 @@
 use crate::places::{Place, Stop, earlier};
 use crate::streams::Stream;
 use crate::trails::run_of;
-use osi_judge::Side as Judged;
 use osi_script::Side;
 use osi_session::Standing;
+use osi_side::Side as Judged;
 use osi_tpdu::{ConnectFields, SizeCode};
 use std::alloc::{AllocError, Global};
 

@@ -2,7 +2,7 @@
 //! what this side sent, unit by unit, and the calls of a user and the lines of a script that tell such a run.
 //!
 //! A [`Capture`] reads packets and judges their units by `osi_rules`. It has a [`Conversation`] for each connection, of either class.
-//! Each side of it (a [`Stream`]) tells its TSDUs to a `Side` of `osi_judge`, and keeps the sessions that this keeps after each unit.
+//! Each side of it (a [`Stream`]) tells its TSDUs to a `Side` of `osi_side`, and keeps the sessions that this keeps after each unit.
 //! The run is read off from these backwards. It says of each unit after how many TSDUs of the other side its session sent it, and
 //! whether it did so by itself ([`Said`]). In class 0 these TSDUs are as few as may be; in class 2, where an end acknowledges what it
 //! takes, they are as many as come to the same. [`request_of`] is the call that sends a message, and [`push_line`] writes the line of a
@@ -23,8 +23,8 @@
 //! The contracts say what a line spells, and say nothing of a run: whoever tells one (`osi_witness`) plays the script before it is
 //! given to anybody.
 //!
-//! What it leaves to others: the text of a capture (`osi_dispute`), the rules of transport (`osi_rules`), which sessions explain a
-//! side (`osi_judge`), and playing (`osi_witness`).
+//! What it leaves to others: the text of a capture (`osi_report`), the rules of transport (`osi_rules`), which sessions explain a
+//! side (`osi_side`), and playing (`osi_witness`).
 #![tactic(auto)]
 
 mod calls;

@@ -3,9 +3,9 @@
 use crate::halts::Halt;
 use crate::places::{Place, Stop};
 use crate::units::acting_unit;
-use osi_judge::{Finding, Member, Side as Judged};
 use osi_script::Side;
 use osi_session::Standing;
+use osi_side::{Finding, Member, Side as Judged};
 use osi_spdu::Spdu;
 use std::alloc::{AllocError, Global};
 

@@ -5,8 +5,8 @@
 
 use crate::streams::{Said, Stream};
 use crate::units::acting_unit;
-use osi_judge::Member;
 use osi_session::{Reply, Standing, is_restart_unit};
+use osi_side::Member;
 use osi_spdu::Spdu;
 use std::alloc::{AllocError, Global};
 

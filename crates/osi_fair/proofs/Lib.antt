@@ -35,7 +35,7 @@ pub mod a_refused_request_waits_no_more
 pub mod what_a_carrier_puts
 pub mod while_no_class_is_selected
 pub mod an_end_has_broken_no_rule
-pub mod what_lasts_at_the_tap
+pub mod what_lasts_at_the_judge
 pub mod a_connection_is_lost_in_class_2_alone
 pub mod which_requests_are_put
 pub mod a_request_of_a_whole_end_is_new

@@ -72,28 +72,28 @@ module _ (local : Local) (w : Whole) (f : Called local w) (was : w.end.ended ≡
   untagged_later : AllByRecursion Untagged later
   untagged_later = (subst (AllByRecursion Untagged) came f.untagged).1
 
-  known_later : w.tap.course.disconnects.strays ≡ false → AllByRecursion (IsKnown s.given) coming
+  known_later : w.judge.course.disconnects.strays ≡ false → AllByRecursion (IsKnown s.given) coming
   known_later none = grind arith
 
   -- the connection of the CR
   pub record Place : Type 0 where
     pub c : Connection
-    pub at : slice_get w.tap.connections p ≡ Some c
+    pub at : slice_get w.judge.connections p ≡ Some c
     pub asked : Asked x c
     pub none : units_at p f.tagged ≡ []
     pub no_more : units_at p later ≡ []
     pub no_ref : f.refs p ≡ None
 
-  stand_place : (c : Connection) → slice_get w.tap.connections p ≡ Some c →
+  stand_place : (c : Connection) → slice_get w.judge.connections p ≡ Some c →
       Stand local f.shut s w.coming (units_at p f.tagged) (units_at p f.came) (w.begun && first_at p f.tagged) (f.refs p) c → Place
   stand_place c at h = grind (arith, request_is, units_at, asks_here, rest_none, no_list)
 
-  place_by : (o : Option Connection) → slice_get w.tap.connections p ≡ o → Place
+  place_by : (o : Option Connection) → slice_get w.judge.connections p ≡ o → Place
   place_by None e = no_list (request x) (units_at p later) (units_at p f.came) asks_here (f.beyond p e).1
   place_by (Some c) e = stand_place c e (f.stands p c e)
 
   pub place : Place
-  place = place_by (slice_get w.tap.connections p) refl
+  place = place_by (slice_get w.judge.connections p) refl
 
   -- ---- what is put at this place
 
@@ -136,7 +136,7 @@ module _ (local : Local) (w : Whole) (f : Called local w) (was : w.end.ended ≡
           (f.refs i) c (λ y ask lasts. asks_other i other ∙ ask was) (λ none. asks_other i other ∙ none)
           (λ r peer link come e. row_same r peer link come (f.homes i r e).1) (λ r e. unlinked_still r (f.homes i r e).1)
 
-      stand_else : (i : ℕ) (c : Connection) → (i ≡ p → ⊥) → slice_get w.tap.connections i ≡ Some c →
+      stand_else : (i : ℕ) (c : Connection) → (i ≡ p → ⊥) → slice_get w.judge.connections i ≡ Some c →
           Stand local f.shut t coming (units_at i tagged) (units_at i later) (w.begun && first_at i tagged) (f.refs i) c
       stand_else i c other at =
           subst (λ (b : Bool). Stand local f.shut t coming (units_at i tagged) (units_at i later) b (f.refs i) c) (sym (begun_same i))
@@ -144,7 +144,7 @@ module _ (local : Local) (w : Whole) (f : Called local w) (was : w.end.ended ≡
           (sym (mine_other i other))
           (stand_same i c (units_at i f.tagged) (w.begun && first_at i f.tagged) other (f.stands i c at)))
 
-      gone_by : (i : ℕ) → slice_get w.tap.connections i ≡ None → (b : Bool) → (i == p) ≡ b →
+      gone_by : (i : ℕ) → slice_get w.judge.connections i ≡ None → (b : Bool) → (i == p) ≡ b →
           (units_at i tagged ≡ []) × (units_at i later ≡ []) × ((r : ℕ) → f.refs i ≡ Some r → IsUnlinked t r)
       gone_by i none true e = grind (arith, no_item, place, eqb-true)
       gone_by i none false e =
@@ -154,7 +154,7 @@ module _ (local : Local) (w : Whole) (f : Called local w) (was : w.end.ended ≡
   -- ---- it is refused
 
   module _ (t : State) (reason : ℕ) (live : t.live ≡ s.live) (given : t.given ≡ s.given)
-      (timely : w.tap.course.disconnects.strays ≡ false → t.ended ≡ None → Timely t coming w.tap.connections (values f.tagged)) where
+      (timely : w.judge.course.disconnects.strays ≡ false → t.ended ≡ None → Timely t coming w.judge.connections (values f.tagged)) where
     abbrev dr : Value
     dr = disconnect x.source 0 reason []
 
@@ -162,7 +162,7 @@ module _ (local : Local) (w : Whole) (f : Called local w) (was : w.end.ended ≡
         (w.begun && first_at p (tagged dr)) (f.refs p) c
     stand_dr c a = refuses x a reason (mine_here dr) place.no_more place.no_ref (λ e. begun_not dr e)
 
-    dr_by : (i : ℕ) (c : Connection) (b : Bool) → (i == p) ≡ b → slice_get w.tap.connections i ≡ Some c →
+    dr_by : (i : ℕ) (c : Connection) (b : Bool) → (i == p) ≡ b → slice_get w.judge.connections i ≡ Some c →
         Stand local f.shut t coming (units_at i (tagged dr)) (units_at i later) (w.begun && first_at i (tagged dr)) (f.refs i) c
     dr_by i c true e at =
         let same = eqb-true i p e in
@@ -172,8 +172,8 @@ module _ (local : Local) (w : Whole) (f : Called local w) (was : w.end.ended ≡
         (sym same) (stand_dr c (subst (λ (y : Connection). Asked x y) is place.asked))
     dr_by i c false e at = stand_else dr t (grind arith) i c (unlike i p e) at
 
-    stray_dr : (v : Value) (rest : List Placed) → IsStray f.shut s f.refs f.home w.tap.course.disconnects.strays v rest →
-        IsStray f.shut t f.refs f.home w.tap.course.disconnects.strays v (rest ++ (Some p, dr) ∷ [])
+    stray_dr : (v : Value) (rest : List Placed) → IsStray f.shut s f.refs f.home w.judge.course.disconnects.strays v rest →
+        IsStray f.shut t f.refs f.home w.judge.course.disconnects.strays v (rest ++ (Some p, dr) ∷ [])
     stray_dr v rest a = search (arith, at_join, at_other, no_number, place, append-nil)
 
     pub is_refused : Called local (record w { end = t; put = w.put ++ dr ∷ []; coming = coming })
@@ -203,8 +203,8 @@ module _ (local : Local) (w : Whole) (f : Called local w) (was : w.end.ended ≡
       some = λ h. subst (λ (l : List Value). l ≢ []) (sym (values_are dr)) (some_more (values f.tagged) (dr ∷ []) (f.some h));
       few = subst (λ (j : ℕ). AllByRecursion (IsFor j) coming) (sym given) few;
       untagged = untagged_later;
-      timely = λ none lasts. subst (λ (l : List Value). Timely t coming w.tap.connections l) (sym (values_are dr))
-          (timely_puts t coming w.tap.connections (values f.tagged) (dr ∷ []) (λ m y e. absurd (cc e), tt) (timely none lasts));
+      timely = λ none lasts. subst (λ (l : List Value). Timely t coming w.judge.connections l) (sym (values_are dr))
+          (timely_puts t coming w.judge.connections (values f.tagged) (dr ∷ []) (λ m y e. absurd (cc e), tt) (timely none lasts));
     }
 
   -- ---- it is accepted
@@ -213,7 +213,7 @@ module _ (local : Local) (w : Whole) (f : Called local w) (was : w.end.ended ≡
       (rows : (m : ℕ) → m ≤ s.given → value_at m t.live ≡ value_at m s.live)
       (new : value_at (s.given + 1) t.live ≡ Some (linked x.source (opened_link Two size local x.credit)))
       (others : (m peer : ℕ) (l : Standing) → value_at m t.live ≡ Some (linked peer l) → (m ≡ s.given + 1 → ⊥) → m ≤ s.given)
-      (timely : w.tap.course.disconnects.strays ≡ false → t.ended ≡ None → Timely t coming w.tap.connections (values f.tagged)) where
+      (timely : w.judge.course.disconnects.strays ≡ false → t.ended ≡ None → Timely t coming w.judge.connections (values f.tagged)) where
     abbrev r : ℕ
     r = s.given + 1
 
@@ -255,18 +255,18 @@ module _ (local : Local) (w : Whole) (f : Called local w) (was : w.end.ended ≡
       come = [];
       mine_is = mine_here cc_is;
       acts = [];
-      along = λ tap. refl;
+      along = λ judge. refl;
       seen = λ e. begun_not cc_is e;
       row = talks (opened_link Two size local x.credit) new refl (dcs_alone s.given r coming (omega arith) few);
       shut_is = λ e. let up = f.shut_given r e in absurd (omega arith);
     }
 
-    cc_by : (i : ℕ) (c : Connection) (b : Bool) → (i == p) ≡ b → slice_get w.tap.connections i ≡ Some c →
+    cc_by : (i : ℕ) (c : Connection) (b : Bool) → (i == p) ≡ b → slice_get w.judge.connections i ≡ Some c →
         Stand local f.shut t coming (units_at i (tagged cc_is)) (units_at i later) (w.begun && first_at i (tagged cc_is)) (refs i) c
     cc_by i c true e at =
         let same = eqb-true i p e in
-        let is : place.c ≡ c = item_is place.c c (slice_get w.tap.connections p) place.at
-        (ap (λ (j : ℕ). slice_get w.tap.connections j) (sym same) ∙ at) in
+        let is : place.c ≡ c = item_is place.c c (slice_get w.judge.connections p) place.at
+        (ap (λ (j : ℕ). slice_get w.judge.connections j) (sym same) ∙ at) in
         subst (λ (o : Option ℕ). Stand local f.shut t coming (units_at i (tagged cc_is)) (units_at i later) (w.begun && first_at i
         (tagged cc_is)) o c)
         (sym (refs_here i e))
@@ -278,7 +278,7 @@ module _ (local : Local) (w : Whole) (f : Called local w) (was : w.end.ended ≡
         (tagged cc_is)) o c)
         (sym (refs_other i e)) (stand_else cc_is t rows i c (unlike i p e) at)
 
-    gone_cc : (i : ℕ) → slice_get w.tap.connections i ≡ None → (b : Bool) → (i == p) ≡ b →
+    gone_cc : (i : ℕ) → slice_get w.judge.connections i ≡ None → (b : Bool) → (i == p) ≡ b →
         (units_at i (tagged cc_is) ≡ []) × (units_at i later ≡ []) × ((m : ℕ) → refs i ≡ Some m → IsUnlinked t m)
     gone_cc i none true e = grind (arith, no_item, place, eqb-true)
     gone_cc i none false e = search (arith, gone_by cc_is t rows i none false e, refs_other i e)
@@ -314,7 +314,7 @@ module _ (local : Local) (w : Whole) (f : Called local w) (was : w.end.ended ≡
       positive = λ i m h. positive_by i m (i == p) refl h;
       linked_at = λ lasts m peer l there. linked_cc m peer l (m == r) refl there;
       shut_given = λ m e. subst (λ (j : ℕ). m ≤ j) (sym given) (let up = f.shut_given m e in omega arith);
-      strays = strays_keep f.shut f.shut s t f.refs (λ i. refs i) f.home (λ m. home m) w.tap.course.disconnects.strays f.tagged
+      strays = strays_keep f.shut f.shut s t f.refs (λ i. refs i) f.home (λ m. home m) w.judge.course.disconnects.strays f.tagged
           ((Some p, cc_is) ∷ [])
           (grind (arith, units_at, home_old, at_join, at_other, append-nil)) (tt, tt) f.strays;
       last = f.last;
@@ -330,8 +330,8 @@ module _ (local : Local) (w : Whole) (f : Called local w) (was : w.end.ended ≡
       some = λ h. subst (λ (l : List Value). l ≢ []) (sym (values_are cc_is)) (some_more (values f.tagged) (cc_is ∷ []) (f.some h));
       few = subst (λ (j : ℕ). AllByRecursion (IsFor j) coming) (sym given) (for_more s.given coming few);
       untagged = untagged_later;
-      timely = λ none lasts. subst (λ (l : List Value). Timely t coming w.tap.connections l) (sym (values_are cc_is))
-          (timely_answers s t coming w.tap.connections (values f.tagged) x.source (acceptance Two size x local r) (ap is_some new)
+      timely = λ none lasts. subst (λ (l : List Value). Timely t coming w.judge.connections l) (sym (values_are cc_is))
+          (timely_answers s t coming w.judge.connections (values f.tagged) x.source (acceptance Two size x local r) (ap is_some new)
           (omega arith)
           (known_later none) (timely none lasts));
     }

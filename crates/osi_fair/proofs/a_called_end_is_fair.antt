@@ -28,79 +28,79 @@ use Rattle.osi_fair.proofs.units_by_their_place.{Placed, at_first, units_at, val
 use Rattle.osi_fair.proofs.what_comes_to_a_called_end.{comes_so}
 use Rattle.osi_fair.proofs.what_holds_of_one_item.{HoldsOfEach}
 use Rattle.osi_fair.proofs.what_keeps_names_apart.{AreApart}
-use Rattle.osi_fair.proofs.what_lasts_at_the_tap.{lasts_passing}
+use Rattle.osi_fair.proofs.what_lasts_at_the_judge.{lasts_passing}
 use Rattle.osi_fair.proofs.which_unit_comes_to_a_called_end.{IsCalm, by_reach, calm_before}
 use Rattle.osi_fair.proofs.which_units_are_for_a_connection.{is_dc}
 use Rattle.osi_fair.proofs.an_end_has_broken_no_rule.{other_fine, own_fine, right_not, rubbish_fine}
 
 -- ---- a unit of the end
 
-module _ (local : Local) (w : Whole) (f : Called local w) (apart : AreApart w.tap.connections)
-    (named : AreNamedApart Left w.tap.connections) (judged : AreJudged w.tap) (right : w.tap.course.right_stopped ≡ false) (v : Value)
-    (rest : List Value) (begun : w.begun ≡ true) (knows : is_dc v ≡ true → knows_disconnect Right w.tap.course.disconnects ≡ true) where
+module _ (local : Local) (w : Whole) (f : Called local w) (apart : AreApart w.judge.connections)
+    (named : AreNamedApart Left w.judge.connections) (judged : AreJudged w.judge) (right : w.judge.course.right_stopped ≡ false) (v : Value)
+    (rest : List Value) (begun : w.begun ≡ true) (knows : is_dc v ≡ true → knows_disconnect Right w.judge.course.disconnects ≡ true) where
   abbrev Passed : Type 0
-  Passed = IsFineAt v w.tap × Called local (record w { put = rest; begun = false; tap = (takes Right v w.tap).state })
-      × AreNamedApart Left (takes Right v w.tap).state.connections
+  Passed = IsFineAt v w.judge × Called local (record w { put = rest; begun = false; judge = (takes Right v w.judge).state })
+      × AreNamedApart Left (takes Right v w.judge).state.connections
 
   at_place : (p : ℕ) (later : List Placed) → f.tagged ≡ (Some p, v) ∷ later → rest ≡ values later → (o : Option Connection) →
-      slice_get w.tap.connections p ≡ o → Passed
+      slice_get w.judge.connections p ≡ o → Passed
   at_place p later tagged rest_are None e = grind (arith, no_list, units_at, at_first)
   at_place p later tagged rest_are (Some c) e =
       one_passes local w f apart named judged right v rest begun p later tagged rest_are c e (f.stands p c e)
 
   by_tag : (o : Option ℕ) (later : List Placed) → f.tagged ≡ (o, v) ∷ later → rest ≡ values later → Passed
   by_tag None later tagged rest_are = grind (arith, stray_passes local w f right v rest later tagged rest_are knows)
-  by_tag (Some p) later tagged rest_are = at_place p later tagged rest_are (slice_get w.tap.connections p) refl
+  by_tag (Some p) later tagged rest_are = at_place p later tagged rest_are (slice_get w.judge.connections p) refl
 
   own_passes : w.put ≡ v ∷ rest → Passed
   own_passes e = let h = head_of v rest f.tagged (sym e ∙ f.put) in by_tag h.o h.later h.is h.values_are
 
-pub mild : (w : Whole) (v : Value) → IsFineAt v w.tap → IsNotBlamed (takes Right v w.tap).told.finding
+pub mild : (w : Whole) (v : Value) → IsFineAt v w.judge → IsNotBlamed (takes Right v w.judge).told.finding
 mild w v h = grind arith
 
 -- ---- all that holds
 
 -- no class is selected, or class 2; class 0 is selected, and the CC is to pass, or has passed
 pub data Stage (local : Local) (w : Whole) : Type 0 where
-  lines : Called local w → IsCalled local w.end → AreNamedApart Left w.tap.connections → Stage local w
+  lines : Called local w → IsCalled local w.end → AreNamedApart Left w.judge.connections → Stage local w
   selecting : Selecting local w → Stage local w
   selected : Selected w → Stage local w
 
 pub record Joined (local : Local) (w : Whole) : Type 0 where
-  pub apart : AreApart w.tap.connections
-  pub judged : AreJudged w.tap
+  pub apart : AreApart w.judge.connections
+  pub judged : AreJudged w.judge
   pub passings : List Passing
-  pub tap : w.tap ≡ all_passed passings fresh
-  pub two : IsOfTwo w.tap.course
-  pub stage : IsCalm w.tap.course → Stage local w
+  pub judge : w.judge ≡ all_passed passings fresh
+  pub two : IsOfTwo w.judge.course
+  pub stage : IsCalm w.judge.course → Stage local w
   -- as long as the other side is judged, this one is
-  pub right : w.tap.course.left_stopped ≡ false → w.tap.course.right_stopped ≡ false
+  pub right : w.judge.course.left_stopped ≡ false → w.judge.course.right_stopped ≡ false
   -- and it has broken no rule
-  pub fine : w.tap.course.left_stopped ≡ false → w.tap.course.right_erred ≡ false
-  -- the tap knows of each DC that it puts
+  pub fine : w.judge.course.left_stopped ≡ false → w.judge.course.right_erred ≡ false
+  -- the judge knows of each DC that it puts
   pub informed : Informed Right w
 
-calm_was : (p : Passing) (w : Whole) → IsCalm (passes p w.tap).course → IsCalm w.tap.course
-calm_was p w h = calm_before w.tap.course (passes p w.tap).course (lasts_passing p w.tap) h
+calm_was : (p : Passing) (w : Whole) → IsCalm (passes p w.judge).course → IsCalm w.judge.course
+calm_was p w h = calm_before w.judge.course (passes p w.judge).course (lasts_passing p w.judge) h
 
 one_more : (ps : List Passing) (p : Passing) (s : Traffic) → all_passed (ps ++ p ∷ []) s ≡ passes p (all_passed ps s)
 one_more [] p s = refl
 one_more (q ∷ ps) p s = one_more ps p (passes q s)
 
-tap_next : (local : Local) (w : Whole) (p : Passing) (j : Joined local w) → passes p w.tap ≡ all_passed (j.passings ++ p ∷ []) fresh
-tap_next local w p j = ap (passes p) j.tap ∙ sym (one_more j.passings p fresh)
+judge_next : (local : Local) (w : Whole) (p : Passing) (j : Joined local w) → passes p w.judge ≡ all_passed (j.passings ++ p ∷ []) fresh
+judge_next local w p j = ap (passes p) j.judge ∙ sym (one_more j.passings p fresh)
 
 -- while no class is selected one CR waits
-one_so : (local : Local) (w : Whole) (j : Joined local w) → w.tap.course.class ≡ None → HoldsOfOne (is_live Left) w.tap.connections
+one_so : (local : Local) (w : Whole) (j : Joined local w) → w.judge.course.class ≡ None → HoldsOfOne (is_live Left) w.judge.connections
 one_so local w j none = grind (arith, one_waits)
 
 module _ (local : Local) (w : Whole) (j : Joined local w) where
   -- a connection is lost in class 2 alone
-  firm_in : (k : Option Class) → w.tap.course.class ≡ k → (k ≡ Some Two → ⊥) → HoldsOfEach IsJudged w.tap.connections
-  firm_in k is none = j.judged (firm_unless_two w.tap.course j.two (λ e. none (sym is ∙ e)))
+  firm_in : (k : Option Class) → w.judge.course.class ≡ k → (k ≡ Some Two → ⊥) → HoldsOfEach IsJudged w.judge.connections
+  firm_in k is none = j.judged (firm_unless_two w.judge.course j.two (λ e. none (sym is ∙ e)))
 
   taken_by : (u : Value) (later : List Value) (f : Called local w) (c : IsCalled local w.end) (come : w.coming ≡ u ∷ later) →
-      AreNamedApart Left w.tap.connections →
+      AreNamedApart Left w.judge.connections →
       (Called local (record w { end = react u w.end; put = w.put ++ put_for u w.end; coming = later })
       × IsCalled local (react u w.end)) ⊎ SelectsZero local w f c u later come →
       Stage local (record w { end = react u w.end; put = w.put ++ put_for u w.end; coming = later })
@@ -109,7 +109,7 @@ module _ (local : Local) (w : Whole) (j : Joined local w) where
       selecting (selects_zero local w f c u later come z (one_so local w j)
       (firm_in None (class_none local w f c u later come z) (λ e. cc e)))
 
-  takes_stage : (u : Value) (later : List Value) → w.coming ≡ u ∷ later → IsCalm w.tap.course → Stage local w →
+  takes_stage : (u : Value) (later : List Value) → w.coming ≡ u ∷ later → IsCalm w.judge.course → Stage local w →
       Stage local (record w { end = react u w.end; put = w.put ++ put_for u w.end; coming = later })
   takes_stage u later come calm (lines f c named) = taken_by u later f c come named (takes_so local w f c u later come)
   takes_stage u later come calm (selecting f) = selecting (selecting_takes local w u later f)
@@ -121,20 +121,20 @@ module _ (local : Local) (w : Whole) (j : Joined local w) where
   calls_stage call may (selecting f) = selecting (selecting_calls local w call may f)
   calls_stage call may (selected f) = selected (selected_calls w call may f)
 
-  own_stage : w.begun ≡ false → w.put ≢ [] → Stage local w → Stage local (record w { begun = true; tap = packet_begins Right w.tap })
-  own_stage e some (lines f c named) = lines (line_begins local w f e some) c (end_begins Left w.tap.connections j.apart named)
+  own_stage : w.begun ≡ false → w.put ≢ [] → Stage local w → Stage local (record w { begun = true; judge = packet_begins Right w.judge })
+  own_stage e some (lines f c named) = lines (line_begins local w f e some) c (end_begins Left w.judge.connections j.apart named)
   own_stage e some (selecting f) = selecting (selecting_begins local Right w true (λ c h k. refl) f)
   own_stage e some (selected f) = selected (selected_begins Right w true f)
 
-  other_stage : Stage local w → Stage local (record w { tap = packet_begins Left w.tap })
-  other_stage (lines f c named) = lines (lines_begin local w f) c (side_begins Left w.tap.connections j.apart named)
+  other_stage : Stage local w → Stage local (record w { judge = packet_begins Left w.judge })
+  other_stage (lines f c named) = lines (lines_begin local w f) c (side_begins Left w.judge.connections j.apart named)
   other_stage (selecting f) = selecting (selecting_begins local Left w w.begun (λ c h k. h k) f)
   other_stage (selected f) = selected (selected_begins Left w w.begun f)
 
   abbrev pub Passes : Value → List Value → Type 0
-  Passes v rest = IsFineAt v w.tap × Stage local (record w { put = rest; begun = false; tap = (takes Right v w.tap).state })
+  Passes v rest = IsFineAt v w.judge × Stage local (record w { put = rest; begun = false; judge = (takes Right v w.judge).state })
 
-  pub passes_stage : (v : Value) (rest : List Value) → w.put ≡ v ∷ rest → w.begun ≡ true → IsCalm w.tap.course → Stage local w →
+  pub passes_stage : (v : Value) (rest : List Value) → w.put ≡ v ∷ rest → w.begun ≡ true → IsCalm w.judge.course → Stage local w →
       Passes v rest
   passes_stage v rest e begun calm (lines f c named) =
       let knows = dc_known Right w v rest j.informed calm.left begun e in
@@ -146,8 +146,8 @@ module _ (local : Local) (w : Whole) (j : Joined local w) where
       let all = firm_in (Some Zero) f.class (λ no. cc no) in
       let (fine, after) = selected_passes local w j.apart all calm.right v rest begun e f in (inl fine, selected after)
 
-  comes_stage : (v : Value) → HasFieldsInRange v → IsCalm w.tap.course → IsCalm (takes Left v w.tap).state.course → Stage local w →
-      Stage local (record w { tap = (takes Left v w.tap).state; coming = w.coming ++ v ∷ [] })
+  comes_stage : (v : Value) → HasFieldsInRange v → IsCalm w.judge.course → IsCalm (takes Left v w.judge).state.course → Stage local w →
+      Stage local (record w { judge = (takes Left v w.judge).state; coming = w.coming ++ v ∷ [] })
   comes_stage v ranges calm calm_after (lines f c named) = grind (arith, comes_so)
   comes_stage v ranges calm calm_after (selecting f) =
       selecting (selecting_comes w j.apart (firm_in None f.class (λ no. cc no)) v (j.fine calm.left) calm_after local f)
@@ -159,7 +159,7 @@ next_joined local arrives w new (u, coming, is) j = subst (Joined local) (sym is
   apart = j.apart;
   judged = j.judged;
   passings = j.passings;
-  tap = j.tap;
+  judge = j.judge;
   two = j.two;
   stage = λ calm. takes_stage local w j u new.coming coming calm (j.stage calm);
   right = j.right;
@@ -170,7 +170,7 @@ next_joined local (calls call) w new (may, is) j = subst (Joined local) (sym is)
   apart = j.apart;
   judged = j.judged;
   passings = j.passings;
-  tap = j.tap;
+  judge = j.judge;
   two = j.two;
   stage = λ calm. calls_stage local w j call may (j.stage calm);
   right = j.right;
@@ -178,67 +178,67 @@ next_joined local (calls call) w new (may, is) j = subst (Joined local) (sym is)
   informed = next_informed Right (calls call) w _ (may, refl) j.informed;
 })
 next_joined local begins_own w new (some, not_begun, is) j = subst (Joined local) (sym is) (record {
-  apart = passes_apart (packet Right) w.tap j.apart;
-  judged = still_judged (packet Right) w.tap j.judged;
+  apart = passes_apart (packet Right) w.judge j.apart;
+  judged = still_judged (packet Right) w.judge j.judged;
   passings = j.passings ++ packet Right ∷ [];
-  tap = tap_next local w (packet Right) j;
-  two = still_two (packet Right) w.tap j.two;
+  judge = judge_next local w (packet Right) j;
+  two = still_two (packet Right) w.judge j.two;
   stage = λ calm. own_stage local w j not_begun some (j.stage (calm_was (packet Right) w calm));
   right = j.right;
   fine = j.fine;
   informed = next_informed Right begins_own w _ (some, not_begun, refl) j.informed;
 })
 next_joined local passes_own w new (v, put, begun, is) j = subst (Joined local) (sym is) (record {
-  apart = passes_apart (passing Right v) w.tap j.apart;
-  judged = still_judged (passing Right v) w.tap j.judged;
+  apart = passes_apart (passing Right v) w.judge j.apart;
+  judged = still_judged (passing Right v) w.judge j.judged;
   passings = j.passings ++ passing Right v ∷ [];
-  tap = tap_next local w (passing Right v) j;
-  two = still_two (passing Right v) w.tap j.two;
+  judge = judge_next local w (passing Right v) j;
+  two = still_two (passing Right v) w.judge j.two;
   stage = λ calm.
       let before = calm_was (passing Right v) w calm in
       (passes_stage local w j v new.put put begun before (j.stage before)).1;
   right = λ left.
-      let l = lasts_passing (passing Right v) w.tap in
-      let before : IsCalm w.tap.course = record { left = l.left left; right = j.right (l.left left) } in
-      own_judged v w.tap (mild w v (passes_stage local w j v new.put put begun before (j.stage before)).0) before.right;
+      let l = lasts_passing (passing Right v) w.judge in
+      let before : IsCalm w.judge.course = record { left = l.left left; right = j.right (l.left left) } in
+      own_judged v w.judge (mild w v (passes_stage local w j v new.put put begun before (j.stage before)).0) before.right;
   fine = λ left.
-      let l = lasts_passing (passing Right v) w.tap in
-      let before : IsCalm w.tap.course = record { left = l.left left; right = j.right (l.left left) } in
-      own_fine Right v w.tap (right_not (takes Right v w.tap).told.finding
+      let l = lasts_passing (passing Right v) w.judge in
+      let before : IsCalm w.judge.course = record { left = l.left left; right = j.right (l.left left) } in
+      own_fine Right v w.judge (right_not (takes Right v w.judge).told.finding
       (mild w v (passes_stage local w j v new.put put begun before (j.stage before)).0)) (j.fine (l.left left));
   informed = next_informed Right passes_own w _ (v, put, begun, refl) j.informed;
 })
 next_joined local begins_other w new is j = subst (Joined local) (sym is) (record {
-  apart = passes_apart (packet Left) w.tap j.apart;
-  judged = still_judged (packet Left) w.tap j.judged;
+  apart = passes_apart (packet Left) w.judge j.apart;
+  judged = still_judged (packet Left) w.judge j.judged;
   passings = j.passings ++ packet Left ∷ [];
-  tap = tap_next local w (packet Left) j;
-  two = still_two (packet Left) w.tap j.two;
+  judge = judge_next local w (packet Left) j;
+  two = still_two (packet Left) w.judge j.two;
   stage = λ calm. other_stage local w j (j.stage (calm_was (packet Left) w calm));
   right = j.right;
   fine = j.fine;
   informed = next_informed Right begins_other w _ refl j.informed;
 })
 next_joined local (passes_other v) w new (ranges, is) j = subst (Joined local) (sym is) (record {
-  apart = passes_apart (passing Left v) w.tap j.apart;
-  judged = still_judged (passing Left v) w.tap j.judged;
+  apart = passes_apart (passing Left v) w.judge j.apart;
+  judged = still_judged (passing Left v) w.judge j.judged;
   passings = j.passings ++ passing Left v ∷ [];
-  tap = tap_next local w (passing Left v) j;
-  two = still_two (passing Left v) w.tap j.two;
+  judge = judge_next local w (passing Left v) j;
+  two = still_two (passing Left v) w.judge j.two;
   stage = λ calm.
       let before = calm_was (passing Left v) w calm in comes_stage local w j v ranges before calm (j.stage before);
   right = grind (arith, lasts_passing, other_judged);
   fine = λ left.
-      let l = lasts_passing (passing Left v) w.tap in other_fine Right v w.tap (j.fine (l.left left));
+      let l = lasts_passing (passing Left v) w.judge in other_fine Right v w.judge (j.fine (l.left left));
   informed = next_informed Right (passes_other v) w _ (ranges, refl) j.informed;
 })
 next_joined local passes_rubbish w new is j = subst (Joined local) (sym is) (record {
-  apart = passes_apart (rubbish Left) w.tap j.apart;
-  judged = still_judged (rubbish Left) w.tap j.judged;
+  apart = passes_apart (rubbish Left) w.judge j.apart;
+  judged = still_judged (rubbish Left) w.judge j.judged;
   passings = j.passings ++ rubbish Left ∷ [];
-  tap = tap_next local w (rubbish Left) j;
-  two = still_two (rubbish Left) w.tap j.two;
-  stage = λ calm. by_reach w.tap.course.class_seen w.tap.course calm;
+  judge = judge_next local w (rubbish Left) j;
+  two = still_two (rubbish Left) w.judge j.two;
+  stage = λ calm. by_reach w.judge.course.class_seen w.judge.course calm;
   right = grind (arith, lasts_passing);
   fine = grind (arith, lasts_passing, rubbish_fine);
   informed = next_informed Right passes_rubbish w _ refl j.informed;
@@ -255,7 +255,7 @@ first_joined local = record {
   apart = fresh_apart;
   judged = λ firm i c at. no_item i c at;
   passings = [];
-  tap = refl;
+  judge = refl;
   two = record { lost = λ e. absurd (cc e); seen = λ e. absurd (cc e) };
   right = λ left. refl;
   fine = λ left. refl;
@@ -286,15 +286,15 @@ first_joined local = record {
     some = λ h. absurd (cc h);
     few = tt;
     untagged = tt;
-    timely = λ strays last. record { taps = λ i c at. no_item i c at; answers = tt; firsts = tt; known = tt };
+    timely = λ strays last. record { judges = λ i c at. no_item i c at; answers = tt; firsts = tt; known = tt };
   }) (grind (arith, orderly_fresh))
       (record { lost = λ i c at. no_item i c at; used = λ n i k c e at. no_item i c at; known = λ n i k c e at. no_item i c at });
 }
 
 pub called_fair : (local : Local) (events : List Event) (w : Whole) (v : Value) (rest : List Value) →
     HappenAlong Right (begin false local) events w → w.begun ≡ true → w.put ≡ v ∷ rest →
-    is_stopped Left w.tap.course ≡ false → IsFineAt v w.tap
+    is_stopped Left w.judge.course ≡ false → IsFineAt v w.judge
 called_fair local events w v rest along begun e left =
     let j = all_joined local events (begin false local) w along (first_joined local) in
-    let calm : IsCalm w.tap.course = record { left = left; right = j.right left } in
+    let calm : IsCalm w.judge.course = record { left = left; right = j.right left } in
     (passes_stage local w j v rest e begun calm (j.stage calm)).0

@@ -108,7 +108,7 @@ module _ (local : Local) (w : Whole) (f : Called local w) (c : IsCalled local w.
     line_steps local w f t units w.coming f.came r peer link here was rows same.given (λ m other. refl) (λ p. refl)
         (λ q k row come among. record { taken = []; later = come; is = refl; among = among; follows = follows q k row })
         (λ q k row. subst (λ (i : ℕ). Leaves r i t) (same_peer peer q link k (sym here ∙ row)) (still l there))
-        f.come f.few f.untagged none (λ strays last. timely_calls s t w.coming w.tap.connections (values f.tagged) (given_same same.given)
+        f.come f.few f.untagged none (λ strays last. timely_calls s t w.coming w.judge.connections (values f.tagged) (given_same same.given)
         (λ m k. row_lives t r rows (ap is_some there) m (m == r) refl k) (f.timely strays was)),
     grind (arith, called_still),
   )
@@ -150,7 +150,7 @@ module _ (local : Local) (w : Whole) (f : Called local w) (c : IsCalled local w.
             (grind (arith, follows_closed, open_of))
             (λ q k row. shuts (ap link_now there)) f.come f.few f.untagged
             (grind (arith, closed_no_cc))
-            (λ strays last. timely_calls s t w.coming w.tap.connections (values f.tagged) (given_same same.given)
+            (λ strays last. timely_calls s t w.coming w.judge.connections (values f.tagged) (given_same same.given)
             (λ m k. row_lives t r rows (ap is_some there) m (m == r) refl k) (f.timely strays was)),
         grind (arith, called_still, orderly_closed r reason s c.orderly),
       )

@@ -19,16 +19,16 @@ pub record Selecting (local : Local) (w : Whole) : Type 0 where
   pub r : ℕ
   pub p : ℕ
   pub c : Connection
-  pub at : slice_get w.tap.connections p ≡ Some c
+  pub at : slice_get w.judge.connections p ≡ Some c
   pub asked : Asked x c
   pub selected : selected_by x local ≡ accept Zero size
   pub more : List Value
   pub put : w.put ≡ confirm x.source (acceptance Zero size x local r) ∷ more
   pub seen : w.begun ≡ true → c.seen_by_right ≡ c.left
-  pub class : w.tap.course.class ≡ None
-  pub class_seen : w.tap.course.class_seen ≡ None
-  pub unused : (i : ℕ) (e : Connection) → slice_get w.tap.connections i ≡ Some e → e.right.reference ≡ r → ⊥
-  pub others : (i : ℕ) (e : Connection) → slice_get w.tap.connections i ≡ Some e → (i ≡ p → ⊥) → is_refused e.right.phase ≡ true
+  pub class : w.judge.course.class ≡ None
+  pub class_seen : w.judge.course.class_seen ≡ None
+  pub unused : (i : ℕ) (e : Connection) → slice_get w.judge.connections i ≡ Some e → e.right.reference ≡ r → ⊥
+  pub others : (i : ℕ) (e : Connection) → slice_get w.judge.connections i ≡ Some e → (i ≡ p → ⊥) → is_refused e.right.phase ≡ true
   pub end : IsInZero (unit_octets size - 3) w.end 0 more
 
 -- it has passed
@@ -36,13 +36,13 @@ pub record Selected (w : Whole) : Type 0 where
   pub p : ℕ
   pub c : Connection
   pub limit : ℕ
-  pub at : slice_get w.tap.connections p ≡ Some c
+  pub at : slice_get w.judge.connections p ≡ Some c
   pub up : is_open c.right.phase ≡ true
   pub there : is_there c.left.phase ≡ true
-  pub class : w.tap.course.class ≡ Some Zero
-  pub class_seen : (w.tap.course.class_seen ≡ None) ⊎ (w.tap.course.class_seen ≡ Some Zero)
+  pub class : w.judge.course.class ≡ Some Zero
+  pub class_seen : (w.judge.course.class_seen ≡ None) ⊎ (w.judge.course.class_seen ≡ Some Zero)
   pub fits : IfSome c.size (λ most. limit + 3 ≤ most)
-  pub others : (i : ℕ) (e : Connection) → slice_get w.tap.connections i ≡ Some e → (i ≡ p → ⊥) → is_refused e.right.phase ≡ true
+  pub others : (i : ℕ) (e : Connection) → slice_get w.judge.connections i ≡ Some e → (i ≡ p → ⊥) → is_refused e.right.phase ≡ true
   pub end : IsInZero limit w.end c.right.begun w.put
 
 -- ---- the end takes a unit, and its user makes a call
@@ -108,35 +108,35 @@ mapped d (x ∷ cs) (suc p) c h = mapped d cs p c h
 pub selecting_begins : (local : Local) (d : Direction) (w : Whole) (b : Bool) →
     ((c : Connection) → (w.begun ≡ true → c.seen_by_right ≡ c.left) →
     b ≡ true → (begins d c).seen_by_right ≡ (begins d c).left) → Selecting local w →
-    Selecting local (record w { begun = b; tap = packet_begins d w.tap })
+    Selecting local (record w { begun = b; judge = packet_begins d w.judge })
 selecting_begins local d w b seen f = record {
   x = f.x;
   size = f.size;
   r = f.r;
   p = f.p;
   c = begins d f.c;
-  at = mapped d w.tap.connections f.p f.c f.at;
+  at = mapped d w.judge.connections f.p f.c f.at;
   asked = grind arith;
   selected = f.selected;
   more = f.more;
   put = f.put;
   seen = seen f.c f.seen;
-  class = course_class d w.tap ∙ f.class;
+  class = course_class d w.judge ∙ f.class;
   class_seen = grind arith;
   unused = grind (arith, after_map, begun_right);
   others = search (arith, after_map, begun_right);
   end = f.end;
 }
 
-pub selected_begins : (d : Direction) (w : Whole) (b : Bool) → Selected w → Selected (record w { begun = b; tap = packet_begins d w.tap })
+pub selected_begins : (d : Direction) (w : Whole) (b : Bool) → Selected w → Selected (record w { begun = b; judge = packet_begins d w.judge })
 selected_begins d w b f = record {
   p = f.p;
   c = begins d f.c;
   limit = f.limit;
-  at = mapped d w.tap.connections f.p f.c f.at;
+  at = mapped d w.judge.connections f.p f.c f.at;
   up = ap (λ (h : Half). is_open h.phase) (begun_right d f.c) ∙ f.up;
   there = ap (λ (h : Half). is_there h.phase) (begun_left d f.c) ∙ f.there;
-  class = course_class d w.tap ∙ f.class;
+  class = course_class d w.judge ∙ f.class;
   class_seen = grind arith;
   fits = subst (λ (o : Option ℕ). IfSome o (λ most. f.limit + 3 ≤ most)) (sym (grind arith)) f.fits;
   others = grind (arith, after_map, begun_right);

@@ -118,13 +118,13 @@ module _ (local : Local) (w : Whole) (f : Called local w) (c : IsCalled local w.
   untagged_all = subst (AllByRecursion Untagged) head.is f.untagged
 
   timely_then : s.ended ≡ None → (e : State) → s.given ≤ e.given → ((m : ℕ) → IsLive s m → (shuts_of u ≡ Some m → ⊥) → IsLive e m) →
-      w.tap.course.disconnects.strays ≡ false → Timely e later w.tap.connections (values f.tagged)
-  timely_then was e given lives none = timely_takes s e u later w.tap.connections (values f.tagged) given lives
-      (subst (λ (l : List Value). Timely s l w.tap.connections (values f.tagged)) come (f.timely none was))
+      w.judge.course.disconnects.strays ≡ false → Timely e later w.judge.connections (values f.tagged)
+  timely_then was e given lives none = timely_takes s e u later w.judge.connections (values f.tagged) given lives
+      (subst (λ (l : List Value). Timely s l w.judge.connections (values f.tagged)) come (f.timely none was))
 
   -- a DR for what is gone comes only if a DR has closed nothing
   gone_dr : s.ended ≡ None → (n source reason : ℕ) (user : List ℕ) → u ≡ disconnect n source reason user → value_at n s.live ≡ None →
-      (b : Bool) → w.tap.course.disconnects.strays ≡ b → b ≡ true
+      (b : Bool) → w.judge.course.disconnects.strays ≡ b → b ≡ true
   gone_dr was n source reason user e here b is = grind (arith, differ)
 
   -- ---- the end has ended, or ends
@@ -230,7 +230,7 @@ module _ (local : Local) (w : Whole) (f : Called local w) (c : IsCalled local w.
         Stand local f.shut s w.coming (units_at q f.tagged) (units_at q f.came) (w.begun && first_at q f.tagged) (f.refs q) x → ⊥
     asked_one q x e h = grind (arith, not_request, first_is, units_at, head, no_list)
 
-    asked_by_place : (q : ℕ) (o : Option Connection) → slice_get w.tap.connections q ≡ o → units_at q f.came ≡ u ∷ units_at q head.later → ⊥
+    asked_by_place : (q : ℕ) (o : Option Connection) → slice_get w.judge.connections q ≡ o → units_at q f.came ≡ u ∷ units_at q head.later → ⊥
     asked_by_place q None e h = no_list u (units_at q head.later) (units_at q f.came) h (f.beyond q e).1
     asked_by_place q (Some x) e h = asked_one q x h (f.stands q x e)
 
@@ -301,7 +301,7 @@ module _ (local : Local) (w : Whole) (f : Called local w) (c : IsCalled local w.
         let a = to_unknown (disconnect n source reason user) s in
         let dr : IsFor s.given (disconnect n source reason user) = subst (IsFor s.given) e few_all.0 in
         let (given, one) = given_so n s.given source reason user (dr n refl) in
-        let strays = gone_dr was n source reason user e here w.tap.course.disconnects.strays refl in
+        let strays = gone_dr was n source reason user e here w.judge.course.disconnects.strays refl in
         by_both a (disconnected source n ∷ []) is puts (
           left_alone local w f a (disconnected source n ∷ []) later head.later n u
               (λ p k row. no_row (value_at n s.live) (linked p k) here row)
@@ -398,19 +398,19 @@ module _ (local : Local) (w : Whole) (f : Called local w) (c : IsCalled local w.
 
   -- ---- class 0 is selected
 
-  pub class_none : SelectsZero → w.tap.course.class ≡ None
+  pub class_none : SelectsZero → w.judge.course.class ≡ None
   class_none z = grind (arith, either_none)
 
-  module _ (z : SelectsZero) (one : w.tap.course.class ≡ None → HoldsOfOne (is_live Left) w.tap.connections)
-      (judged : HoldsOfEach IsJudged w.tap.connections) where
+  module _ (z : SelectsZero) (one : w.judge.course.class ≡ None → HoldsOfOne (is_live Left) w.judge.connections)
+      (judged : HoldsOfEach IsJudged w.judge.connections) where
     no_ref : {A : Type 0} (i r : ℕ) → f.refs i ≡ Some r → A
     no_ref i r e =
         let low = f.positive i r e in
         let up = (f.homes i r e).1 in
         absurd (omega arith)
 
-    seen_none : w.tap.course.class_seen ≡ None
-    seen_none = either_none w.tap.course.class_seen f.class_seen (λ two. absurd (cc (sym (class_none z) ∙ f.seen_two two)))
+    seen_none : w.judge.course.class_seen ≡ None
+    seen_none = either_none w.judge.course.class_seen f.class_seen (λ two. absurd (cc (sym (class_none z) ∙ f.seen_two two)))
 
     asked_live : (y : Connect) (e : Connection) → Asked y e → is_live Left e ≡ true
     asked_live y e a = grind (arith, and_false)
@@ -419,11 +419,11 @@ module _ (local : Local) (w : Whole) (f : Called local w) (c : IsCalled local w.
       abbrev here : Place local w f z.was p z.x head.later came later head.values_are few_all.1
       here = place local w f z.was p z.x head.later came later head.values_are few_all.1
 
-      one_asked : (i : ℕ) (e : Connection) (y : Connect) → slice_get w.tap.connections i ≡ Some e → Asked y e → i ≡ p
+      one_asked : (i : ℕ) (e : Connection) (y : Connect) → slice_get w.judge.connections i ≡ Some e → Asked y e → i ≡ p
       one_asked i e y at a = one (class_none z) i p e here.c at here.at (judged i e at) (judged p here.c here.at) (asked_live y e a)
           (asked_live z.x here.c here.asked)
 
-      other_one : (i : ℕ) (e : Connection) → slice_get w.tap.connections i ≡ Some e → (i ≡ p → ⊥) →
+      other_one : (i : ℕ) (e : Connection) → slice_get w.judge.connections i ≡ Some e → (i ≡ p → ⊥) →
           Stand local f.shut s w.coming (units_at i f.tagged) (units_at i f.came) (w.begun && first_at i f.tagged) (f.refs i) e →
           is_refused e.right.phase ≡ true
       other_one i e at other (comes y a none ask o) = absurd (other (one_asked i e y at a))
@@ -433,7 +433,7 @@ module _ (local : Local) (w : Whole) (f : Called local w) (c : IsCalled local w.
       other_one i e at other (past silent up none ask un (inl (ref, answered))) = no_ref i e.right.reference ref
       other_one i e at other (past silent up none ask un (inr (refused, seen, judged))) = refused
 
-      none_at : (q : ℕ) (v : Value) (ts : List Placed) → f.tagged ≡ (Some q, v) ∷ ts → (e : Connection) → slice_get w.tap.connections
+      none_at : (q : ℕ) (v : Value) (ts : List Placed) → f.tagged ≡ (Some q, v) ∷ ts → (e : Connection) → slice_get w.judge.connections
           q ≡ Some e →
           Stand local f.shut s w.coming (units_at q f.tagged) (units_at q f.came) (w.begun && first_at q f.tagged) (f.refs q) e → ⊥
       none_at q v ts is e at (comes y a none ask o) = grind (arith, no_list, units_at, at_first)
@@ -444,13 +444,13 @@ module _ (local : Local) (w : Whole) (f : Called local w) (c : IsCalled local w.
       none_at q v ts is e at (past silent up none ask un off) = grind (arith, no_list, units_at, at_first)
 
       none_by_place : (q : ℕ) (v : Value) (ts : List Placed) → f.tagged ≡ (Some q, v) ∷ ts → (o : Option Connection) →
-          slice_get w.tap.connections q ≡ o → ⊥
+          slice_get w.judge.connections q ≡ o → ⊥
       none_by_place q v ts is None e = grind (arith, no_list, units_at, at_first)
       none_by_place q v ts is (Some e) at = none_at q v ts is e at (f.stands q e at)
 
       none_tagged : (ts : List Placed) → f.tagged ≡ ts → values ts ≡ []
       none_tagged [] is = refl
-      none_tagged ((Some q, v) ∷ ts) is = absurd (none_by_place q v ts is (slice_get w.tap.connections q) refl)
+      none_tagged ((Some q, v) ∷ ts) is = absurd (none_by_place q v ts is (slice_get w.judge.connections q) refl)
       none_tagged ((None, v) ∷ ts) is = grind arith
 
       none_put : values f.tagged ≡ []

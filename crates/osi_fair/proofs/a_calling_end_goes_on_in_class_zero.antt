@@ -23,13 +23,13 @@ use Rattle.osi_fair.proofs.what_a_link_does.{begun_by}
 use Rattle.osi_fair.proofs.what_an_end_does_in_class_zero.{IsInZero, over, talks, zero_calls, zero_next, zero_puts, zero_takes}
 use Rattle.osi_fair.proofs.what_an_end_puts_in_class_zero.{PutsData}
 use Rattle.osi_fair.proofs.what_holds_of_one_item.{after_map, first_true}
-use Rattle.osi_fair.proofs.while_no_class_is_selected.{IsDone, Waits, after_change, confirmed_tap, set_there}
+use Rattle.osi_fair.proofs.while_no_class_is_selected.{IsDone, Waits, after_change, confirmed_judge, set_there}
 
 -- ---- what holds
 
--- At the tap: the connection at this place is open for left, and a unit of left may have so many octets; all others are refused. If
+-- At the judge: the connection at this place is open for left, and a unit of left may have so many octets; all others are refused. If
 -- a packet of left has begun, left knows that.
-pub record ZeroTap (begun : Bool) (s : Traffic) : Type 0 where
+pub record ZeroJudge (begun : Bool) (s : Traffic) : Type 0 where
   pub p : ℕ
   pub c : Connection
   pub limit : ℕ
@@ -44,10 +44,10 @@ pub record ZeroTap (begun : Bool) (s : Traffic) : Type 0 where
   pub others : (i : ℕ) (e : Connection) → slice_get s.connections i ≡ Some e → (i ≡ p → ⊥) → IsDone e
   pub gone : begun ≡ true → (i : ℕ) (e : Connection) → slice_get s.connections i ≡ Some e → (i ≡ p → ⊥) → is_over Left e ≡ true
 
--- the end, the units that it has put, and the tap
+-- the end, the units that it has put, and the judge
 pub record IsZeroed (end : State) (units : List Value) (begun : Bool) (s : Traffic) : Type 0 where
-  pub tap : ZeroTap begun s
-  pub goes : IsInZero tap.limit end tap.c.left.begun units
+  pub judge : ZeroJudge begun s
+  pub goes : IsInZero judge.limit end judge.c.left.begun units
 
 -- ---- the end takes the CC
 
@@ -98,11 +98,11 @@ other_one cs p i new e h other k = grind arith
 pub confirmed_so : (n r p : ℕ) (o : Offer) (x : Connect) (cs : List Connection) (drs : Disconnects) (erred : Bool) (end : State) →
     (w : Waits r p o cs) →
     IsConnect x → IsCalling (one r) end → (x.class == 2) ≡ false →
-    IsZeroed (react (confirm n x) end) [] false (confirmed_tap p n x w.c cs drs erred)
+    IsZeroed (react (confirm n x) end) [] false (confirmed_judge p n x w.c cs drs erred)
 confirmed_so n r p o x cs drs erred end w range is zero =
     let new = sent_on Right (confirm n x) w.c in
     record {
-      tap = record {
+      judge = record {
         p = p;
         c = new;
         limit = limit_of x end;
@@ -126,29 +126,29 @@ confirmed_so n r p o x cs drs erred end w range is zero =
 
 module _ (end : State) (units : List Value) (begun : Bool) (s : Traffic) (f : IsZeroed end units begun s) where
   pub zeroed_takes : (u : Value) → IsZeroed (react u end) (units ++ put_for u end) begun s
-  zeroed_takes u = record { tap = f.tap; goes = zero_takes f.tap.limit end f.tap.c.left.begun units f.goes u }
+  zeroed_takes u = record { judge = f.judge; goes = zero_takes f.judge.limit end f.judge.c.left.begun units f.goes u }
 
   pub zeroed_calls : (call : UserCall) → MayCall call end → IsZeroed (user_does call end) (units ++ put_by call end) begun s
-  zeroed_calls call may = record { tap = f.tap; goes = zero_calls f.tap.limit end f.tap.c.left.begun units call f.goes may }
+  zeroed_calls call may = record { judge = f.judge; goes = zero_calls f.judge.limit end f.judge.c.left.begun units call f.goes may }
 
   -- ---- a packet begins
 
   pub zeroed_begins : IsZeroed end units true (packet_begins Left s)
   zeroed_begins = record {
-    tap = record {
-      p = f.tap.p;
-      c = begins Left f.tap.c;
-      limit = f.tap.limit;
-      at = slice_get-map (begins Left) s.connections f.tap.p ∙ ap (λ (o : Option Connection). option_map (begins Left) o) f.tap.at;
-      judged = f.tap.judged;
-      up = f.tap.up;
-      there = f.tap.there;
-      unseen = f.tap.there;
-      fits = f.tap.fits;
-      class = f.tap.class;
-      class_seen = λ h. f.tap.class;
+    judge = record {
+      p = f.judge.p;
+      c = begins Left f.judge.c;
+      limit = f.judge.limit;
+      at = slice_get-map (begins Left) s.connections f.judge.p ∙ ap (λ (o : Option Connection). option_map (begins Left) o) f.judge.at;
+      judged = f.judge.judged;
+      up = f.judge.up;
+      there = f.judge.there;
+      unseen = f.judge.there;
+      fits = f.judge.fits;
+      class = f.judge.class;
+      class_seen = λ h. f.judge.class;
       others = λ i e at other.
-          let (y, was, is) = after_map (begins Left) s.connections i e at in subst IsDone (sym is) (f.tap.others i y was other);
+          let (y, was, is) = after_map (begins Left) s.connections i e at in subst IsDone (sym is) (f.judge.others i y was other);
       gone = λ h i e at other.
           let (y, was, is) = after_map (begins Left) s.connections i e at in
           grind (arith, refused_over);
@@ -158,23 +158,23 @@ module _ (end : State) (units : List Value) (begun : Bool) (s : Traffic) (f : Is
 
   pub zeroed_elsewhere : IsZeroed end units begun (packet_begins Right s)
   zeroed_elsewhere = record {
-    tap = record {
-      p = f.tap.p;
-      c = begins Right f.tap.c;
-      limit = f.tap.limit;
-      at = slice_get-map (begins Right) s.connections f.tap.p ∙ ap (λ (o : Option Connection). option_map (begins Right) o) f.tap.at;
-      judged = f.tap.judged;
-      up = f.tap.up;
-      there = f.tap.there;
-      unseen = f.tap.unseen;
-      fits = f.tap.fits;
-      class = f.tap.class;
-      class_seen = f.tap.class_seen;
+    judge = record {
+      p = f.judge.p;
+      c = begins Right f.judge.c;
+      limit = f.judge.limit;
+      at = slice_get-map (begins Right) s.connections f.judge.p ∙ ap (λ (o : Option Connection). option_map (begins Right) o) f.judge.at;
+      judged = f.judge.judged;
+      up = f.judge.up;
+      there = f.judge.there;
+      unseen = f.judge.unseen;
+      fits = f.judge.fits;
+      class = f.judge.class;
+      class_seen = f.judge.class_seen;
       others = λ i e at other.
-          let (y, was, is) = after_map (begins Right) s.connections i e at in subst IsDone (sym is) (f.tap.others i y was other);
+          let (y, was, is) = after_map (begins Right) s.connections i e at in subst IsDone (sym is) (f.judge.others i y was other);
       gone = λ h i e at other.
           let (y, was, is) = after_map (begins Right) s.connections i e at in
-          subst (λ (z : Connection). is_over Left z ≡ true) (sym is) (f.tap.gone h i y was other);
+          subst (λ (z : Connection). is_over Left z ≡ true) (sym is) (f.judge.gone h i y was other);
     };
     goes = f.goes;
   }
@@ -190,8 +190,8 @@ not_both a b h = grind arith
 
 module _ (end : State) (s : Traffic) (u : Value) (rest : List Value) (left : s.course.left_stopped ≡ false)
     (f : IsZeroed end (u ∷ rest) true s) where
-  abbrev t : ZeroTap true s
-  t = f.tap
+  abbrev t : ZeroJudge true s
+  t = f.judge
 
   only : position (is_live Left) s.connections ≡ Some t.p
   only = only_first Left s.connections t.p t.c t.at (grind (arith, not_both, live_by)) (λ q e at other. t.gone refl q e at other)
@@ -219,7 +219,7 @@ module _ (end : State) (s : Traffic) (u : Value) (rest : List Value) (left : s.c
     dt_passes = (
       fine,
       record {
-        tap = record {
+        judge = record {
           p = t.p;
           c = new;
           limit = t.limit;
@@ -280,14 +280,14 @@ none_same : (v : Value) → IsOnly v → (o : Course) → course_after_none Righ
 none_same v k o = grind arith
 
 module _ (end : State) (units : List Value) (begun : Bool) (s : Traffic) (f : IsZeroed end units begun s) where
-  abbrev z : ZeroTap begun s
-  z = f.tap
+  abbrev z : ZeroJudge begun s
+  z = f.judge
 
   -- it is for no connection, and changes nothing that counts
   same_conns : (after : Traffic) → after.connections ≡ s.connections → after.course.class ≡ Some Zero →
       after.course.class_seen ≡ s.course.class_seen → IsZeroed end units begun after
   same_conns after same class seen = record {
-    tap = record {
+    judge = record {
       p = z.p;
       c = z.c;
       limit = z.limit;
@@ -330,7 +330,7 @@ module _ (end : State) (units : List Value) (begun : Bool) (s : Traffic) (f : Is
 
     to_it : After v (one_told Right z.p z.c v s)
     to_it class = record {
-      tap = record {
+      judge = record {
         p = z.p;
         c = next;
         limit = z.limit;

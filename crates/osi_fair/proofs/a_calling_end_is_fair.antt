@@ -8,7 +8,7 @@ use Rattle.osi_fair.proofs.a_calling_end_is_fair_in_class_2.{IsFine, Joined, fin
 use Rattle.osi_fair.proofs.how_requests_go_on.{Stage, asks, known, zero, answered, ended, quiet, refused, waits}
 use Rattle.osi_fair.proofs.no_request_is_blamed.{Holds as Staged, holds_first, holds_next, is_right}
 use Rattle.osi_fair.proofs.the_end_is_judged_as_the_other_side_is.{other_judged, own_judged}
-use Rattle.osi_fair.proofs.what_lasts_at_the_tap.{lasts_passing}
+use Rattle.osi_fair.proofs.what_lasts_at_the_judge.{lasts_passing}
 use Rattle.osi_fair.proofs.what_the_other_side_closes.{IsOngoing}
 
 -- as long as the other side is judged, the end is
@@ -18,7 +18,7 @@ IsJudged c = c.right_stopped ≡ false → c.left_stopped ≡ false
 record Stands (local : Local) (w : Whole) : Type 0 where
   staged : Staged local w
   two : local.class2 ≡ true → Joined local w
-  judged : IsJudged w.tap.course
+  judged : IsJudged w.judge.course
 
 -- ---- the unit that is passing
 
@@ -32,22 +32,22 @@ going_two : (c : Course) → c.class ≡ Some Two → c.left_stopped ≡ false �
 going_two c two left right = record { sure = record { left = left; right = right }; two = λ zero. cc (sym two ∙ zero) }
 
 module _ (local : Local) (w : Whole) (v : Value) (rest : List Value) (j : Stands local w) (e : w.put ≡ v ∷ rest) (begun : w.begun ≡ true)
-    (right : w.tap.course.right_stopped ≡ false) where
-  left : w.tap.course.left_stopped ≡ false
+    (right : w.judge.course.right_stopped ≡ false) where
+  left : w.judge.course.left_stopped ≡ false
   left = j.judged right
 
   by_stage : Stage local w → IsFine w v
   by_stage (ended none h) = none_put v rest w.put e none
-  by_stage (quiet is none not_begun cs strays tap done dcs) = none_put v rest w.put e none
-  by_stage (asks x put is offers cs strays tap done dcs all) =
+  by_stage (quiet is none not_begun cs strays judge done dcs) = none_put v rest w.put e none
+  by_stage (asks x put is offers cs strays judge done dcs all) =
       let same = first_of v (request x) rest [] (sym e ∙ put) in
       grind (arith, fine_request, left, is_right local x [] w put begun left j.staged.newer (j.staged.stage left))
-  by_stage (waits r is none not_begun cs strays tap p o offers waiting dcs) = none_put v rest w.put e none
-  by_stage (refused r is none not_begun cs strays tap done dcs u more coming are refusal too) = none_put v rest w.put e none
+  by_stage (waits r is none not_begun cs strays judge p o offers waiting dcs) = none_put v rest w.put e none
+  by_stage (refused r is none not_begun cs strays judge done dcs u more coming are refusal too) = none_put v rest w.put e none
   by_stage (answered r is none not_begun dcs n x more coming are class has after so z) = none_put v rest w.put e none
-  by_stage (zero has z) = grind (arith, left, zeroed_passes w.end w.tap v rest left (grind arith))
+  by_stage (zero has z) = grind (arith, left, zeroed_passes w.end w.judge v rest left (grind arith))
   by_stage (known two seen has) =
-      (goes local w (j.two has) v rest e begun (going_two w.tap.course two left right)).fine
+      (goes local w (j.two has) v rest e begun (going_two w.judge.course two left right)).fine
 
   is_fine : IsFine w v
   is_fine = by_stage (j.staged.stage left)
@@ -55,15 +55,15 @@ module _ (local : Local) (w : Whole) (v : Value) (rest : List Value) (j : Stands
 -- ---- whatever happens
 
 own_stays : (local : Local) (w : Whole) (v : Value) (rest : List Value) → Stands local w → w.put ≡ v ∷ rest → w.begun ≡ true →
-    IsJudged (takes Left v w.tap).state.course
+    IsJudged (takes Left v w.judge).state.course
 own_stays local w v rest j e begun right =
-    let l = lasts_passing (passing Left v) w.tap in
-    own_judged v w.tap (mild_of w v (is_fine local w v rest j e begun (l.right right))) (j.judged (l.right right)) right
+    let l = lasts_passing (passing Left v) w.judge in
+    own_judged v w.judge (mild_of w v (is_fine local w v rest j e begun (l.right right))) (j.judged (l.right right)) right
 
-rubbish_stays : (local : Local) (w : Whole) → Stands local w → IsJudged (passes (rubbish Right) w.tap).course
+rubbish_stays : (local : Local) (w : Whole) → Stands local w → IsJudged (passes (rubbish Right) w.judge).course
 rubbish_stays local w j right = grind (arith, lasts_passing)
 
-next_judged : (local : Local) (event : Event) (w new : Whole) → Happens Left event w new → Stands local w → IsJudged new.tap.course
+next_judged : (local : Local) (event : Event) (w new : Whole) → Happens Left event w new → Stands local w → IsJudged new.judge.course
 next_judged local event w new is j = search (arith, own_stays, lasts_passing, other_judged, rubbish_stays)
 
 all_stand : (local : Local) (events : List Event) (w new : Whole) → HappenAlong Left w events new → Stands local w → Stands local new
@@ -75,29 +75,29 @@ all_stand local (event ∷ events) w new (mid, first, more) j = all_stand local 
 })
 
 pub calling_fair : (local : Local) (events : List Event) (w : Whole) (v : Value) (rest : List Value) →
-    HappenAlong Left (begin true local) events w → w.begun ≡ true → w.put ≡ v ∷ rest → is_stopped Right w.tap.course ≡ false →
-    ((takes Left v w.tap).told.finding ≡ Kept) ⊎ (((takes Left v w.tap).told.finding ≡ TooMany)
-    ⊎ (((takes Left v w.tap).told.finding ≡ NotJudged) × ((w.tap.course.disconnects.strays ≡ true) ⊎ (w.tap.course.loose ≡ true))))
+    HappenAlong Left (begin true local) events w → w.begun ≡ true → w.put ≡ v ∷ rest → is_stopped Right w.judge.course ≡ false →
+    ((takes Left v w.judge).told.finding ≡ Kept) ⊎ (((takes Left v w.judge).told.finding ≡ TooMany)
+    ⊎ (((takes Left v w.judge).told.finding ≡ NotJudged) × ((w.judge.course.disconnects.strays ≡ true) ⊎ (w.judge.course.loose ≡ true))))
 calling_fair local events w v rest along begun e right =
     is_fine local w v rest (all_stand local events (begin true local) w along (search (arith, first_joined, holds_first))) e begun right
 
 -- ---- in class 0
 
 module _ (local : Local) (w : Whole) (v : Value) (rest : List Value) (e : w.put ≡ v ∷ rest) (begun : w.begun ≡ true)
-    (left : w.tap.course.left_stopped ≡ false) (class : w.tap.course.class ≡ Some Zero) where
-  zero_by : Stage local w → (takes Left v w.tap).told.finding ≡ Kept
+    (left : w.judge.course.left_stopped ≡ false) (class : w.judge.course.class ≡ Some Zero) where
+  zero_by : Stage local w → (takes Left v w.judge).told.finding ≡ Kept
   zero_by (ended none h) = none_put v rest w.put e none
-  zero_by (quiet is none not_begun cs strays tap done dcs) = none_put v rest w.put e none
-  zero_by (asks x put is offers cs strays tap done dcs all) = grind arith
-  zero_by (waits r is none not_begun cs strays tap p o offers waiting dcs) = none_put v rest w.put e none
-  zero_by (refused r is none not_begun cs strays tap done dcs u more coming are refusal too) = none_put v rest w.put e none
+  zero_by (quiet is none not_begun cs strays judge done dcs) = none_put v rest w.put e none
+  zero_by (asks x put is offers cs strays judge done dcs all) = grind arith
+  zero_by (waits r is none not_begun cs strays judge p o offers waiting dcs) = none_put v rest w.put e none
+  zero_by (refused r is none not_begun cs strays judge done dcs u more coming are refusal too) = none_put v rest w.put e none
   zero_by (answered r is none not_begun dcs n x more coming are class_of has after so z) = none_put v rest w.put e none
-  zero_by (zero has z) = grind (arith, left, zeroed_passes w.end w.tap v rest left (grind arith))
+  zero_by (zero has z) = grind (arith, left, zeroed_passes w.end w.judge v rest left (grind arith))
   zero_by (known two seen has) = absurd (cc (sym two ∙ class))
 
 pub calling_fair_in_class_0 : (local : Local) (events : List Event) (w : Whole) (v : Value) (rest : List Value) →
-    HappenAlong Left (begin true local) events w → w.begun ≡ true → w.put ≡ v ∷ rest → is_stopped Left w.tap.course ≡ false →
-    w.tap.course.class ≡ Some Zero → (takes Left v w.tap).told.finding ≡ Kept
+    HappenAlong Left (begin true local) events w → w.begun ≡ true → w.put ≡ v ∷ rest → is_stopped Left w.judge.course ≡ false →
+    w.judge.course.class ≡ Some Zero → (takes Left v w.judge).told.finding ≡ Kept
 calling_fair_in_class_0 local events w v rest along begun e left class =
     let j = all_stand local events (begin true local) w along (search (arith, first_joined, holds_first)) in
     zero_by local w v rest e begun left class (j.staged.stage left)

@@ -39,12 +39,12 @@ pub record Joined (local : Local) (w : Whole) : Type 0 where
   pub staged : Staged local w
   pub kept : Kept_so w
   pub orderly : IsOrderly w.end
-  pub local_is : IsOngoing w.tap.course → w.end.local ≡ local
-  pub followed : IsOngoing w.tap.course → Followed local w
-  pub peers : IsOngoing w.tap.course → AreNamedApart Right w.tap.connections
+  pub local_is : IsOngoing w.judge.course → w.end.local ≡ local
+  pub followed : IsOngoing w.judge.course → Followed local w
+  pub peers : IsOngoing w.judge.course → AreNamedApart Right w.judge.connections
   -- the end has broken no rule
-  pub fine : IsOngoing w.tap.course → w.tap.course.left_erred ≡ false
-  -- the tap knows of each DC that it puts
+  pub fine : IsOngoing w.judge.course → w.judge.course.left_erred ≡ false
+  -- the judge knows of each DC that it puts
   pub informed : Informed Left w
 
 orderly_calls : (call : UserCall) (s : State) → MayCall call s → IsOrderly s → IsOrderly (user_does call s)
@@ -66,28 +66,28 @@ module _ (local : Local) (w : Whole) (j : Joined local w) where
   known_so = record { peers = j.peers; selects = λ going. next_selects local w (j.followed going); fine = j.fine }
 
   -- a DR that the end takes is for a connection that it has, or a DR that closed nothing has passed
-  known_by : (b : Bool) → w.tap.course.disconnects.strays ≡ b → IsOngoing w.tap.course → (u : Value) (later : List Value) →
+  known_by : (b : Bool) → w.judge.course.disconnects.strays ≡ b → IsOngoing w.judge.course → (u : Value) (later : List Value) →
       w.coming ≡ u ∷ later →
-      w.end.ended ≡ None → IsDr u → (n : ℕ) → closed_by u ≡ Some n → IsLive w.end n ⊎ (w.tap.course.disconnects.strays ≡ true)
+      w.end.ended ≡ None → IsDr u → (n : ℕ) → closed_by u ≡ Some n → IsLive w.end n ⊎ (w.judge.course.disconnects.strays ≡ true)
   known_by b e going u later come was dr n k = grind (arith, head_live, plain_of)
 
-  taking : (u : Value) (later : List Value) → w.coming ≡ u ∷ later → IsOngoing w.tap.course →
+  taking : (u : Value) (later : List Value) → w.coming ≡ u ∷ later → IsOngoing w.judge.course →
       Followed local (record w { end = react u w.end; put = w.put ++ put_for u w.end; coming = later })
   taking u later e going =
       whole_takes local w (j.followed going) j.kept.sane (j.peers going) (j.kept.offers going) j.orderly (j.local_is going) u later e
-      (grind (arith, none_of, over_takes)) (λ was. known_by w.tap.course.disconnects.strays refl going u later e was)
+      (grind (arith, none_of, over_takes)) (λ was. known_by w.judge.course.disconnects.strays refl going u later e was)
       (known_so.selects going u later e)
 
-  calling : (call : UserCall) → MayCall call w.end → IsOngoing w.tap.course →
+  calling : (call : UserCall) → MayCall call w.end → IsOngoing w.judge.course →
       Followed local (record w { end = user_does call w.end; put = w.put ++ put_by call w.end })
   calling call may going = grind (arith, whole_calls)
 
   abbrev AfterOther : Value → Type 0
-  AfterOther v = Followed local (record w { tap = (takes Right v w.tap).state; coming = w.coming ++ v ∷ [] })
-      × AreNamedApart Right (takes Right v w.tap).state.connections
+  AfterOther v = Followed local (record w { judge = (takes Right v w.judge).state; coming = w.coming ++ v ∷ [] })
+      × AreNamedApart Right (takes Right v w.judge).state.connections
 
-  other_by : (v : Value) → HasFieldsInRange v → IsOngoing (takes Right v w.tap).state.course → (f : Followed local w) →
-      IsOngoing w.tap.course → Told v w.tap (takes Right v w.tap) ⊎ IsIdle v w.tap (takes Right v w.tap) → AfterOther v
+  other_by : (v : Value) → HasFieldsInRange v → IsOngoing (takes Right v w.judge).state.course → (f : Followed local w) →
+      IsOngoing w.judge.course → Told v w.judge (takes Right v w.judge) ⊎ IsIdle v w.judge (takes Right v w.judge) → AfterOther v
   other_by v ranges after f going (inl told) = (
     other_passes local w f j.kept.sane (j.peers going) j.staged.newer v ranges told after.sure after.two,
     other_peers local w f j.kept.sane (j.peers going) j.staged.newer v ranges told after.sure after.two,
@@ -97,13 +97,13 @@ module _ (local : Local) (w : Whole) (j : Joined local w) where
     idle_peers local w f j.kept.sane (j.peers going) v ranges idle,
   )
 
-  other_goes : (v : Value) → HasFieldsInRange v → IsOngoing (takes Right v w.tap).state.course → AfterOther v
+  other_goes : (v : Value) → HasFieldsInRange v → IsOngoing (takes Right v w.judge).state.course → AfterOther v
   other_goes v ranges after =
-      let going = before_going (passing Right v) w.tap after in
+      let going = before_going (passing Right v) w.judge after in
       let f = j.followed going in
-      other_by v ranges after f going (comes_for w.tap (j.fine going) v going.sure.left going.sure.right f.zero after.sure)
+      other_by v ranges after f going (comes_for w.judge (j.fine going) v going.sure.left going.sure.right f.zero after.sure)
 
-  rubbish_by : {A : Type 0} → IsOngoing (passes (rubbish Right) w.tap).course → A
+  rubbish_by : {A : Type 0} → IsOngoing (passes (rubbish Right) w.judge).course → A
   rubbish_by after = grind (arith, before_going)
 
 -- ---- the unit that is passing
@@ -111,48 +111,48 @@ module _ (local : Local) (w : Whole) (j : Joined local w) where
 -- It is right, or a CR and there are too many connections, or it is not judged, since a DR has closed nothing or a connection has lost its
 -- judgement.
 abbrev pub IsFine : Whole → Value → Type 0
-IsFine w v = ((takes Left v w.tap).told.finding ≡ Kept) ⊎ (((takes Left v w.tap).told.finding ≡ TooMany)
-    ⊎ (((takes Left v w.tap).told.finding ≡ NotJudged) × ((w.tap.course.disconnects.strays ≡ true) ⊎ (w.tap.course.loose ≡ true))))
+IsFine w v = ((takes Left v w.judge).told.finding ≡ Kept) ⊎ (((takes Left v w.judge).told.finding ≡ TooMany)
+    ⊎ (((takes Left v w.judge).told.finding ≡ NotJudged) × ((w.judge.course.disconnects.strays ≡ true) ⊎ (w.judge.course.loose ≡ true))))
 
 pub fine_request : (w : Whole) (v : Value) →
-    ((takes Left v w.tap).told.finding ≡ Kept) ⊎ ((takes Left v w.tap).told.finding ≡ TooMany) → IsFine w v
+    ((takes Left v w.judge).told.finding ≡ Kept) ⊎ ((takes Left v w.judge).told.finding ≡ TooMany) → IsFine w v
 fine_request w v h = grind arith
 
 -- it is so, and all holds after it
 pub record Goes (local : Local) (w : Whole) (v : Value) (rest : List Value) : Type 0 where
   pub fine : IsFine w v
-  pub followed : Followed local (record w { put = rest; begun = false; tap = (takes Left v w.tap).state })
-  pub peers : AreNamedApart Right (takes Left v w.tap).state.connections
+  pub followed : Followed local (record w { put = rest; begun = false; judge = (takes Left v w.judge).state })
+  pub peers : AreNamedApart Right (takes Left v w.judge).state.connections
 
 goes_of : (local : Local) (w : Whole) (v : Value) (rest : List Value) → Passed local w v rest → Goes local w v rest
 goes_of local w v rest p = record { fine = grind arith; followed = p.followed; peers = p.peers }
 
 module _ (local : Local) (w : Whole) (j : Joined local w) (v : Value) (rest : List Value) (e : w.put ≡ v ∷ rest) (begun : w.begun ≡ true)
-    (going : IsOngoing w.tap.course) where
+    (going : IsOngoing w.judge.course) where
   abbrev f : Followed local w
   f = j.followed going
 
-  is_loose : (p : ℕ) (c : Connection) → slice_get w.tap.connections p ≡ Some c → c.is_judged ≡ false → (b : Bool) →
-      w.tap.course.loose ≡ b → b ≡ true
+  is_loose : (p : ℕ) (c : Connection) → slice_get w.judge.connections p ≡ Some c → c.is_judged ≡ false → (b : Bool) →
+      w.judge.course.loose ≡ b → b ≡ true
   is_loose p c h lost b is = grind (arith, differ)
 
-  stray_goes : (m source : ℕ) → v ≡ disconnected m source → w.tap.course.disconnects.strays ≡ true → Goes local w v rest
+  stray_goes : (m source : ℕ) → v ≡ disconnected m source → w.judge.course.disconnects.strays ≡ true → Goes local w v rest
   stray_goes m source is strays =
       subst (λ (u : Value). Goes local w u rest) (sym is) (goes_of local w (disconnected m source) rest
       (dc_goes local w f j.kept.sane (j.peers going) m source rest (e ∙ ap (λ (u : Value). u ∷ rest) is) begun going.sure.left strays
       (dc_known Left w v rest j.informed going.sure.right begun e (ap is_dc is))))
 
   -- of a connection that has lost its judgement
-  lost_goes : (p : ℕ) (c : Connection) → slice_get w.tap.connections p ≡ Some c → c.is_judged ≡ false → (m source : ℕ) →
-      IsIgnored v w.tap ⊎ ((v ≡ disconnected m source) × (w.tap.course.disconnects.strays ≡ true)) → Goes local w v rest
+  lost_goes : (p : ℕ) (c : Connection) → slice_get w.judge.connections p ≡ Some c → c.is_judged ≡ false → (m source : ℕ) →
+      IsIgnored v w.judge ⊎ ((v ≡ disconnected m source) × (w.judge.course.disconnects.strays ≡ true)) → Goes local w v rest
   lost_goes p c at lost m source (inl ignored) = record {
-    fine = inr (inr (ignored.found, inr (is_loose p c at lost w.tap.course.loose refl)));
+    fine = inr (inr (ignored.found, inr (is_loose p c at lost w.judge.course.loose refl)));
     followed = ignored_passes local w f j.kept.sane (j.peers going) v rest e begun going.sure.left ignored;
     peers = ignored_peers local w f j.kept.sane (j.peers going) v rest e begun going.sure.left ignored;
   }
   lost_goes p c at lost m source (inr (is, strays)) = stray_goes m source is strays
 
-  of_goes : (p : ℕ) (c : Connection) → slice_get w.tap.connections p ≡ Some c → is_tracked c ≡ true →
+  of_goes : (p : ℕ) (c : Connection) → slice_get w.judge.connections p ≡ Some c → is_tracked c ≡ true →
       IsOf c.left.reference c.right.reference v → (b : Bool) → c.is_judged ≡ b → Goes local w v rest
   of_goes p c at tracked own true judged =
       goes_of local w v rest
@@ -163,7 +163,7 @@ module _ (local : Local) (w : Whole) (j : Joined local w) (v : Value) (rest : Li
       lost_goes p c at lost g.peer g.r (lost_by local w f j.kept.sane (j.peers going) v rest e begun going.sure.left p c at tracked g mine
       lost g.line.put refl)
 
-  owned_goes : IsOwned w.tap v → Goes local w v rest
+  owned_goes : IsOwned w.judge v → Goes local w v rest
   owned_goes (asking x is) =
       let put = e ∙ ap (λ (u : Value). u ∷ rest) is in
       subst (λ (u : Value). Goes local w u rest) (sym is) (record {
@@ -176,17 +176,17 @@ module _ (local : Local) (w : Whole) (j : Joined local w) (v : Value) (rest : Li
   owned_goes (stray m source is strays) = stray_goes m source is strays
 
   pub goes : Goes local w v rest
-  goes = owned_goes (subst (AllByRecursion (IsOwned w.tap)) e f.owned).0
+  goes = owned_goes (subst (AllByRecursion (IsOwned w.judge)) e f.owned).0
 
-pub mild_of : (w : Whole) (v : Value) → IsFine w v → IsMild (takes Left v w.tap).told.finding
+pub mild_of : (w : Whole) (v : Value) → IsFine w v → IsMild (takes Left v w.judge).told.finding
 mild_of w v h = grind arith
 
 -- so it breaks no rule
 own_keeps : (local : Local) (w : Whole) (v : Value) (rest : List Value) → Joined local w → w.put ≡ v ∷ rest → w.begun ≡ true →
-    IsOngoing w.tap.course → (takes Left v w.tap).state.course.left_erred ≡ false
+    IsOngoing w.judge.course → (takes Left v w.judge).state.course.left_erred ≡ false
 own_keeps local w v rest j e begun going =
     let mild = mild_of w v (goes local w j v rest e begun going).fine in
-    own_fine Left v w.tap (mild_not (takes Left v w.tap).told.finding mild) (j.fine going)
+    own_fine Left v w.judge (mild_not (takes Left v w.judge).told.finding mild) (j.fine going)
 
 -- ---- whatever happens
 
@@ -217,63 +217,63 @@ next_joined local (calls call) w new (may, is) j =
       informed = next_informed Left (calls call) w after (may, refl) j.informed;
     })
 next_joined local begins_own w new (some, not_begun, is) j =
-    let after = record w { begun = true; tap = packet_begins Left w.tap } in
+    let after = record w { begun = true; judge = packet_begins Left w.judge } in
     subst (Joined local) (sym is) (record {
       staged = holds_next local begins_own w after (some, not_begun, refl) j.staged;
       kept = next_holds begins_own w after (some, not_begun, refl) (known_so local w j) j.kept;
       orderly = j.orderly;
-      local_is = λ going. j.local_is (before_going (packet Left) w.tap going);
-      followed = λ going. own_begins local w not_begun some (j.followed (before_going (packet Left) w.tap going));
-      peers = λ going. end_begins Right w.tap.connections j.kept.sane.apart (j.peers (before_going (packet Left) w.tap going));
-      fine = λ going. j.fine (before_going (packet Left) w.tap going);
+      local_is = λ going. j.local_is (before_going (packet Left) w.judge going);
+      followed = λ going. own_begins local w not_begun some (j.followed (before_going (packet Left) w.judge going));
+      peers = λ going. end_begins Right w.judge.connections j.kept.sane.apart (j.peers (before_going (packet Left) w.judge going));
+      fine = λ going. j.fine (before_going (packet Left) w.judge going);
       informed = next_informed Left begins_own w after (some, not_begun, refl) j.informed;
     })
 next_joined local passes_own w new (v, put, begun, is) j =
-    let after = record w { put = new.put; begun = false; tap = (takes Left v w.tap).state } in
+    let after = record w { put = new.put; begun = false; judge = (takes Left v w.judge).state } in
     subst (Joined local) (sym is) (record {
       staged = holds_next local passes_own w after (v, put, begun, refl) j.staged;
       kept = next_holds passes_own w after (v, put, begun, refl) (known_so local w j) j.kept;
       orderly = j.orderly;
-      local_is = λ going. j.local_is (before_going (passing Left v) w.tap going);
-      followed = λ going. (goes local w j v new.put put begun (before_going (passing Left v) w.tap going)).followed;
-      peers = λ going. (goes local w j v new.put put begun (before_going (passing Left v) w.tap going)).peers;
-      fine = λ going. own_keeps local w v new.put j put begun (before_going (passing Left v) w.tap going);
+      local_is = λ going. j.local_is (before_going (passing Left v) w.judge going);
+      followed = λ going. (goes local w j v new.put put begun (before_going (passing Left v) w.judge going)).followed;
+      peers = λ going. (goes local w j v new.put put begun (before_going (passing Left v) w.judge going)).peers;
+      fine = λ going. own_keeps local w v new.put j put begun (before_going (passing Left v) w.judge going);
       informed = next_informed Left passes_own w after (v, put, begun, refl) j.informed;
     })
 next_joined local begins_other w new is j =
-    let after = record w { tap = packet_begins Right w.tap } in
+    let after = record w { judge = packet_begins Right w.judge } in
     subst (Joined local) (sym is) (record {
       staged = holds_next local begins_other w after refl j.staged;
       kept = next_holds begins_other w after refl (known_so local w j) j.kept;
       orderly = j.orderly;
-      local_is = λ going. j.local_is (before_going (packet Right) w.tap going);
-      followed = λ going. other_begins local w (j.followed (before_going (packet Right) w.tap going));
-      peers = λ going. side_begins Right w.tap.connections j.kept.sane.apart (j.peers (before_going (packet Right) w.tap going));
-      fine = λ going. j.fine (before_going (packet Right) w.tap going);
+      local_is = λ going. j.local_is (before_going (packet Right) w.judge going);
+      followed = λ going. other_begins local w (j.followed (before_going (packet Right) w.judge going));
+      peers = λ going. side_begins Right w.judge.connections j.kept.sane.apart (j.peers (before_going (packet Right) w.judge going));
+      fine = λ going. j.fine (before_going (packet Right) w.judge going);
       informed = next_informed Left begins_other w after refl j.informed;
     })
 next_joined local (passes_other v) w new (ranges, is) j =
-    let after = record w { tap = (takes Right v w.tap).state; coming = w.coming ++ v ∷ [] } in
+    let after = record w { judge = (takes Right v w.judge).state; coming = w.coming ++ v ∷ [] } in
     subst (Joined local) (sym is) (record {
       staged = holds_next local (passes_other v) w after (ranges, refl) j.staged;
       kept = next_holds (passes_other v) w after (ranges, refl) (known_so local w j) j.kept;
       orderly = j.orderly;
-      local_is = λ going. j.local_is (before_going (passing Right v) w.tap going);
+      local_is = λ going. j.local_is (before_going (passing Right v) w.judge going);
       followed = λ going. (other_goes local w j v ranges going).0;
       peers = λ going. (other_goes local w j v ranges going).1;
-      fine = λ going. other_fine Left v w.tap (j.fine (before_going (passing Right v) w.tap going));
+      fine = λ going. other_fine Left v w.judge (j.fine (before_going (passing Right v) w.judge going));
       informed = next_informed Left (passes_other v) w after (ranges, refl) j.informed;
     })
 next_joined local passes_rubbish w new is j =
-    let after = record w { tap = passes (rubbish Right) w.tap } in
+    let after = record w { judge = passes (rubbish Right) w.judge } in
     subst (Joined local) (sym is) (record {
       staged = holds_next local passes_rubbish w after refl j.staged;
       kept = next_holds passes_rubbish w after refl (known_so local w j) j.kept;
       orderly = j.orderly;
-      local_is = λ going. j.local_is (before_going (rubbish Right) w.tap going);
+      local_is = λ going. j.local_is (before_going (rubbish Right) w.judge going);
       followed = λ going. rubbish_by local w j going;
       peers = λ going. rubbish_by local w j going;
-      fine = λ going. rubbish_fine Left Right w.tap (j.fine (before_going (rubbish Right) w.tap going));
+      fine = λ going. rubbish_fine Left Right w.judge (j.fine (before_going (rubbish Right) w.judge going));
       informed = next_informed Left passes_rubbish w after refl j.informed;
     })
 
@@ -291,13 +291,13 @@ has_none h b h2 k e = grind arith
 
 -- while the end is not over, class 0 is selected only if the end has it
 module _ (local : Local) (w : Whole) (lasts : w.end.ended ≡ None) (no_zero : local.class0 ≡ false) (two : local.class2 ≡ true)
-    (selected : w.tap.course.class ≡ Some Zero) where
+    (selected : w.judge.course.class ≡ Some Zero) where
   not_selected : Stage local w → ⊥
   not_selected h = grind (arith, over_not, has_none)
 
 pub gone : (local : Local) (events : List Event) (w : Whole) (n source reason : ℕ) (user : List ℕ) (more : List Value) →
     local.class0 ≡ false → local.class2 ≡ true → HappenAlong Left (begin true local) events w →
     w.coming ≡ disconnect n source reason user ∷ more → w.end.ended ≡ None → value_at n w.end.live ≡ None →
-    is_stopped Left w.tap.course ≡ false → is_stopped Right w.tap.course ≡ false → w.tap.course.disconnects.strays ≡ true
+    is_stopped Left w.judge.course ≡ false → is_stopped Right w.judge.course ≡ false → w.judge.course.disconnects.strays ≡ true
 gone local events w n source reason user more no_zero two along coming lasts none left right =
     grind (arith, not_selected, all_joined local events (begin true local) w along (first_joined local two), first_joined local two)

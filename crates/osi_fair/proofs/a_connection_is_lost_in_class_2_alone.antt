@@ -6,7 +6,7 @@ use Rattle.osi_fair.proofs.Vocabulary.{routed, Traffic as State, takes, unnamed_
 use Rattle.osi_fair.proofs.Vocabulary.{passes, Passing, noted, disconnect, refl, sym, ◌∙◌}
 use Rattle.osi_rules.specs.Traffic.{unnamed}
 use Rattle.osi_rules.specs.declared.findings.Reach.TheVariants as reach
-use Rattle.osi_fair.proofs.what_lasts_at_the_tap.{Lasts, lasts_passing}
+use Rattle.osi_fair.proofs.what_lasts_at_the_judge.{Lasts, lasts_passing}
 
 pub record IsOfTwo (c : Course) : Type 0 where
   pub lost : c.loose ≡ true → c.class ≡ Some Two

@@ -1,4 +1,4 @@
--- An end sends a DC only after it was sent a DR, which had passed when the packet of the DC began: so the tap knows it, as long as
+-- An end sends a DC only after it was sent a DR, which had passed when the packet of the DC began: so the judge knows it, as long as
 -- the other side is judged. For the laws on whole ends.
 use Rattle.osi_fair.proofs.Vocabulary.{arith, [], ap, Bool, Err, false, if◌then◌else◌, List, map, None, not, Ok, Option, refl, Result, Some}
 use Rattle.osi_fair.proofs.Vocabulary.{subst, sym, true, ℕ, ◌++◌, ◌∙◌, ◌∷◌, ◌≡◌, ◌≢◌, AllByRecursion, position, slice_get, ◌||◌, ◌&&◌}
@@ -28,7 +28,7 @@ use Rattle.osi_rules.specs.declared.findings.Reach.TheVariants as reach
 use Rattle.osi_rules.specs.declared.findings.Rule.TheVariants as rule
 use Rattle.osi_fair.proofs.each_connection_has_its_line.{all_so}
 use Rattle.osi_fair.proofs.what_a_whole_end_takes.{all_join}
-use Rattle.osi_fair.proofs.what_lasts_at_the_tap.{lasts_passing}
+use Rattle.osi_fair.proofs.what_lasts_at_the_judge.{lasts_passing}
 use Rattle.osi_fair.proofs.which_units_are_for_a_connection.{is_dc}
 
 abbrev pub is_dr : Value → Bool
@@ -302,13 +302,13 @@ Begun d s [] = ⊥
 Begun d s (v ∷ vs) = is_dc v ≡ true → knows_disconnect d s.course.disconnects ≡ true
 
 pub record Tells (d : Direction) (w : Whole) : Type 0 where
-  pub coming : AllByRecursion (Noted d w.tap is_dr) w.coming
-  pub put : AllByRecursion (Noted d w.tap is_dc) w.put
-  pub begun : w.begun ≡ true → Begun d w.tap w.put
+  pub coming : AllByRecursion (Noted d w.judge is_dr) w.coming
+  pub put : AllByRecursion (Noted d w.judge is_dc) w.put
+  pub begun : w.begun ≡ true → Begun d w.judge w.put
 
--- the tap knows of each DC that the end puts, as long as the other side is judged
+-- the judge knows of each DC that the end puts, as long as the other side is judged
 abbrev pub Informed : Direction → Whole → Type 0
-Informed d w = is_stopped (other d) w.tap.course ≡ false → Tells d w
+Informed d w = is_stopped (other d) w.judge.course ≡ false → Tells d w
 
 has_still : (e : Direction) (a b : Course) → Keeps a b → has_disconnected e a.disconnects ≡ true → has_disconnected e b.disconnects ≡ true
 has_still Left a b k h = k.left h
@@ -349,12 +349,12 @@ for_noted d s u end true e h = all_of (Noted d s is_dc) (put_for u end) (λ v dc
 for_noted d s u end false e h = none_noted d s (put_for u end) (for_no_dc u end e)
 
 puts_more : (d : Direction) (w : Whole) (units coming : List Value) (end : State) → Tells d w →
-    AllByRecursion (Noted d w.tap is_dc) units → AllByRecursion (Noted d w.tap is_dr) coming →
+    AllByRecursion (Noted d w.judge is_dc) units → AllByRecursion (Noted d w.judge is_dr) coming →
     Tells d (record w { end = end; put = w.put ++ units; coming = coming })
 puts_more d w units coming end h more come = record {
   coming = come;
-  put = all_join (Noted d w.tap is_dc) w.put units h.put more;
-  begun = λ b. begun_more d w.tap w.put units (h.begun b);
+  put = all_join (Noted d w.judge is_dc) w.put units h.put more;
+  begun = λ b. begun_more d w.judge w.put units (h.begun b);
 }
 
 -- ---- a packet begins
@@ -397,53 +397,53 @@ first_begun d s (v ∷ vs) some h = λ dc. begins_knows d s ∙ h.0 dc
 pub next_informed : (d : Direction) (event : Event) (w new : Whole) → Happens d event w new → Informed d w → Informed d new
 next_informed d arrives w new (u, coming, is) j = subst (Informed d) (sym is) (λ judged.
     let h = j judged in
-    let come = subst (AllByRecursion (Noted d w.tap is_dr)) coming h.coming in
-    puts_more d w (put_for u w.end) new.coming (react u w.end) h (for_noted d w.tap u w.end (is_dr u) refl come.0) come.1)
+    let come = subst (AllByRecursion (Noted d w.judge is_dr)) coming h.coming in
+    puts_more d w (put_for u w.end) new.coming (react u w.end) h (for_noted d w.judge u w.end (is_dr u) refl come.0) come.1)
 next_informed d (calls call) w new (may, is) j = subst (Informed d) (sym is) (λ judged.
     let h = j judged in
-    puts_more d w (put_by call w.end) w.coming (user_does call w.end) h (none_noted d w.tap (put_by call w.end) (by_no_dc call w.end))
+    puts_more d w (put_by call w.end) w.coming (user_does call w.end) h (none_noted d w.judge (put_by call w.end) (by_no_dc call w.end))
     h.coming)
 next_informed d begins_own w new (some, not_begun, is) j = subst (Informed d) (sym is) (λ judged.
-    let h = j (sym (begins_stopped d (other d) w.tap) ∙ judged) in
+    let h = j (sym (begins_stopped d (other d) w.judge) ∙ judged) in
     record {
-      coming = begins_all d d w.tap is_dr w.coming h.coming;
-      put = begins_all d d w.tap is_dc w.put h.put;
-      begun = λ b. first_begun d w.tap w.put some h.put;
+      coming = begins_all d d w.judge is_dr w.coming h.coming;
+      put = begins_all d d w.judge is_dc w.put h.put;
+      begun = λ b. first_begun d w.judge w.put some h.put;
     })
 next_informed d passes_own w new (v, put, begun, is) j = subst (Informed d) (sym is) (λ judged.
-    let h = j (stopped_before (other d) (passing d v) w.tap judged) in
-    let k = takes_keeps d v w.tap in
-    let rest = subst (AllByRecursion (Noted d w.tap is_dc)) put h.put in
+    let h = j (stopped_before (other d) (passing d v) w.judge judged) in
+    let k = takes_keeps d v w.judge in
+    let rest = subst (AllByRecursion (Noted d w.judge is_dc)) put h.put in
     record {
-      coming = all_still d w.tap (takes d v w.tap).state is_dr w.coming k h.coming;
-      put = all_still d w.tap (takes d v w.tap).state is_dc new.put k rest.1;
+      coming = all_still d w.judge (takes d v w.judge).state is_dr w.coming k h.coming;
+      put = all_still d w.judge (takes d v w.judge).state is_dc new.put k rest.1;
       begun = λ b. absurd (cc b);
     })
 next_informed d begins_other w new is j = subst (Informed d) (sym is) (λ judged.
-    let h = j (sym (begins_stopped (other d) (other d) w.tap) ∙ judged) in
+    let h = j (sym (begins_stopped (other d) (other d) w.judge) ∙ judged) in
     record {
-      coming = begins_all d (other d) w.tap is_dr w.coming h.coming;
-      put = begins_all d (other d) w.tap is_dc w.put h.put;
-      begun = λ b. begun_still d w.tap (packet_begins (other d) w.tap) w.put (begins_other_knows d w.tap) (h.begun b);
+      coming = begins_all d (other d) w.judge is_dr w.coming h.coming;
+      put = begins_all d (other d) w.judge is_dc w.put h.put;
+      begun = λ b. begun_still d w.judge (packet_begins (other d) w.judge) w.put (begins_other_knows d w.judge) (h.begun b);
     })
 next_informed d (passes_other v) w new (ranges, is) j = subst (Informed d) (sym is) (λ judged.
-    let t = (takes (other d) v w.tap).state in
-    let h = j (stopped_before (other d) (passing (other d) v) w.tap judged) in
-    let k = takes_keeps (other d) v w.tap in
+    let t = (takes (other d) v w.judge).state in
+    let h = j (stopped_before (other d) (passing (other d) v) w.judge judged) in
+    let k = takes_keeps (other d) v w.judge in
     record {
-      coming = all_join (Noted d t is_dr) w.coming (v ∷ []) (all_still d w.tap t is_dr w.coming k h.coming)
-          (λ dr. is_noted (other d) v w.tap dr judged, tt);
-      put = all_still d w.tap t is_dc w.put k h.put;
-      begun = λ b. begun_still d w.tap t w.put (knows_still d w.tap.course t.course k) (h.begun b);
+      coming = all_join (Noted d t is_dr) w.coming (v ∷ []) (all_still d w.judge t is_dr w.coming k h.coming)
+          (λ dr. is_noted (other d) v w.judge dr judged, tt);
+      put = all_still d w.judge t is_dc w.put k h.put;
+      begun = λ b. begun_still d w.judge t w.put (knows_still d w.judge.course t.course k) (h.begun b);
     })
 next_informed d passes_rubbish w new is j = subst (Informed d) (sym is) (λ judged.
-    let t = refused (other d) w.tap in
-    let h = j (stopped_before (other d) (rubbish (other d)) w.tap judged) in
-    let k = refused_keeps (other d) w.tap in
+    let t = refused (other d) w.judge in
+    let h = j (stopped_before (other d) (rubbish (other d)) w.judge judged) in
+    let k = refused_keeps (other d) w.judge in
     record {
-      coming = all_still d w.tap t is_dr w.coming k h.coming;
-      put = all_still d w.tap t is_dc w.put k h.put;
-      begun = λ b. begun_still d w.tap t w.put (knows_still d w.tap.course t.course k) (h.begun b);
+      coming = all_still d w.judge t is_dr w.coming k h.coming;
+      put = all_still d w.judge t is_dc w.put k h.put;
+      begun = λ b. begun_still d w.judge t w.put (knows_still d w.judge.course t.course k) (h.begun b);
     })
 
 pub first_informed : (d : Direction) (is_caller : Bool) (local : Local) → Informed d (begin is_caller local)
@@ -454,9 +454,9 @@ known_by : (d : Direction) (s : Traffic) (v : Value) (rest vs : List Value) → 
     knows_disconnect d s.course.disconnects ≡ true
 known_by d s v rest vs e dc h = subst (Begun d s) e h dc
 
-pub dc_known : (d : Direction) (w : Whole) (v : Value) (rest : List Value) → Informed d w → is_stopped (other d) w.tap.course ≡ false →
-    w.begun ≡ true → w.put ≡ v ∷ rest → is_dc v ≡ true → knows_disconnect d w.tap.course.disconnects ≡ true
-dc_known d w v rest j judged begun e dc = known_by d w.tap v rest w.put e dc ((j judged).begun begun)
+pub dc_known : (d : Direction) (w : Whole) (v : Value) (rest : List Value) → Informed d w → is_stopped (other d) w.judge.course ≡ false →
+    w.begun ≡ true → w.put ≡ v ∷ rest → is_dc v ≡ true → knows_disconnect d w.judge.course.disconnects ≡ true
+dc_known d w v rest j judged begun e dc = known_by d w.judge v rest w.put e dc ((j judged).begun begun)
 
 -- ---- which DC may answer a DR
 
@@ -477,7 +477,7 @@ all_informed d (event ∷ events) w new (mid, first, more) j =
 
 pub informed_dc : (d : Direction) (is_caller : Bool) (local : Local) (events : List Event) (w : Whole) (n source : ℕ) (rest : List Value) →
     HappenAlong d (begin is_caller local) events w → w.begun ≡ true → w.put ≡ disconnected n source ∷ rest →
-    is_stopped (other d) w.tap.course ≡ false → knows_disconnect d w.tap.course.disconnects ≡ true
+    is_stopped (other d) w.judge.course ≡ false → knows_disconnect d w.judge.course.disconnects ≡ true
 informed_dc d is_caller local events w n source rest along begun e judged =
     dc_known d w (disconnected n source) rest
     (all_informed d events (begin is_caller local) w along (first_informed d is_caller local)) judged begun e refl

@@ -1,4 +1,4 @@
--- A DC of a whole calling end passes that answers a DR which closed nothing: it changes no connection at the tap, or it is that of a line.
+-- A DC of a whole calling end passes that answers a DR which closed nothing: it changes no connection at the judge, or it is that of a line.
 -- For the law on a whole end.
 use Rattle.osi_fair.proofs.Vocabulary.{arith, [], Bool, false, if◌then◌else◌, inl, inr, List, None, Option, refl, Some, subst, sym, true, ℕ}
 use Rattle.osi_fair.proofs.Vocabulary.{◌∷◌, ◌≡◌, eqb-true, not, position, slice_get, ◌||◌, disconnected, Value, Class, Two, Zero, Local}
@@ -18,7 +18,7 @@ use Rattle.osi_fair.proofs.what_the_other_side_closes.{IsSane}
 use Rattle.osi_fair.proofs.which_units_are_for_a_connection.{IsOf}
 use Rattle.osi_fair.proofs.while_no_class_is_selected.{set_same}
 
--- ---- at the tap
+-- ---- at the judge
 
 -- it is not judged and changes no connection, or it answers a DR on a connection that is judged
 pub data Passes (m source : ℕ) (s : Traffic) (o : Outcome) : Type 0 where
@@ -78,16 +78,16 @@ pub record IsDueOn (c : Connection) (m source : ℕ) : Type 0 where
 due_on : (c : Connection) (m source : ℕ) → Sound c → is_named Left m c ≡ true → is_due Left c source ≡ true → IsDueOn c m source
 due_on c m source sound named h = grind (arith, and_first, and_second, both, or_last, eqb-true)
 
-module _ (local : Local) (w : Whole) (f : Followed local w) (sane : IsSane w.tap) (peers : AreNamedApart Right w.tap.connections)
+module _ (local : Local) (w : Whole) (f : Followed local w) (sane : IsSane w.judge) (peers : AreNamedApart Right w.judge.connections)
     (m source : ℕ) (rest : List Value) (e : w.put ≡ disconnected m source ∷ rest) (begun : w.begun ≡ true)
-    (left : w.tap.course.left_stopped ≡ false) (strays : w.tap.course.disconnects.strays ≡ true)
-    (knows : knows_disconnect Left w.tap.course.disconnects ≡ true) where
+    (left : w.judge.course.left_stopped ≡ false) (strays : w.judge.course.disconnects.strays ≡ true)
+    (knows : knows_disconnect Left w.judge.course.disconnects ≡ true) where
   abbrev dc : Value
   dc = disconnected m source
 
-  passes_by : Passes m source w.tap (takes Left dc w.tap) → Passed local w dc rest
+  passes_by : Passes m source w.judge (takes Left dc w.judge) → Passed local w dc rest
   passes_by (idle spared same) =
-      let ignored : IsIgnored dc w.tap = record { found = spared; same = same } in
+      let ignored : IsIgnored dc w.judge = record { found = spared; same = same } in
       record {
         fine = inr (spared, inl strays);
         followed = ignored_passes local w f sane peers dc rest e begun left ignored;
@@ -96,4 +96,4 @@ module _ (local : Local) (w : Whole) (f : Followed local w) (sane : IsSane w.tap
   passes_by (due p c at named h judged) = search (arith, own_goes, due_on c m source (sane.apart.sound p c at judged) named h)
 
   pub dc_goes : Passed local w dc rest
-  dc_goes = passes_by (dc_passes m source w.tap (may_so Left w.tap.course.disconnects strays knows) left)
+  dc_goes = passes_by (dc_passes m source w.judge (may_so Left w.judge.course.disconnects strays knows) left)

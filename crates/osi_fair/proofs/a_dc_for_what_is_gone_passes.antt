@@ -1,4 +1,4 @@
--- A DC with which a whole called end answers a DR for what is gone passes: it answers nothing at the tap, and changes nothing.
+-- A DC with which a whole called end answers a DR for what is gone passes: it answers nothing at the judge, and changes nothing.
 -- For the law on a whole called end.
 use Rattle.osi_fair.proofs.Vocabulary.{arith, [], ap, Bool, false, if◌then◌else◌, List, None, Option, Some, subst, true, ℕ, ◌∙◌, ◌∷◌, ◌≡◌}
 use Rattle.osi_fair.proofs.Vocabulary.{eqb-true, not, slice_get, ◌&&◌, ◌==◌, ◌||◌, disconnected, Value, Local, first_failed, is_due}
@@ -41,36 +41,36 @@ module _ (m n : ℕ) (s : Traffic) (strays : may_answer Right s.course.disconnec
       Spared (disconnected m n) s (takes Right (disconnected m n) s)
   spared right h = grind (arith, found_spared)
 
-module _ (local : Local) (w : Whole) (f : Called local w) (right : w.tap.course.right_stopped ≡ false) (u : Value) (rest : List Value)
+module _ (local : Local) (w : Whole) (f : Called local w) (right : w.judge.course.right_stopped ≡ false) (u : Value) (rest : List Value)
     (later : List Placed) (tagged : f.tagged ≡ (None, u) ∷ later) (rest_are : rest ≡ values later)
-    (knows : is_dc u ≡ true → knows_disconnect Right w.tap.course.disconnects ≡ true) where
+    (knows : is_dc u ≡ true → knows_disconnect Right w.judge.course.disconnects ≡ true) where
   abbrev after : Traffic → Whole
-  after t = record w { put = rest; begun = false; tap = t }
+  after t = record w { put = rest; begun = false; judge = t }
 
-  strays_all : AreStrays f.shut w.end f.refs f.home w.tap.course.disconnects.strays ((None, u) ∷ later)
-  strays_all = subst (λ (l : List Placed). AreStrays f.shut w.end f.refs f.home w.tap.course.disconnects.strays l) tagged f.strays
+  strays_all : AreStrays f.shut w.end f.refs f.home w.judge.course.disconnects.strays ((None, u) ∷ later)
+  strays_all = subst (λ (l : List Placed). AreStrays f.shut w.end f.refs f.home w.judge.course.disconnects.strays l) tagged f.strays
 
-  stray : IsStray f.shut w.end f.refs f.home w.tap.course.disconnects.strays u later
+  stray : IsStray f.shut w.end f.refs f.home w.judge.course.disconnects.strays u later
   stray = strays_all.0
 
-  may : may_answer Right w.tap.course.disconnects ≡ true
-  may = may_so Right w.tap.course.disconnects stray.strays_is (knows (ap is_dc stray.is))
+  may : may_answer Right w.judge.course.disconnects ≡ true
+  may = may_so Right w.judge.course.disconnects stray.strays_is (knows (ap is_dc stray.is))
 
   begun_not : (i : ℕ) → (w.begun && first_at i f.tagged) ≡ false
   begun_not i = ap (λ (l : List Placed). w.begun && first_at i l) tagged ∙ and_false w.begun
 
-  due_not : {A : Type 0} (q : ℕ) (c : Connection) → slice_get w.tap.connections q ≡ Some c → c.is_judged ≡ true →
+  due_not : {A : Type 0} (q : ℕ) (c : Connection) → slice_get w.judge.connections q ≡ Some c → c.is_judged ≡ true →
       is_open c.right.phase ≡ true →
       stray.n ≡ c.right.reference →
       Stand local f.shut w.end w.coming (units_at q f.tagged) (units_at q f.came) (w.begun && first_at q f.tagged) (f.refs q) c → A
   due_not q c h judged up same h2 = grind (arith, differ, stray, close_waits)
 
-  no_due : (q : ℕ) (c : Connection) → slice_get w.tap.connections q ≡ Some c → c.is_judged ≡ true → is_due Right c stray.n ≡ false
+  no_due : (q : ℕ) (c : Connection) → slice_get w.judge.connections q ≡ Some c → c.is_judged ≡ true → is_due Right c stray.n ≡ false
   no_due q c at judged = is_false (is_due Right c stray.n) (λ h.
       let (a, b) = due_parts (is_open c.right.phase) (is_closing c.seen_by_right.phase) (stray.n == c.right.reference) h in
       due_not q c at judged a (eqb-true stray.n c.right.reference b) (f.stands q c at))
 
-  stays : Called local (after w.tap)
+  stays : Called local (after w.judge)
   stays = record {
     tagged = later;
     put = rest_are;
@@ -103,6 +103,6 @@ module _ (local : Local) (w : Whole) (f : Called local w) (right : w.tap.course.
     timely = grind (arith, answers, values);
   }
 
-  pub stray_passes : IsFineAt u w.tap × Called local (after (takes Right u w.tap).state)
-      × ((takes Right u w.tap).state.connections ≡ w.tap.connections)
+  pub stray_passes : IsFineAt u w.judge × Called local (after (takes Right u w.judge).state)
+      × ((takes Right u w.judge).state.connections ≡ w.judge.connections)
   stray_passes = grind (arith, stray, spared, no_due, stays, may)

@@ -1,4 +1,4 @@
--- A DR that a whole calling end takes for a reference that is gone closed nothing at the tap, whatever happens.
+-- A DR that a whole calling end takes for a reference that is gone closed nothing at the judge, whatever happens.
 -- For the law of that name.
 use Rattle.osi_fair.proofs.Vocabulary.{[], ap, arith, Bool, false, List, None, Option, refl, Some, subst, sym, true, ℕ, ◌++◌, ◌+◌, ◌<◌, ◌∙◌}
 use Rattle.osi_fair.proofs.Vocabulary.{◌∷◌, ◌≡◌, ◌≤◌, flat_map-append, append-nil, AllByRecursion, Connect, request, Value, react, breaks}
@@ -17,7 +17,7 @@ use Rattle.osi_fair.proofs.references_of_requests_rise.{Rise, all_gives, closed_
 use Rattle.osi_fair.proofs.class_0_stays_selected.{zero_stays}
 use Rattle.osi_fair.proofs.what_a_calling_end_still_has.{OffersTwo, SelectsTwo, all_last, call_after, new_live, sent_lasts, unit_after}
 use Rattle.osi_fair.proofs.what_holds_of_one_item.{HoldsOfEach, after_map, each_map}
-use Rattle.osi_fair.proofs.what_lasts_at_the_tap.{lasts_passing}
+use Rattle.osi_fair.proofs.what_lasts_at_the_judge.{lasts_passing}
 use Rattle.osi_fair.proofs.what_stays_of_each_connection.{AreDistinct, IfAsked, IsLively, IsStarted, left_passes, lively_stays}
 use Rattle.osi_fair.proofs.what_stays_of_each_connection.{right_passes, started_stays}
 use Rattle.osi_fair.proofs.names_stay_apart_though_one_is_lost.{AreNamedApart}
@@ -93,7 +93,7 @@ abbrev Held : State → List Value → ℕ → Type 0
 Held end coming m = IsLive end m × NoneFor m coming
 
 pub record Lively (w : Whole) : Type 0 where
-  pub tap : HoldsOfEach (IsLively (Held w.end w.coming)) w.tap.connections
+  pub judge : HoldsOfEach (IsLively (Held w.end w.coming)) w.judge.connections
   pub requests : AllSo (Held w.end w.coming) (asked_among w.put)
   pub firsts : Firsts (IsLive w.end) w.coming
   pub known : AreKnown w.end.given w.coming
@@ -113,7 +113,7 @@ taking w unit later e o two lasts l =
     let (first, firsts) = subst (Firsts (IsLive w.end)) e l.firsts in
     let (known_one, known) = subst (AreKnown w.end.given) e l.known in
     record {
-      tap = lively_more (Held w.end w.coming) (Held t later) w.tap.connections keeps l.tap;
+      judge = lively_more (Held w.end w.coming) (Held t later) w.judge.connections keeps l.judge;
       requests = grind (arith, append-nil, flat_map-append, unit_asks, all_more, asked_among);
       firsts = firsts_more (λ m. IsLive w.end m × (closed_by unit ≡ Some m → ⊥)) (IsLive t) later (λ m h. a.live lasts m h.0 h.1) firsts;
       known = known_more w.end.given t.given later (unit_gives unit w.end) known;
@@ -129,7 +129,7 @@ no_request w call none given live l =
     let t = user_does call w.end in
     let keeps : (m : ℕ) → Held w.end w.coming m → Held t w.coming m = λ m h. (live m h.0, h.1) in
     record {
-      tap = lively_more (Held w.end w.coming) (Held t w.coming) w.tap.connections keeps l.tap;
+      judge = lively_more (Held w.end w.coming) (Held t w.coming) w.judge.connections keeps l.judge;
       requests = grind (arith, append-nil, flat_map-append, call_asks, all_more, asked_among);
       firsts = firsts_more (IsLive w.end) (IsLive t) w.coming live l.firsts;
       known = known_more w.end.given t.given w.coming given l.known;
@@ -147,7 +147,7 @@ asking w calling called live l =
     let same : asked_among w.put ++ (w.end.given + 1) ∷ [] ≡ asked_among (w.put ++ put_by call w.end) =
     ap (λ (rs : List ℕ). asked_among w.put ++ rs) (sym (call_asks call w.end)) ∙ sym (flat_map-append asked_in w.put (put_by call w.end)) in
     record {
-      tap = lively_more (Held w.end w.coming) (Held t w.coming) w.tap.connections keeps l.tap;
+      judge = lively_more (Held w.end w.coming) (Held t w.coming) w.judge.connections keeps l.judge;
       requests = grind (arith, all_join, asked_among, all_more);
       firsts = firsts_more (IsLive w.end) (IsLive t) w.coming live l.firsts;
       known = known_more w.end.given t.given w.coming (omega arith) l.known;
@@ -166,9 +166,9 @@ calling_by (breaks reason) w live l = search (arith, no_request, not_less, ended
 begun_lively : (L : ℕ → Type 0) (d : Direction) (c : Connection) → IsLively L c → IsLively L (begins d c)
 begun_lively L d c h = grind arith
 
-beginning : (d : Direction) (w : Whole) (b : Bool) → Lively w → Lively (record w { begun = b; tap = packet_begins d w.tap })
+beginning : (d : Direction) (w : Whole) (b : Bool) → Lively w → Lively (record w { begun = b; judge = packet_begins d w.judge })
 beginning d w b l = record {
-  tap = each_map (IsLively (Held w.end w.coming)) (begins d) w.tap.connections l.tap
+  judge = each_map (IsLively (Held w.end w.coming)) (begins d) w.judge.connections l.judge
       (λ c h. begun_lively (Held w.end w.coming) d c h);
   requests = l.requests;
   firsts = l.firsts;
@@ -177,22 +177,22 @@ beginning d w b l = record {
 
 -- ---- a unit of the end passes
 
--- the CR that passes has a reference above those at the tap
+-- the CR that passes has a reference above those at the judge
 above : (w : Whole) (v : Value) (put : List Value) → w.put ≡ v ∷ put → Newer w → (P : Connection → Type 0) →
-    ((x : Connect) → v ≡ request x → P (asked_by x)) → IfAsked P w.tap.connections v
+    ((x : Connect) → v ≡ request x → P (asked_by x)) → IfAsked P w.judge.connections v
 above w v put e n P new = grind arith
 
 head_so : (L : ℕ → Type 0) (v : Value) (put : List Value) (x : Connect) → v ≡ request x → AllSo L (asked_among (v ∷ put)) → L x.source
 head_so L v put x e h = (subst (λ (u : Value). AllSo L (asked_among (u ∷ put))) e h).0
 
-own : (w : Whole) (v : Value) (put : List Value) → w.put ≡ v ∷ put → Newer w → AreDistinct w.tap.connections → Lively w →
-    Lively (record w { put = put; begun = false; tap = (takes Left v w.tap).state })
+own : (w : Whole) (v : Value) (put : List Value) → w.put ≡ v ∷ put → Newer w → AreDistinct w.judge.connections → Lively w →
+    Lively (record w { put = put; begun = false; judge = (takes Left v w.judge).state })
 own w v put e n distinct l =
     let L = Held w.end w.coming in
     let requests = subst (λ (u : List Value). AllSo L (asked_among u)) e l.requests in
     record {
-      tap = (left_passes (IsLively L) v w.tap (lively_stays L v w.tap)
-          (above w v put e n (IsLively L) (λ x is judged there. head_so L v put x is requests)) l.tap distinct).0;
+      judge = (left_passes (IsLively L) v w.judge (lively_stays L v w.judge)
+          (above w v put e n (IsLively L) (λ x is judged there. head_so L v put x is requests)) l.judge distinct).0;
       requests = grind arith;
       firsts = l.firsts;
       known = l.known;
@@ -208,21 +208,21 @@ all_less L n last [] h r a = tt
 all_less L n last (x ∷ rs) h (up, rise) (one, more) = grind (arith, all_less L n x rs (omega arith) rise more)
 
 abbrev after_other : Whole → Value → Whole
-after_other w v = record w { tap = (takes Right v w.tap).state; coming = w.coming ++ v ∷ [] }
+after_other w v = record w { judge = (takes Right v w.judge).state; coming = w.coming ++ v ∷ [] }
 
-came : (w : Whole) (v : Value) → Newer w → Lively w → Came (Held w.end w.coming) v w.tap (takes Right v w.tap).state →
+came : (w : Whole) (v : Value) → Newer w → Lively w → Came (Held w.end w.coming) v w.judge (takes Right v w.judge).state →
     Lively (after_other w v)
-came w v n l (stays e tap) =
+came w v n l (stays e judge) =
     let L = Held w.end w.coming in
     let K = Held w.end (w.coming ++ v ∷ []) in
     let keeps : (m : ℕ) → L m → K m = λ m h. (h.0, none_add m w.coming v h.1 (λ k. none_number (closed_by v) m e k)) in
     record {
-      tap = lively_more L K (takes Right v w.tap).state.connections keeps tap;
+      judge = lively_more L K (takes Right v w.judge).state.connections keeps judge;
       requests = all_more L K (asked_among w.put) keeps l.requests;
       firsts = firsts_add (IsLive w.end) w.coming v l.firsts (λ dr m k. none_number (closed_by v) m e k);
       known = known_add w.end.given w.coming v l.known (λ m k. none_number (closed_by v) m e k);
     }
-came w v n l (closes_one q e p c at is dr tap) =
+came w v n l (closes_one q e p c at is dr judge) =
     let L = Held w.end w.coming in
     let K = Held w.end (w.coming ++ v ∷ []) in
     let below = n.below p c at in
@@ -230,7 +230,7 @@ came w v n l (closes_one q e p c at is dr tap) =
     let up : q ≤ n.last = omega arith in
     let keeps : (m : ℕ) → Less L q m → K m = grind (arith, none_add, closed_by) in
     record {
-      tap = lively_more (Less L q) K (takes Right v w.tap).state.connections keeps tap;
+      judge = lively_more (Less L q) K (takes Right v w.judge).state.connections keeps judge;
       requests = all_more (Less L q) K (asked_among w.put) keeps (all_less L q n.last (asked_among w.put) up n.rise l.requests);
       firsts = grind (arith, firsts_add, closed_by);
       known = grind (arith, known_add, closed_by);
@@ -240,16 +240,16 @@ came w v n l (closes_one q e p c at is dr tap) =
 
 pub record Holds (w : Whole) : Type 0 where
   pub newer : Newer w
-  pub sane : IsSane w.tap
-  pub offers : IsOngoing w.tap.course → OffersTwo w.end
-  pub lively : IsPlain w.tap.course → w.end.ended ≡ None → Lively w
+  pub sane : IsSane w.judge
+  pub offers : IsOngoing w.judge.course → OffersTwo w.end
+  pub lively : IsPlain w.judge.course → w.end.ended ≡ None → Lively w
 
 -- what is known besides: the references of right are apart, the next unit selects class 2 if it is a CC that the end awaits, and the end
 -- has broken no rule
 pub record Known (w : Whole) : Type 0 where
-  pub peers : IsOngoing w.tap.course → AreNamedApart Right w.tap.connections
-  pub selects : IsOngoing w.tap.course → (u : Value) (later : List Value) → w.coming ≡ u ∷ later → SelectsTwo w.end u
-  pub fine : IsOngoing w.tap.course → w.tap.course.left_erred ≡ false
+  pub peers : IsOngoing w.judge.course → AreNamedApart Right w.judge.connections
+  pub selects : IsOngoing w.judge.course → (u : Value) (later : List Value) → w.coming ≡ u ∷ later → SelectsTwo w.end u
+  pub fine : IsOngoing w.judge.course → w.judge.course.left_erred ≡ false
 
 begun_started : (d : Direction) (c : Connection) → IsStarted c → IsStarted (begins d c)
 begun_started d c h = grind arith
@@ -289,7 +289,7 @@ holds_taking w unit later e k h n = record {
   offers = λ going. (unit_after unit w.end (h.offers going) (k.selects going unit later e)).offers;
   sane = h.sane;
   lively = λ plain lasts.
-      let going = going_of w.tap.course plain in
+      let going = going_of w.judge.course plain in
       taking w unit later e (h.offers going) (k.selects going unit later e) lasts
       (h.lively plain (grind (arith, none_of, over_takes)));
 }
@@ -300,7 +300,7 @@ holds_calling w call h n = record {
   sane = h.sane;
   offers = λ going. (call_after call w.end (h.offers going)).offers;
   lively = λ plain lasts.
-      calling_by call w ((call_after call w.end (h.offers (going_of w.tap.course plain))).live lasts)
+      calling_by call w ((call_after call w.end (h.offers (going_of w.judge.course plain))).live lasts)
       (h.lively plain (not_over call w.end lasts));
 }
 
@@ -311,45 +311,45 @@ next_holds arrives w new (unit, coming, is) k h =
 next_holds (calls call) w new (may, is) k h =
     subst Holds (sym is) (holds_calling w call h (still_newer (calls call) w (after_calling w call) (may, refl) h.newer))
 next_holds begins_own w new (some, not_begun, is) k h =
-    let after = record w { begun = true; tap = packet_begins Left w.tap } in
+    let after = record w { begun = true; judge = packet_begins Left w.judge } in
     subst Holds (sym is) (record {
       newer = still_newer begins_own w after (some, not_begun, refl) h.newer;
-      offers = λ going. h.offers (before_going (packet Left) w.tap going);
-      sane = sane_begins Left w.tap h.sane;
-      lively = λ plain lasts. beginning Left w true (h.lively (before_passing (packet Left) w.tap plain) lasts);
+      offers = λ going. h.offers (before_going (packet Left) w.judge going);
+      sane = sane_begins Left w.judge h.sane;
+      lively = λ plain lasts. beginning Left w true (h.lively (before_passing (packet Left) w.judge plain) lasts);
     })
 next_holds passes_own w new (v, put, begun, is) k h =
-    let after = record w { put = new.put; begun = false; tap = (takes Left v w.tap).state } in
+    let after = record w { put = new.put; begun = false; judge = (takes Left v w.judge).state } in
     subst Holds (sym is) (record {
       newer = still_newer passes_own w after (v, put, begun, refl) h.newer;
-      offers = λ going. h.offers (before_going (passing Left v) w.tap going);
-      sane = sane_left v w.tap (above w v new.put put h.newer IsStarted (grind arith)) h.sane;
-      lively = λ plain lasts. own w v new.put put h.newer h.sane.distinct (h.lively (before_passing (passing Left v) w.tap plain) lasts);
+      offers = λ going. h.offers (before_going (passing Left v) w.judge going);
+      sane = sane_left v w.judge (above w v new.put put h.newer IsStarted (grind arith)) h.sane;
+      lively = λ plain lasts. own w v new.put put h.newer h.sane.distinct (h.lively (before_passing (passing Left v) w.judge plain) lasts);
     })
 next_holds begins_other w new is k h =
-    let after = record w { tap = packet_begins Right w.tap } in
+    let after = record w { judge = packet_begins Right w.judge } in
     subst Holds (sym is) (record {
       newer = still_newer begins_other w after refl h.newer;
-      offers = λ going. h.offers (before_going (packet Right) w.tap going);
-      sane = sane_begins Right w.tap h.sane;
-      lively = λ plain lasts. beginning Right w w.begun (h.lively (before_passing (packet Right) w.tap plain) lasts);
+      offers = λ going. h.offers (before_going (packet Right) w.judge going);
+      sane = sane_begins Right w.judge h.sane;
+      lively = λ plain lasts. beginning Right w w.begun (h.lively (before_passing (packet Right) w.judge plain) lasts);
     })
 next_holds (passes_other v) w new (ranges, is) k h =
     subst Holds (sym is) (record {
       newer = still_newer (passes_other v) w (after_other w v) (ranges, refl) h.newer;
-      offers = λ going. h.offers (before_going (passing Right v) w.tap going);
-      sane = sane_right v w.tap h.sane;
+      offers = λ going. h.offers (before_going (passing Right v) w.judge going);
+      sane = sane_right v w.judge h.sane;
       lively = λ plain lasts.
-          let before = before_passing (passing Right v) w.tap plain in
+          let before = before_passing (passing Right v) w.judge plain in
           let l = h.lively before lasts in
-          let going = going_of w.tap.course before in
-          came w v h.newer l (what_came (Held w.end w.coming) w.tap h.sane (k.peers going) l.tap before (k.fine going) v plain);
+          let going = going_of w.judge.course before in
+          came w v h.newer l (what_came (Held w.end w.coming) w.judge h.sane (k.peers going) l.judge before (k.fine going) v plain);
     })
 next_holds passes_rubbish w new is k h =
-    let after = record w { tap = passes (rubbish Right) w.tap } in
+    let after = record w { judge = passes (rubbish Right) w.judge } in
     subst Holds (sym is) (record {
       newer = still_newer passes_rubbish w after refl h.newer;
-      offers = λ going. h.offers (before_going (rubbish Right) w.tap going);
+      offers = λ going. h.offers (before_going (rubbish Right) w.judge going);
       sane = grind (arith, passes_apart, still_judged);
       lively = grind (arith, before_passing);
     })

@@ -1,4 +1,4 @@
--- A reference above those of all CRs that have passed is in use for no connection at the tap, and for none that is not judged.
+-- A reference above those of all CRs that have passed is in use for no connection at the judge, and for none that is not judged.
 -- For the law of that name.
 use Rattle.osi_fair.proofs.Vocabulary.{[], arith, Bool, false, List, None, Option, refl, Some, subst, suc, sym, true, zero, ℕ, ◌++◌, ◌<◌}
 use Rattle.osi_fair.proofs.Vocabulary.{◌∷◌, ◌≡◌, ◌⊎◌, eqb-true, AllByRecursion, list_any, not, slice_get, ◌&&◌, ◌==◌, ◌||◌, Connect}

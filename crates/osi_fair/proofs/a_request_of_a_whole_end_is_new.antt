@@ -35,7 +35,7 @@ rise_next k n (r ∷ rs) (above, rise) (one, more) h = (above, rise_next r n rs 
 -- The last CR that has passed, of those of this end; those that have not passed are above it.
 pub record Newer (w : Whole) : Type 0 where
   pub last : ℕ
-  pub below : AreBelow (suc last) w.tap
+  pub below : AreBelow (suc last) w.judge
   pub rise : Rise last (asked_among w.put)
   pub up : UpTo w.end.given (asked_among w.put)
   pub given : last ≤ w.end.given
@@ -60,7 +60,7 @@ by_call call w n = search (arith, asks, call_asks, grows, not_less, sent_gives, 
 -- ---- a unit of the end passes
 
 abbrev Passes : Value → List Value → Whole → Type 0
-Passes v put w = Newer (record w { put = put; begun = false; tap = passes (passing Left v) w.tap })
+Passes v put w = Newer (record w { put = put; begun = false; judge = passes (passing Left v) w.judge })
 
 passes_asked : (c : Connect) (put : List Value) (w : Whole) → w.put ≡ request c ∷ put → Newer w → Passes (request c) put w
 passes_asked c put w e n =
@@ -69,10 +69,10 @@ passes_asked c put w e n =
     search (
       arith,
       c.source,
-      (still_below (suc c.source) (passing Left (request c)) w.tap (
+      (still_below (suc c.source) (passing Left (request c)) w.judge (
         omega arith,
         tt,
-      ) (below_more (suc n.last) (suc c.source) w.tap (omega arith) n.below)),
+      ) (below_more (suc n.last) (suc c.source) w.judge (omega arith) n.below)),
       rise,
       more,
       up,
@@ -83,7 +83,7 @@ passes_another v put w none e n =
     let same : asked_among w.put ≡ asked_among put = ap asked_among e ∙ ap (λ (l : List ℕ). l ++ asked_among put) none in
     record {
       last = n.last;
-      below = still_below (suc n.last) (passing Left v) w.tap (subst (λ (l : List ℕ). FewAsked (suc n.last) l) (sym none) tt) n.below;
+      below = still_below (suc n.last) (passing Left v) w.judge (subst (λ (l : List ℕ). FewAsked (suc n.last) l) (sym none) tt) n.below;
       rise = subst (λ (l : List ℕ). Rise n.last l) same n.rise;
       up = subst (λ (l : List ℕ). UpTo w.end.given l) same n.up;
       given = n.given;
@@ -94,18 +94,18 @@ passes_another v put w none e n =
 pub still_newer : (event : Event) (old new : Whole) → Happens Left event old new → Newer old → Newer new
 still_newer arrives old new (unit, coming, is) n = grind (arith, grows, unit_asks, unit_gives)
 still_newer (calls call) old new (may, is) n = subst Newer (sym is) (by_call call old n)
-still_newer begins_own old new (some, not_begun, is) n = grind (arith, still_below (suc n.last) (packet Left) old.tap tt n.below)
+still_newer begins_own old new (some, not_begun, is) n = grind (arith, still_below (suc n.last) (packet Left) old.judge tt n.below)
 still_newer passes_own old new (v, put, begun, is) n = subst Newer (sym is) (grind (arith, passes_asked, passes_another))
-still_newer begins_other old new is n = grind (arith, still_below (suc n.last) (packet Right) old.tap tt n.below)
-still_newer (passes_other v) old new (ranges, is) n = search (arith, still_below (suc n.last) (passing Right v) old.tap tt n.below)
+still_newer begins_other old new is n = grind (arith, still_below (suc n.last) (packet Right) old.judge tt n.below)
+still_newer (passes_other v) old new (ranges, is) n = search (arith, still_below (suc n.last) (passing Right v) old.judge tt n.below)
 still_newer passes_rubbish old new is n = grind (arith, still_below)
 
 -- ---- the next CR
 
--- no connection at the tap has its reference
+-- no connection at the judge has its reference
 pub record IsUnused (r : ℕ) (s : Traffic) : Type 0 where
   pub used : list_any (uses Left r) s.connections ≡ false
   pub judged : list_any (is_not_judged r) s.connections ≡ false
 
-pub next_unused : (c : Connect) (put : List Value) (w : Whole) → w.put ≡ request c ∷ put → Newer w → IsUnused c.source w.tap
+pub next_unused : (c : Connect) (put : List Value) (w : Whole) → w.put ≡ request c ∷ put → Newer w → IsUnused c.source w.judge
 next_unused c put w e n = search (arith, below_more, unused, all_unlike)

@@ -18,43 +18,43 @@ use Rattle.osi_fair.proofs.what_the_other_side_closes.{IsSane}
 use Rattle.osi_fair.proofs.which_units_are_for_a_connection.{is_dc, names, picked_more}
 use Rattle.osi_fair.proofs.what_is_live_at_a_called_end.{all_add}
 
-module _ (local : Local) (w : Whole) (f : Followed local w) (sane : IsSane w.tap) (peers : AreNamedApart Right w.tap.connections)
-    (v : Value) (ranges : HasFieldsInRange v) (t : IsIdle v w.tap (takes Right v w.tap)) where
+module _ (local : Local) (w : Whole) (f : Followed local w) (sane : IsSane w.judge) (peers : AreNamedApart Right w.judge.connections)
+    (v : Value) (ranges : HasFieldsInRange v) (t : IsIdle v w.judge (takes Right v w.judge)) where
   abbrev more : List Value
   more = w.coming ++ v ∷ []
 
   -- it is not due on a connection that left has not closed, nor judged on one that has lost its judgement
   spared : (c : Connection) → Sound c → is_tracked c ≡ true → (j : Bool) → c.is_judged ≡ j →
-      finding_of Right w.tap.course false c v ≡ NotJudged
+      finding_of Right w.judge.course false c v ≡ NotJudged
   spared c sound tracked j lost = grind (arith, is_false, open_or_closing, left_open, and_first, and_second, judged_same, not_due)
 
   not_all : (g : Finding) → g ≡ NotJudged → reach_of (Some Two) g ≢ reach.Everything
   not_all g e h = cc (sym (ap (λ (x : Finding). reach_of (Some Two) x) e) ∙ h)
 
   line_takes : (c : Connection) → Sound c → is_tracked c ≡ true →
-      (g : Following local w.put w.begun w.tap.course.disconnects.strays w.end w.coming c) → names g.r v ≡ true →
-      Following local w.put w.begun w.tap.course.disconnects.strays w.end more c
+      (g : Following local w.put w.begun w.judge.course.disconnects.strays w.end w.coming c) → names g.r v ≡ true →
+      Following local w.put w.begun w.judge.course.disconnects.strays w.end more c
   line_takes c sound tracked g named =
       let line : Line = record g.line { coming = g.line.coming ++ v ∷ [] } in
-      let is : finding_of Right w.tap.course false g.line.tap v ≡ NotJudged =
-      ap (λ (x : Connection). finding_of Right w.tap.course false x v) g.tap ∙ spared c sound tracked c.is_judged refl in
+      let is : finding_of Right w.judge.course false g.line.judge v ≡ NotJudged =
+      ap (λ (x : Connection). finding_of Right w.judge.course false x v) g.judge ∙ spared c sound tracked c.is_judged refl in
       record {
         r = g.r;
         peer = g.peer;
         line = line;
         left = g.left;
         right = g.right;
-        tracks = tracks_on g.r g.peer g.line line (passes_other w.tap.course false v ∷ []) g.tracks (
+        tracks = tracks_on g.r g.peer g.line line (passes_other w.judge.course false v ∷ []) g.tracks (
           line,
           (
             ranges,
             grind (arith, eqb-true),
-            not_all (finding_of Right w.tap.course false g.line.tap v) is,
-            ap (λ (x : Finding). record g.line { tap = after_finding Right x v g.line.tap; coming = g.line.coming ++ v ∷ [] }) (sym is),
+            not_all (finding_of Right w.judge.course false g.line.judge v) is,
+            ap (λ (x : Finding). record g.line { judge = after_finding Right x v g.line.judge; coming = g.line.coming ++ v ∷ [] }) (sym is),
           ),
           refl,
         );
-        tap = g.tap;
+        judge = g.judge;
         spare = g.spare;
         put_is = g.put_is;
         spares = g.spares;
@@ -65,11 +65,11 @@ module _ (local : Local) (w : Whole) (f : Followed local w) (sane : IsSane w.tap
       }
 
   line_idle : (c : Connection) → Sound c → is_tracked c ≡ true →
-      (g : Following local w.put w.begun w.tap.course.disconnects.strays w.end w.coming c) → (b : Bool) → names g.r v ≡ b →
-      Following local w.put w.begun w.tap.course.disconnects.strays w.end more c
+      (g : Following local w.put w.begun w.judge.course.disconnects.strays w.end w.coming c) → (b : Bool) → names g.r v ≡ b →
+      Following local w.put w.begun w.judge.course.disconnects.strays w.end more c
   line_idle c sound tracked g true e = line_takes c sound tracked g e
   line_idle c sound tracked g false e =
-      following_other local w.put w.begun w.tap.course.disconnects.strays w.tap.course.disconnects.strays w.end w.coming c v (λ h. h) g e
+      following_other local w.put w.begun w.judge.course.disconnects.strays w.judge.course.disconnects.strays w.end w.coming c v (λ h. h) g e
 
   still_asking : (x : Connect) → IsAsking local w.end w.coming x → IsAsking local w.end more x
   still_asking x a = grind (arith, early_other, picked_more, all_add, is_dc)
@@ -78,11 +78,11 @@ module _ (local : Local) (w : Whole) (f : Followed local w) (sane : IsSane w.tap
   idle_so = record {
     lines = λ i c at tracked.
         let g = f.lines i c at tracked in
-        line_idle c (each_sound Right w.tap.connections sane.apart peers i c at) tracked g (names g.r v) refl;
+        line_idle c (each_sound Right w.judge.connections sane.apart peers i c at) tracked g (names g.r v) refl;
     waiting = λ i c at waits. waiting_dc local w.end w.coming c v (grind (arith, is_dc)) (f.waiting i c at waits);
     owned = f.owned;
     linked = f.linked;
-    answers = all_add (λ u. IsAnswer w.tap.course.loose w.tap.connections w.end u) w.coming v f.answers
+    answers = all_add (λ u. IsAnswer w.judge.course.loose w.judge.connections w.end u) w.coming v f.answers
         (λ m x e lasts why. absurd (dc_no_cc v (grind (arith, is_dc)) m x e));
     requests = all_so (λ u. (x : Connect) → u ≡ request x → IsAsking local w.end w.coming x)
         (λ u. (x : Connect) → u ≡ request x → IsAsking local w.end more x) w.put (λ u h x e. still_asking x (h x e)) f.requests;
@@ -97,8 +97,8 @@ module _ (local : Local) (w : Whole) (f : Followed local w) (sane : IsSane w.tap
     shut = f.shut;
   }
 
-  pub idle_passes : Followed local (record w { tap = (takes Right v w.tap).state; coming = more })
-  idle_passes = subst (λ (s : Traffic). Followed local (record w { tap = s; coming = more })) (sym t.same) idle_so
+  pub idle_passes : Followed local (record w { judge = (takes Right v w.judge).state; coming = more })
+  idle_passes = subst (λ (s : Traffic). Followed local (record w { judge = s; coming = more })) (sym t.same) idle_so
 
-  pub idle_peers : AreNamedApart Right (takes Right v w.tap).state.connections
+  pub idle_peers : AreNamedApart Right (takes Right v w.judge).state.connections
   idle_peers = subst (λ (s : Traffic). AreNamedApart Right s.connections) (sym t.same) peers

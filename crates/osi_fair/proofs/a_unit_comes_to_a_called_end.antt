@@ -1,4 +1,4 @@
--- A unit of the other side passes at the tap of a whole called end, for one of its connections, or a DC that answers nothing.
+-- A unit of the other side passes at the judge of a whole called end, for one of its connections, or a DC that answers nothing.
 -- For the law on a whole called end.
 use Rattle.osi_fair.proofs.Vocabulary.{[], ap, arith, Bool, false, if◌then◌else◌, inl, inr, List, None, Option, refl, set, Some, subst, sym}
 use Rattle.osi_fair.proofs.Vocabulary.{true, ℕ, ◌++◌, ◌∙◌, ◌∷◌, ◌≡◌, ◌≢◌, ◌≤◌, ◌⊎◌, eqb-true, append-nil, AllByRecursion, not, slice_get}
@@ -24,7 +24,7 @@ use Rattle.osi_fair.proofs.units_by_their_place.{Placed, at_join, first_at, unit
 use Rattle.osi_fair.proofs.what_is_live_at_a_called_end.{Answers, IsHeld, Timely, dr_for, shuts_of, timely_closes, timely_comes}
 use Rattle.osi_fair.proofs.what_is_put_before_the_cc_passes.{acts_join}
 use Rattle.osi_fair.proofs.what_keeps_names_apart.{AreApart, Sound}
-use Rattle.osi_fair.proofs.what_lasts_at_the_tap.{Lasts, lasts_passing}
+use Rattle.osi_fair.proofs.what_lasts_at_the_judge.{Lasts, lasts_passing}
 use Rattle.osi_fair.proofs.what_stays_of_each_connection.{left_judged, left_own, own_stays, right_then}
 use Rattle.osi_fair.proofs.which_units_are_for_a_connection.{first_left, named_not, named_so, names, those, those_join, picked_more}
 use Rattle.osi_fair.proofs.while_no_class_is_selected.{after_change}
@@ -80,23 +80,23 @@ answers_above given last n (error destination cause ∷ vs) up h = (λ m y e. ab
 
 -- ---- all connections
 
-module _ (local : Local) (w : Whole) (f : Called local w) (apart : AreApart w.tap.connections)
-    (named : AreNamedApart Left w.tap.connections) (v : Value) (ranges : HasFieldsInRange v)
-    (calm_after : IsCalm (takes Left v w.tap).state.course) where
+module _ (local : Local) (w : Whole) (f : Called local w) (apart : AreApart w.judge.connections)
+    (named : AreNamedApart Left w.judge.connections) (v : Value) (ranges : HasFieldsInRange v)
+    (calm_after : IsCalm (takes Left v w.judge).state.course) where
   abbrev cs : List Connection
-  cs = w.tap.connections
+  cs = w.judge.connections
 
   abbrev more : List Value
   more = w.coming ++ v ∷ []
 
   abbrev after : Whole
-  after = record w { tap = (takes Left v w.tap).state; coming = more }
+  after = record w { judge = (takes Left v w.judge).state; coming = more }
 
-  pub lasts : Lasts w.tap.course (takes Left v w.tap).state.course
-  lasts = lasts_passing (passing Left v) w.tap
+  pub lasts : Lasts w.judge.course (takes Left v w.judge).state.course
+  lasts = lasts_passing (passing Left v) w.judge
 
-  pub calm : IsCalm w.tap.course
-  calm = calm_before w.tap.course (takes Left v w.tap).state.course lasts calm_after
+  pub calm : IsCalm w.judge.course
+  calm = calm_before w.judge.course (takes Left v w.judge).state.course lasts calm_after
 
   pub those_more : (r : ℕ) → names r v ≡ false → those r more ≡ those r w.coming
   those_more r e = grind (arith, those_join, first_left, append-nil)
@@ -149,8 +149,8 @@ module _ (local : Local) (w : Whole) (f : Called local w) (apart : AreApart w.ta
   dc_not_request : IsDc v → (x : Connect) → v ≡ request x → ⊥
   dc_not_request (m, n, e) x h = cc (sym e ∙ h)
 
-  pub is_lost : IsDc v → w.tap.course.disconnects.strays ≡ true → (takes Left v w.tap).state ≡ w.tap → Called local after
-  is_lost dc strays same = subst (λ (s : Traffic). Called local (record w { tap = s; coming = more })) (sym same) (record {
+  pub is_lost : IsDc v → w.judge.course.disconnects.strays ≡ true → (takes Left v w.judge).state ≡ w.judge → Called local after
+  is_lost dc strays same = subst (λ (s : Traffic). Called local (record w { judge = s; coming = more })) (sym same) (record {
     tagged = f.tagged;
     put = f.put;
     came = came_none;
@@ -178,15 +178,15 @@ module _ (local : Local) (w : Whole) (f : Called local w) (apart : AreApart w.ta
     some = f.some;
     few = all_add (IsFor w.end.given) w.coming v f.few (λ m e. inr dc);
     untagged = all_add Untagged f.came (None, v) f.untagged (λ h. dc_not_request dc);
-    timely = λ none last. differ w.tap.course.disconnects.strays strays none;
+    timely = λ none last. differ w.judge.course.disconnects.strays strays none;
   })
 
   -- ---- a unit for a connection
 
   module _ (n q : ℕ) (c : Connection) (dest : destination_of v ≡ Some n) (at : slice_get cs q ≡ Some c) (name : is_named Left n c ≡ true)
-      (is : takes Left v w.tap ≡ one_told Left q c v w.tap) where
+      (is : takes Left v w.judge ≡ one_told Left q c v w.judge) where
     abbrev found_so : Finding
-    found_so = found_on Left w.tap c v
+    found_so = found_on Left w.judge c v
 
     abbrev far : Reach
     far = reach_of (Some Two) found_so
@@ -194,15 +194,15 @@ module _ (local : Local) (w : Whole) (f : Called local w) (apart : AreApart w.ta
     abbrev next : Connection
     next = connection_after Left v (is_applied found_so) far c
 
-    course_is : (takes Left v w.tap).state.course
+    course_is : (takes Left v w.judge).state.course
         ≡ noted Left found_so
-        (reached Left (reach_of w.tap.course.class_seen found_so) (course_after Left c v (is_applied found_so) w.tap.course))
+        (reached Left (reach_of w.judge.course.class_seen found_so) (course_after Left c v (is_applied found_so) w.judge.course))
     course_is = ap (λ (o : Outcome). o.state.course) is
 
-    near : IsNear w.tap.course.class_seen found_so
+    near : IsNear w.judge.course.class_seen found_so
     near = grind (arith, calm_near, calm_noted, course_is)
 
-    conns : (takes Left v w.tap).state.connections ≡ set cs q next
+    conns : (takes Left v w.judge).state.connections ≡ set cs q next
     conns = grind (arith, set, near)
 
     sound : Sound c
@@ -218,7 +218,7 @@ module _ (local : Local) (w : Whole) (f : Called local w) (apart : AreApart w.ta
     next_right = right_then v (is_applied found_so) far c
 
     next_left : next.left.reference ≡ c.left.reference
-    next_left = (own_stays (is_applied found_so) w.tap v far c refl).reference
+    next_left = (own_stays (is_applied found_so) w.judge v far c refl).reference
 
     not_cr : (x : Connect) → v ≡ request x → ⊥
     not_cr x e = cc (sym dest ∙ ap destination_of e)
@@ -241,13 +241,13 @@ module _ (local : Local) (w : Whole) (f : Called local w) (apart : AreApart w.ta
         let r_is : n ≡ g.r = sym name_is ∙ g.right in
         let dest_r : destination_of v ≡ Some g.r = dest ∙ ap (λ (i : ℕ). Some i) r_is in
         let line : Line = record g.line {
-          tap = after_finding Left (finding_of Left w.tap.course in_use g.line.tap v) v g.line.tap;
+          judge = after_finding Left (finding_of Left w.judge.course in_use g.line.judge v) v g.line.judge;
           coming = g.line.coming ++ v ∷ [];
         } in
-        let tap : line.tap ≡ next =
-        ap (λ (x : Connection). after_finding Left (finding_of Left w.tap.course in_use x v) v x) g.tap in
-        let some : reach_of (Some Two) (finding_of Left w.tap.course in_use g.line.tap v) ≢ reach.Everything = λ e.
-        near.part (ap (λ (x : Connection). reach_of (Some Two) (finding_of Left w.tap.course in_use x v)) (sym g.tap) ∙ e) in
+        let judge : line.judge ≡ next =
+        ap (λ (x : Connection). after_finding Left (finding_of Left w.judge.course in_use x v) v x) g.judge in
+        let some : reach_of (Some Two) (finding_of Left w.judge.course in_use g.line.judge v) ≢ reach.Everything = λ e.
+        near.part (ap (λ (x : Connection). reach_of (Some Two) (finding_of Left w.judge.course in_use x v)) (sym g.judge) ∙ e) in
         record {
           ref = g.index ∙ ap (λ (i : ℕ). Some i) (sym r_is);
           stand = runs (record {
@@ -255,13 +255,13 @@ module _ (local : Local) (w : Whole) (f : Called local w) (apart : AreApart w.ta
             peer = g.peer;
             index = g.index;
             line = line;
-            tap = tap;
+            judge = judge;
             put = g.put;
             begun_is = g.begun_is;
             first = g.first;
-            acts = g.acts ++ passes_other w.tap.course in_use v ∷ [];
+            acts = g.acts ++ passes_other w.judge.course in_use v ∷ [];
             opened = g.opened;
-            along = acts_join Right g.r g.peer g.acts (passes_other w.tap.course in_use v ∷ []) g.first g.line line g.along
+            along = acts_join Right g.r g.peer g.acts (passes_other w.judge.course in_use v ∷ []) g.first g.line line g.along
                 (line, (ranges, dest_r, some, refl), refl);
             there = ap (λ (h : Half). is_open h.phase) next_right ∙ g.there;
             right = ap (λ (h : Half). h.reference) next_right ∙ g.right;
@@ -290,7 +290,7 @@ module _ (local : Local) (w : Whole) (f : Called local w) (apart : AreApart w.ta
     here : Here
     here = here_by (f.stands q c at)
 
-    item : (i : ℕ) (x : Connection) → slice_get (takes Left v w.tap).state.connections i ≡ Some x →
+    item : (i : ℕ) (x : Connection) → slice_get (takes Left v w.judge).state.connections i ≡ Some x →
         ((i ≡ q) × (x ≡ next)) ⊎ ((i ≡ q → ⊥) × (slice_get cs i ≡ Some x))
     item i x h = after_change cs q i next x (ap (λ (l : List Connection). slice_get l i) (sym conns) ∙ h)
 
@@ -309,17 +309,17 @@ module _ (local : Local) (w : Whole) (f : Called local w) (apart : AreApart w.ta
     top_by i x (inr (other, there)) = f.tops i x there
 
     two_by : (i : ℕ) (x : Connection) → ((i ≡ q) × (x ≡ next)) ⊎ ((i ≡ q → ⊥) × (slice_get cs i ≡ Some x)) → is_open x.right.phase ≡ true →
-        (takes Left v w.tap).state.course.class ≡ Some Two
+        (takes Left v w.judge).state.course.class ≡ Some Two
     two_by i x h up = grind (arith, lasts, next_right)
 
-    course_same : ((takes Left v w.tap).state.course.class ≡ w.tap.course.class)
-        × ((takes Left v w.tap).state.course.class_seen ≡ w.tap.course.class_seen)
+    course_same : ((takes Left v w.judge).state.course.class ≡ w.judge.course.class)
+        × ((takes Left v w.judge).state.course.class_seen ≡ w.judge.course.class_seen)
     course_same = grind (arith, left_class, course_is, reached_seen)
 
     -- ---- what it closes
 
     abbrev TimelyNow : Type 0
-    TimelyNow = Timely w.end more (takes Left v w.tap).state.connections (values f.tagged)
+    TimelyNow = Timely w.end more (takes Left v w.judge).state.connections (values f.tagged)
 
     judged_was : next.is_judged ≡ true → c.is_judged ≡ true
     judged_was h = other_was v (is_applied found_so) far c h
@@ -329,10 +329,10 @@ module _ (local : Local) (w : Whole) (f : Called local w) (apart : AreApart w.ta
         is_open x.right.phase ≡ true → IsHeld w.end w.coming x.right.reference
     held_at h i x (inl (same, so)) j a b =
         subst (λ (k : Half). IsHeld w.end w.coming k.reference) (sym (ap (λ (y : Connection). y.right) so ∙ next_right))
-        (h.taps q c at (judged_was (ap (λ (y : Connection). y.is_judged) (sym so) ∙ j))
+        (h.judges q c at (judged_was (ap (λ (y : Connection). y.is_judged) (sym so) ∙ j))
         (grind (arith, open_by))
         (ap (λ (k : Half). is_open k.phase) (sym (ap (λ (y : Connection). y.right) so ∙ next_right)) ∙ b))
-    held_at h i x (inr (other, there)) j a b = h.taps i x there j a b
+    held_at h i x (inr (other, there)) j a b = h.judges i x there j a b
 
     -- left has it open no more, or it is judged no more
     abbrev IsShut : Type 0
@@ -351,14 +351,14 @@ module _ (local : Local) (w : Whole) (f : Called local w) (apart : AreApart w.ta
         other (sym (f.homes i n (ref ∙ ap (λ (j : ℕ). Some j) e)).0 ∙ (f.homes q n here.ref).0)
 
     timely_nothing : Timely w.end w.coming cs (values f.tagged) → shuts_of v ≡ None → dr_for v ≡ None → TimelyNow
-    timely_nothing h none no_dr = timely_comes w.end w.coming cs (takes Left v w.tap).state.connections (values f.tagged) v none no_dr
+    timely_nothing h none no_dr = timely_comes w.end w.coming cs (takes Left v w.judge).state.connections (values f.tagged) v none no_dr
         (λ i x there j a b. held_at h i x (item i x there) j a b) h
 
     timely_one : Timely w.end w.coming cs (values f.tagged) → shuts_of v ≡ Some n → ((m : ℕ) → dr_for v ≡ Some m → IsHeld w.end w.coming
         m) →
         IsShut → TimelyNow
     timely_one h shuts dr shut =
-        timely_closes w.end w.coming cs (takes Left v w.tap).state.connections (values f.tagged) v n shuts dr (f.homes q n here.ref).1
+        timely_closes w.end w.coming cs (takes Left v w.judge).state.connections (values f.tagged) v n shuts dr (f.homes q n here.ref).1
         (λ i x there j a b. (held_at h i x (item i x there) j a b, other_ref i x (item i x there) shut j a b))
         (answers_above w.end.given f.last n (values f.tagged) (subst (λ (i : ℕ). i ≤ f.last) name_is (f.tops q c at)) f.above) h
 
@@ -370,17 +370,17 @@ module _ (local : Local) (w : Whole) (f : Called local w) (apart : AreApart w.ta
         (is_open c.right.phase ≡ true → A) → A
     open_by_stand a b h k = grind (arith, silent_not, closed_not, sound, differ, is_both, refused_over, off_over, parts)
 
-    dr_so : (takes Left v w.tap).state.course.disconnects.strays ≡ false → Timely w.end w.coming cs (values f.tagged) →
+    dr_so : (takes Left v w.judge).state.course.disconnects.strays ≡ false → Timely w.end w.coming cs (values f.tagged) →
         (destination source reason : ℕ)
         (user : List ℕ) → v ≡ disconnect destination source reason user → TimelyNow
     dr_so none h destination source reason user e =
-        let strays : (w.tap.course.disconnects.strays || (not (is_applied found_so) || is_stray Left c source)) ≡ false =
+        let strays : (w.judge.course.disconnects.strays || (not (is_applied found_so) || is_stray Left c source)) ≡ false =
         sym (ap (λ (k : Course). k.disconnects.strays) course_is
-        ∙ reached_strays (reach_of w.tap.course.class_seen found_so) (course_after Left c v (is_applied found_so) w.tap.course)
-        ∙ ap (λ (u : Value). (course_after Left c u (is_applied found_so) w.tap.course).disconnects.strays) e) ∙ none in
-        let both = or_right w.tap.course.disconnects.strays (not (is_applied found_so) || is_stray Left c source) strays in
+        ∙ reached_strays (reach_of w.judge.course.class_seen found_so) (course_after Left c v (is_applied found_so) w.judge.course)
+        ∙ ap (λ (u : Value). (course_after Left c u (is_applied found_so) w.judge.course).disconnects.strays) e) ∙ none in
+        let both = or_right w.judge.course.disconnects.strays (not (is_applied found_so) || is_stray Left c source) strays in
         let applied = not_not (is_applied found_so) (or_left (not (is_applied found_so)) (is_stray Left c source) both) in
-        let judged = applied_judged c.is_judged (found Left w.tap.course (uses_source Left cs v) c v) applied in
+        let judged = applied_judged c.is_judged (found Left w.judge.course (uses_source Left cs v) c v) applied in
         let stray = or_right (not (is_applied found_so)) (is_stray Left c source) both in
         let opened = not_not (is_open c.left.phase) (or_left (not (is_open c.left.phase)) (not (source == c.left.reference)
         || is_closing c.right.phase) stray) in
@@ -389,7 +389,7 @@ module _ (local : Local) (w : Whole) (f : Called local w) (apart : AreApart w.ta
         open_by_stand opened first (f.stands q c at) (λ up.
         timely_one h (ap shuts_of e ∙ (sym (ap destination_of e) ∙ dest))
         (λ m k. subst (λ (i : ℕ). IsHeld w.end w.coming i) (name_is ∙ sym (dest_is m (ap destination_of e ∙ (sym (ap dr_for e) ∙ k))))
-        (h.taps q c at judged opened up))
+        (h.judges q c at judged opened up))
         (λ j a. differ (is_open next.left.phase) a
         (ap (λ (b : Bool). is_open (connection_after Left v b far c).left.phase) applied
         ∙ ap (λ (u : Value). is_open (connection_after Left u true far c).left.phase) e
@@ -399,13 +399,13 @@ module _ (local : Local) (w : Whole) (f : Called local w) (apart : AreApart w.ta
     still_near : next.is_judged ≡ true → far ≡ reach.Connection → ⊥
     still_near j e = grind (arith, differ, lost_so)
 
-    dc_so : (takes Left v w.tap).state.course.disconnects.strays ≡ false → Timely w.end w.coming cs (values f.tagged) →
+    dc_so : (takes Left v w.judge).state.course.disconnects.strays ≡ false → Timely w.end w.coming cs (values f.tagged) →
         (destination source : ℕ) →
         v ≡ disconnected destination source → TimelyNow
     dc_so none h destination source e =
         grind (arith, timely_one, shuts_of, dr_for, judged_was, judged_same, dc_applied, lasts, still_near, near, differ, left_own)
 
-    timely_so : (takes Left v w.tap).state.course.disconnects.strays ≡ false → Timely w.end w.coming cs (values f.tagged) → (u : Value) →
+    timely_so : (takes Left v w.judge).state.course.disconnects.strays ≡ false → Timely w.end w.coming cs (values f.tagged) → (u : Value) →
         v ≡ u →
         TimelyNow
     timely_so none h u e = grind (arith, not_cr, dr_so, dc_so, timely_nothing)
@@ -427,7 +427,7 @@ module _ (local : Local) (w : Whole) (f : Called local w) (apart : AreApart w.ta
       positive = f.positive;
       linked_at = f.linked_at;
       shut_given = f.shut_given;
-      strays = strays_more f.shut w.end f.refs f.home w.tap.course.disconnects.strays (takes Left v w.tap).state.course.disconnects.strays
+      strays = strays_more f.shut w.end f.refs f.home w.judge.course.disconnects.strays (takes Left v w.judge).state.course.disconnects.strays
           f.tagged lasts.strays
           f.strays;
       last = f.last;
@@ -446,5 +446,5 @@ module _ (local : Local) (w : Whole) (f : Called local w) (apart : AreApart w.ta
       timely = λ none last. timely_so none (f.timely (lasts.strays none) last) v refl;
     }
 
-    pub names_after : AreNamedApart Left (takes Left v w.tap).state.connections
-    names_after = subst (AreNamedApart Left) (sym conns) (left_set w.tap apart named q c at v (Some Two) parts.0)
+    pub names_after : AreNamedApart Left (takes Left v w.judge).state.connections
+    names_after = subst (AreNamedApart Left) (sym conns) (left_set w.judge apart named q c at v (Some Two) parts.0)

@@ -28,7 +28,7 @@ use Rattle.osi_fair.proofs.a_reference_names_one_connection.{not_first}
 use Rattle.osi_fair.proofs.what_is_live_at_a_called_end.{Answers, IsHeld, Timely}
 use Rattle.osi_fair.proofs.what_is_put_before_the_cc_passes.{acts_join}
 use Rattle.osi_fair.proofs.what_keeps_names_apart.{AreApart}
-use Rattle.osi_fair.proofs.what_lasts_at_the_tap.{Lasts, lasts_passing}
+use Rattle.osi_fair.proofs.what_lasts_at_the_judge.{Lasts, lasts_passing}
 use Rattle.osi_fair.proofs.what_stays_of_each_connection.{left_then, right_own}
 use Rattle.osi_fair.proofs.which_units_are_for_a_connection.{line_named, names_in as is_at}
 use Rattle.osi_fair.proofs.while_no_class_is_selected.{after_change, set_same}
@@ -68,21 +68,21 @@ IsFineAt u s = ((takes Right u s).told.finding ≡ Kept) ⊎ (((takes Right u s)
 
 -- ---- the first unit passes
 
-module _ (local : Local) (w : Whole) (f : Called local w) (apart : AreApart w.tap.connections)
-    (named : AreNamedApart Left w.tap.connections) (judged : AreJudged w.tap) (right : w.tap.course.right_stopped ≡ false) (u : Value)
+module _ (local : Local) (w : Whole) (f : Called local w) (apart : AreApart w.judge.connections)
+    (named : AreNamedApart Left w.judge.connections) (judged : AreJudged w.judge) (right : w.judge.course.right_stopped ≡ false) (u : Value)
     (rest : List Value) (begun : w.begun ≡ true) where
   abbrev cs : List Connection
-  cs = w.tap.connections
+  cs = w.judge.connections
 
   abbrev after : Whole
-  after = record w { put = rest; begun = false; tap = (takes Right u w.tap).state }
+  after = record w { put = rest; begun = false; judge = (takes Right u w.judge).state }
 
   -- it is right, or not judged, and all holds after it
   abbrev Passed : Type 0
-  Passed = IsFineAt u w.tap × Called local after × AreNamedApart Left after.tap.connections
+  Passed = IsFineAt u w.judge × Called local after × AreNamedApart Left after.judge.connections
 
-  lasts : Lasts w.tap.course (takes Right u w.tap).state.course
-  lasts = lasts_passing (passing Right u) w.tap
+  lasts : Lasts w.judge.course (takes Right u w.judge).state.course
+  lasts = lasts_passing (passing Right u) w.judge
 
   name_first : (n p : ℕ) (c : Connection) → slice_get cs p ≡ Some c → is_named Right n c ≡ true → position (is_named Right n) cs ≡ Some p
   name_first n p c at is =
@@ -114,16 +114,16 @@ module _ (local : Local) (w : Whole) (f : Called local w) (apart : AreApart w.ta
 
     -- ---- all connections after it
 
-    module _ (next : Connection) (conns : (takes Right u w.tap).state.connections ≡ set cs p next)
-        (stand : StandAfter p next) (class : ((takes Right u w.tap).state.course.class ≡ None)
-        ⊎ ((takes Right u w.tap).state.course.class ≡ Some Two))
-        (two : is_open next.right.phase ≡ true → (takes Right u w.tap).state.course.class ≡ Some Two)
-        (seen : (takes Right u w.tap).state.course.class_seen ≡ w.tap.course.class_seen) (top : ℕ) (more : f.last ≤ top)
+    module _ (next : Connection) (conns : (takes Right u w.judge).state.connections ≡ set cs p next)
+        (stand : StandAfter p next) (class : ((takes Right u w.judge).state.course.class ≡ None)
+        ⊎ ((takes Right u w.judge).state.course.class ≡ Some Two))
+        (two : is_open next.right.phase ≡ true → (takes Right u w.judge).state.course.class ≡ Some Two)
+        (seen : (takes Right u w.judge).state.course.class_seen ≡ w.judge.course.class_seen) (top : ℕ) (more : f.last ≤ top)
         (next_top : next.right.reference ≤ top) (above : AreAbove w.end.given top (values later))
-        (past_two : (takes Right u w.tap).state.course.class ≡ Some Two → 1 ≤ w.end.given)
+        (past_two : (takes Right u w.judge).state.course.class ≡ Some Two → 1 ≤ w.end.given)
         (held : Timely w.end w.coming cs (values f.tagged) → next.is_judged ≡ true → is_open next.left.phase ≡ true →
         is_open next.right.phase ≡ true → IsHeld w.end w.coming next.right.reference) where
-      item : (i : ℕ) (x : Connection) → slice_get (takes Right u w.tap).state.connections i ≡ Some x →
+      item : (i : ℕ) (x : Connection) → slice_get (takes Right u w.judge).state.connections i ≡ Some x →
           ((i ≡ p) × (x ≡ next)) ⊎ ((i ≡ p → ⊥) × (slice_get cs i ≡ Some x))
       item i x h = after_change cs p i next x (ap (λ (l : List Connection). slice_get l i) (sym conns) ∙ h)
 
@@ -139,7 +139,7 @@ module _ (local : Local) (w : Whole) (f : Called local w) (apart : AreApart w.ta
       top_by i x h = grind arith
 
       two_by : (i : ℕ) (x : Connection) → ((i ≡ p) × (x ≡ next)) ⊎ ((i ≡ p → ⊥) × (slice_get cs i ≡ Some x)) →
-          is_open x.right.phase ≡ true → (takes Right u w.tap).state.course.class ≡ Some Two
+          is_open x.right.phase ≡ true → (takes Right u w.judge).state.course.class ≡ Some Two
       two_by i x h up = grind (arith, lasts)
 
       gone_by : (i : ℕ) → slice_get cs i ≡ None →
@@ -150,7 +150,7 @@ module _ (local : Local) (w : Whole) (f : Called local w) (apart : AreApart w.ta
           ((i ≡ p) × (x ≡ next)) ⊎ ((i ≡ p → ⊥) × (slice_get cs i ≡ Some x)) → x.is_judged ≡ true → is_open x.left.phase ≡ true →
           is_open x.right.phase ≡ true → IsHeld w.end w.coming x.right.reference
       held_by h i x (inl (same, is)) j a b = grind arith
-      held_by h i x (inr (not_p, there)) j a b = h.taps i x there j a b
+      held_by h i x (inr (not_p, there)) j a b = h.judges i x there j a b
 
       passed : Called local after
       passed = record {
@@ -167,9 +167,9 @@ module _ (local : Local) (w : Whole) (f : Called local w) (apart : AreApart w.ta
         positive = f.positive;
         linked_at = f.linked_at;
         shut_given = f.shut_given;
-        strays = strays_more f.shut w.end f.refs f.home w.tap.course.disconnects.strays
-            (takes Right u w.tap).state.course.disconnects.strays later lasts.strays
-            (subst (λ (l : List Placed). AreStrays f.shut w.end f.refs f.home w.tap.course.disconnects.strays l) tagged f.strays).1;
+        strays = strays_more f.shut w.end f.refs f.home w.judge.course.disconnects.strays
+            (takes Right u w.judge).state.course.disconnects.strays later lasts.strays
+            (subst (λ (l : List Placed). AreStrays f.shut w.end f.refs f.home w.judge.course.disconnects.strays l) tagged f.strays).1;
         last = top;
         tops = λ i x there. top_by i x (item i x there);
         above = above;
@@ -184,7 +184,7 @@ module _ (local : Local) (w : Whole) (f : Called local w) (apart : AreApart w.ta
         timely = λ none last.
             let h = f.timely (lasts.strays none) last in
             record {
-              taps = λ i x there j a b. held_by h i x (item i x there) j a b;
+              judges = λ i x there j a b. held_by h i x (item i x there) j a b;
               answers = (subst (λ (l : List Placed). AllByRecursion (Answers (IsHeld w.end w.coming)) (values l)) tagged h.answers).1;
               firsts = h.firsts;
               known = h.known;
@@ -216,10 +216,10 @@ module _ (local : Local) (w : Whole) (f : Called local w) (apart : AreApart w.ta
           (unequal e.right.reference h.r (e.right.reference == h.r) refl
           (λ same. let top = f.tops i e there in let less = above_cc.0 in absurd (omega arith))))
 
-      cc_kept : found_on Right w.tap c u ≡ Kept
-      cc_kept = grind (arith, u_cc, judged_so, unused, two_right local h.x h.size h.r c w.tap.course h.selected h.asked.offer h.asked.right)
+      cc_kept : found_on Right w.judge c u ≡ Kept
+      cc_kept = grind (arith, u_cc, judged_so, unused, two_right local h.x h.size h.r c w.judge.course h.selected h.asked.offer h.asked.right)
 
-      cc_route : route Right w.tap.course u ≡ Named n
+      cc_route : route Right w.judge.course u ≡ Named n
       cc_route = grind (arith, u_cc)
 
       cc_first : position (is_named Right n) cs ≡ Some p
@@ -228,13 +228,13 @@ module _ (local : Local) (w : Whole) (f : Called local w) (apart : AreApart w.ta
       abbrev cc_next : Connection
       cc_next = sent_on Right cc_is c
 
-      cc_conns : (takes Right u w.tap).state.connections ≡ set cs p cc_next
-      cc_conns = conns_kept u w.tap n p c right cc_route cc_first at cc_kept ∙ ap (λ (v : Value). set cs p (sent_on Right v c)) u_cc
+      cc_conns : (takes Right u w.judge).state.connections ≡ set cs p cc_next
+      cc_conns = conns_kept u w.judge n p c right cc_route cc_first at cc_kept ∙ ap (λ (v : Value). set cs p (sent_on Right v c)) u_cc
 
-      cc_course : (takes Right u w.tap).state.course ≡ course_after Right c cc_is true w.tap.course
+      cc_course : (takes Right u w.judge).state.course ≡ course_after Right c cc_is true w.judge.course
       cc_course = grind (arith, course_kept, cc_route, cc_first, cc_kept, u_cc)
 
-      cc_two : (takes Right u w.tap).state.course.class ≡ Some Two
+      cc_two : (takes Right u w.judge).state.course.class ≡ Some Two
       cc_two = ap (λ (k : Course). k.class) cc_course
 
       cc_stand : StandAfter p cc_next
@@ -243,7 +243,7 @@ module _ (local : Local) (w : Whole) (f : Called local w) (apart : AreApart w.ta
         peer = n;
         index = h.index;
         line = line_of h.link h.more h.come cc_next;
-        tap = refl;
+        judge = refl;
         put = sym (rest_is u cc_is (units_at p later) h.more (sym mine_is ∙ h.mine_is));
         begun_is = refl;
         first = opened_line (opened_link Two h.size local h.x.credit) cc_next;
@@ -259,13 +259,13 @@ module _ (local : Local) (w : Whole) (f : Called local w) (apart : AreApart w.ta
 
       pub cc_passes : Passed
       cc_passes = (
-        inl (finding_kept u w.tap n p c right cc_route cc_first at cc_kept),
+        inl (finding_kept u w.judge n p c right cc_route cc_first at cc_kept),
         passed cc_next cc_conns cc_stand (inr cc_two) (λ up. cc_two)
             (ap (λ (k : Course). k.class_seen) cc_course) h.r (let less = above_cc.0 in omega arith) (omega arith) above_cc.1
             (λ k. let up = (f.homes p h.r h.index).1 in let one = f.positive p h.r h.index in omega arith)
             (λ k j a b. (subst (λ (l : List Placed). AllByRecursion (Answers (IsHeld w.end w.coming)) (values l)) tagged k.answers).0 n
             (acceptance Two h.size h.x local h.r) u_cc),
-        subst (AreNamedApart Left) (sym cc_conns) (end_set Left w.tap apart named p c at cc_next
+        subst (AreNamedApart Left) (sym cc_conns) (end_set Left w.judge apart named p c at cc_next
             (live_of n c cc_named) h.asked.judged h.asked.judged refl refl refl),
       )
 
@@ -283,10 +283,10 @@ module _ (local : Local) (w : Whole) (f : Called local w) (apart : AreApart w.ta
       dr_named : is_named Right x.source c ≡ true
       dr_named = grind (arith, name_so, and_false, eq-eqb)
 
-      dr_kept : found_on Right w.tap c u ≡ Kept
+      dr_kept : found_on Right w.judge c u ≡ Kept
       dr_kept = grind (arith, u_dr, judged_so)
 
-      dr_route : route Right w.tap.course u ≡ Named x.source
+      dr_route : route Right w.judge.course u ≡ Named x.source
       dr_route = grind (arith, u_dr)
 
       dr_first : position (is_named Right x.source) cs ≡ Some p
@@ -295,10 +295,10 @@ module _ (local : Local) (w : Whole) (f : Called local w) (apart : AreApart w.ta
       abbrev dr_next : Connection
       dr_next = sent_on Right dr c
 
-      dr_conns : (takes Right u w.tap).state.connections ≡ set cs p dr_next
+      dr_conns : (takes Right u w.judge).state.connections ≡ set cs p dr_next
       dr_conns = grind (arith, conns_kept, dr_route, dr_first, dr_kept, u_dr)
 
-      dr_course : (takes Right u w.tap).state.course ≡ course_after Right c dr true w.tap.course
+      dr_course : (takes Right u w.judge).state.course ≡ course_after Right c dr true w.judge.course
       dr_course = grind (arith, course_kept, dr_route, dr_first, dr_kept, u_dr)
 
       dr_right : dr_next.right ≡ record silent_half { phase = Refused }
@@ -312,14 +312,14 @@ module _ (local : Local) (w : Whole) (f : Called local w) (apart : AreApart w.ta
 
       pub dr_passes : Passed
       dr_passes = (
-        inl (finding_kept u w.tap x.source p c right dr_route dr_first at dr_kept),
+        inl (finding_kept u w.judge x.source p c right dr_route dr_first at dr_kept),
         passed dr_next dr_conns dr_stand
             (subst (λ (k : Option Class). (k ≡ None) ⊎ (k ≡ Some Two)) (sym (ap (λ (k : Course). k.class) dr_course)) f.class)
             (λ up. dr_not up) (ap (λ (k : Course). k.class_seen) dr_course) f.last (omega arith)
             (subst (λ (h : Half). h.reference ≤ f.last) (sym dr_right) (omega arith))
             (subst (λ (v : Value). AreAbove w.end.given f.last (v ∷ values later)) u_dr above_all)
             (λ k. f.past_two (sym (ap (λ (c : Course). c.class) dr_course) ∙ k)) (λ k j a b. dr_not b),
-        subst (AreNamedApart Left) (sym dr_conns) (end_set Left w.tap apart named p c at dr_next
+        subst (AreNamedApart Left) (sym dr_conns) (end_set Left w.judge apart named p c at dr_next
             (live_of x.source c dr_named) a.judged a.judged refl refl refl),
       )
 
@@ -336,20 +336,20 @@ module _ (local : Local) (w : Whole) (f : Called local w) (apart : AreApart w.ta
       run_first : position (is_named Right g.peer) cs ≡ Some p
       run_first = name_first g.peer p c at (named_of (destination_of u) g.peer Right c dest is_right.named)
 
-      run_route : route Right w.tap.course u ≡ Named g.peer
-      run_route = route_two_so w.tap.course.class (has_broken Left w.tap.course) u g.peer (f.two p c at g.there) dest
+      run_route : route Right w.judge.course u ≡ Named g.peer
+      run_route = route_two_so w.judge.course.class (has_broken Left w.judge.course) u g.peer (f.two p c at g.there) dest
 
       abbrev in_use : Bool
       in_use = uses_source Right cs u
 
-      run_kept : found_on Right w.tap c u ≡ Kept
-      run_kept = judged_so c.is_judged (found Right w.tap.course in_use c u) Kept (is_judged) (is_right.kept w.tap.course in_use)
+      run_kept : found_on Right w.judge c u ≡ Kept
+      run_kept = judged_so c.is_judged (found Right w.judge.course in_use c u) Kept (is_judged) (is_right.kept w.judge.course in_use)
 
       no_cc : (m : ℕ) (x : Connect) → u ≡ confirm m x → ⊥
-      no_cc m x e = grind (arith, is_right, is_right.kept w.tap.course in_use)
+      no_cc m x e = grind (arith, is_right, is_right.kept w.judge.course in_use)
 
       no_er : (m cause : ℕ) → u ≡ error m cause → ⊥
-      no_er m cause e = search (arith, is_right, is_right.kept w.tap.course in_use)
+      no_er m cause e = search (arith, is_right, is_right.kept w.judge.course in_use)
 
       abbrev next : Connection
       next = sent_on Right u c
@@ -363,33 +363,33 @@ module _ (local : Local) (w : Whole) (f : Called local w) (apart : AreApart w.ta
       next_reference : next.right.reference ≡ c.right.reference
       next_reference = ap (λ (h : Half). h.reference) next_right ∙ half_keeps u c.right no_cc
 
-      run_conns : (takes Right u w.tap).state.connections ≡ set cs p next
-      run_conns = conns_kept u w.tap g.peer p c right run_route run_first at run_kept
+      run_conns : (takes Right u w.judge).state.connections ≡ set cs p next
+      run_conns = conns_kept u w.judge g.peer p c right run_route run_first at run_kept
 
-      run_course : (takes Right u w.tap).state.course ≡ course_after Right c u true w.tap.course
-      run_course = course_kept u w.tap g.peer p c right run_route run_first at run_kept
+      run_course : (takes Right u w.judge).state.course ≡ course_after Right c u true w.judge.course
+      run_course = course_kept u w.judge g.peer p c right run_route run_first at run_kept
 
       abbrev line : Line
       line = record g.line {
         put = units_at p later;
         begun = false;
-        tap = after_finding Right (finding_of Right w.tap.course in_use g.line.tap u) u g.line.tap;
+        judge = after_finding Right (finding_of Right w.judge.course in_use g.line.judge u) u g.line.judge;
       }
 
-      tap_is : line.tap ≡ next
-      tap_is = grind (arith, run_kept)
+      judge_is : line.judge ≡ next
+      judge_is = grind (arith, run_kept)
 
-      along : ActsAlong Right g.r g.peer g.first (g.acts ++ passes_own w.tap.course in_use ∷ []) line
+      along : ActsAlong Right g.r g.peer g.first (g.acts ++ passes_own w.judge.course in_use ∷ []) line
       along = search (arith, acts_join)
 
       not_linked : is_open next.right.phase ≡ false → (r : ℕ) → r ≡ g.r → Row w.end w.coming g.r g.peer g.line.link g.line.coming →
           IsUnlinked w.end r
-      not_linked shut r same k live q link here = grind (arith, differ, run_holds, along, tap_is, sent_judged, open_of)
+      not_linked shut r same k live q link here = grind (arith, differ, run_holds, along, judge_is, sent_judged, open_of)
 
       -- the end puts nothing after it has closed the connection
       none_left : (l : List Value) → units_at p later ≡ l → is_open next.right.phase ≡ false → l ≡ []
       none_left [] e shut = refl
-      none_left (v ∷ vs) e shut = grind (arith, differ, tap_is, waits_open, along, sent_judged, no_list)
+      none_left (v ∷ vs) e shut = grind (arith, differ, judge_is, waits_open, along, sent_judged, no_list)
 
       run_stand : (b : Bool) → is_open next.right.phase ≡ b → StandAfter p next
       run_stand true up = runs (record {
@@ -397,11 +397,11 @@ module _ (local : Local) (w : Whole) (f : Called local w) (apart : AreApart w.ta
         peer = g.peer;
         index = g.index;
         line = line;
-        tap = tap_is;
+        judge = judge_is;
         put = refl;
         begun_is = refl;
         first = g.first;
-        acts = g.acts ++ passes_own w.tap.course in_use ∷ [];
+        acts = g.acts ++ passes_own w.judge.course in_use ∷ [];
         opened = g.opened;
         along = along;
         there = up;
@@ -417,16 +417,16 @@ module _ (local : Local) (w : Whole) (f : Called local w) (apart : AreApart w.ta
 
       pub run_passes : Passed
       run_passes = (
-        inl (finding_kept u w.tap g.peer p c right run_route run_first at run_kept),
+        inl (finding_kept u w.judge g.peer p c right run_route run_first at run_kept),
         passed next run_conns (run_stand (is_open next.right.phase) refl) (inr (lasts.two (f.two p c at g.there)))
             (λ up. lasts.two (f.two p c at g.there))
-            (ap (λ (k : Course). k.class_seen) run_course ∙ class_seen_same c u w.tap.course) f.last (omega arith)
+            (ap (λ (k : Course). k.class_seen) run_course ∙ class_seen_same c u w.judge.course) f.last (omega arith)
             (subst (λ (i : ℕ). i ≤ f.last) (sym next_reference) (f.tops p c at)) (above_next w.end.given f.last u (values later) no_cc
             above_all)
             (λ k. f.past_two (f.two p c at g.there))
             (λ k j a b. subst (λ (i : ℕ). IsHeld w.end w.coming i) (sym next_reference)
-            (k.taps p c at is_judged (ap (λ (h : Half). is_open h.phase) (sym next_left) ∙ a) g.there)),
-        subst (AreNamedApart Left) (sym run_conns) (end_set Left w.tap apart named p c at next
+            (k.judges p c at is_judged (ap (λ (h : Half). is_open h.phase) (sym next_left) ∙ a) g.there)),
+        subst (AreNamedApart Left) (sym run_conns) (end_set Left w.judge apart named p c at next
             (live_of g.peer c (named_of (destination_of u) g.peer Right c dest is_right.named)) (sent_judged u c ∙ is_judged) is_judged
             next_left (own_knows u c) (own_seen_after u true reach.Nothing c)),
       )
@@ -444,26 +444,26 @@ module _ (local : Local) (w : Whole) (f : Called local w) (apart : AreApart w.ta
       lost_named : is_named Right g.peer c ≡ true
       lost_named = grind (arith, keeps, name_so, eq-eqb)
 
-      lost_takes : takes Right u w.tap ≡ one_told Right p c u w.tap
-      lost_takes = takes_so u w.tap g.peer p c right (grind (arith, route_two_so, lost_put, keeps)) (name_first g.peer p c at lost_named) at
+      lost_takes : takes Right u w.judge ≡ one_told Right p c u w.judge
+      lost_takes = takes_so u w.judge g.peer p c right (grind (arith, route_two_so, lost_put, keeps)) (name_first g.peer p c at lost_named) at
 
-      lost_conns : (takes Right u w.tap).state.connections ≡ set cs p c
+      lost_conns : (takes Right u w.judge).state.connections ≡ set cs p c
       lost_conns = grind (arith, lost_takes, set)
 
-      lost_course : (takes Right u w.tap).state.course ≡ course_after Right c u false w.tap.course
+      lost_course : (takes Right u w.judge).state.course ≡ course_after Right c u false w.judge.course
       lost_course = grind (arith, lost_takes)
 
-      lost_finding : (takes Right u w.tap).told.finding ≡ NotJudged
+      lost_finding : (takes Right u w.judge).told.finding ≡ NotJudged
       lost_finding = ap (λ (o : Outcome). o.told.finding) lost_takes ∙ (grind arith)
 
-      is_loose : (b : Bool) → w.tap.course.loose ≡ b → b ≡ true
+      is_loose : (b : Bool) → w.judge.course.loose ≡ b → b ≡ true
       is_loose b e = grind (arith, differ)
 
       abbrev lost_line : Line
       lost_line = record g.line {
         put = units_at p later;
         begun = false;
-        tap = after_finding Right (finding_of Right w.tap.course false g.line.tap u) u g.line.tap;
+        judge = after_finding Right (finding_of Right w.judge.course false g.line.judge u) u g.line.judge;
       }
 
       lost_stand : StandAfter p c
@@ -472,11 +472,11 @@ module _ (local : Local) (w : Whole) (f : Called local w) (apart : AreApart w.ta
         peer = g.peer;
         index = g.index;
         line = lost_line;
-        tap = grind arith;
+        judge = grind arith;
         put = refl;
         begun_is = refl;
         first = g.first;
-        acts = g.acts ++ passes_own w.tap.course false ∷ [];
+        acts = g.acts ++ passes_own w.judge.course false ∷ [];
         opened = g.opened;
         along = grind (arith, acts_join, lost_put, begins);
         there = g.there;
@@ -491,13 +491,13 @@ module _ (local : Local) (w : Whole) (f : Called local w) (apart : AreApart w.ta
 
       pub lost_passes : Passed
       lost_passes = (
-        inr (lost_finding, inr (is_loose w.tap.course.loose refl)),
+        inr (lost_finding, inr (is_loose w.judge.course.loose refl)),
         passed c lost_conns lost_stand (inr (lasts.two (f.two p c at g.there)))
             (λ up. lasts.two (f.two p c at g.there))
-            (ap (λ (k : Course). k.class_seen) lost_course ∙ idle_seen c u w.tap.course) f.last (omega arith)
+            (ap (λ (k : Course). k.class_seen) lost_course ∙ idle_seen c u w.judge.course) f.last (omega arith)
             (f.tops p c at) lost_above
             (λ k. f.past_two (f.two p c at g.there))
-            (λ k j a b. k.taps p c at j a b),
+            (λ k j a b. k.judges p c at j a b),
         subst (AreNamedApart Left) (sym (lost_conns ∙ set_same cs p c at)) named,
       )
 

@@ -22,7 +22,7 @@ use Rattle.osi_fair.proofs.each_connection_has_its_line.{is_tracked, is_waiting,
 use Rattle.osi_fair.proofs.each_connection_has_its_line.{tracks_hold, tracks_on}
 use Rattle.osi_fair.proofs.what_holds_of_a_line.{PutsAt, Tally}
 use Rattle.osi_fair.proofs.what_holds_of_one_item.{after_add, after_set, first_true}
-use Rattle.osi_fair.proofs.what_lasts_at_the_tap.{lasts_passing}
+use Rattle.osi_fair.proofs.what_lasts_at_the_judge.{lasts_passing}
 use Rattle.osi_fair.proofs.left_selects_no_class.{left_class}
 use Rattle.osi_fair.proofs.what_stays_of_each_connection.{own_stays, right_then}
 use Rattle.osi_fair.proofs.what_the_other_side_closes.{IsSane}
@@ -84,21 +84,21 @@ own_sees u c = grind arith
 own_seen : (u : Value) (c : Connection) → (sent_on Left u c).seen_by_right ≡ c.seen_by_right
 own_seen u c = grind arith
 
-module _ (local : Local) (w : Whole) (f : Followed local w) (sane : IsSane w.tap) (peers : AreNamedApart Right w.tap.connections) where
+module _ (local : Local) (w : Whole) (f : Followed local w) (sane : IsSane w.judge) (peers : AreNamedApart Right w.judge.connections) where
   abbrev cs : List Connection
-  cs = w.tap.connections
+  cs = w.judge.connections
 
   -- ---- a CR passes
 
   abbrev after_request : Connect → List Value → Whole
-  after_request x rest = record w { put = rest; begun = false; tap = (takes Left (request x) w.tap).state }
+  after_request x rest = record w { put = rest; begun = false; judge = (takes Left (request x) w.judge).state }
 
-  request_item : (x : Connect) (i : ℕ) (e : Connection) → Request x cs (takes Left (request x) w.tap) →
-      slice_get (takes Left (request x) w.tap).state.connections i ≡ Some e → (e ≡ asked_by x) ⊎ (slice_get cs i ≡ Some e)
+  request_item : (x : Connect) (i : ℕ) (e : Connection) → Request x cs (takes Left (request x) w.judge) →
+      slice_get (takes Left (request x) w.judge).state.connections i ≡ Some e → (e ≡ asked_by x) ⊎ (slice_get cs i ≡ Some e)
   request_item x i e h at = grind (arith, item_of)
 
-  request_stays : (x : Connect) (i : ℕ) (e : Connection) → Request x cs (takes Left (request x) w.tap) → slice_get cs i ≡ Some e →
-      is_tracked e ≡ true → slice_get (takes Left (request x) w.tap).state.connections i ≡ Some e
+  request_stays : (x : Connect) (i : ℕ) (e : Connection) → Request x cs (takes Left (request x) w.judge) → slice_get cs i ≡ Some e →
+      is_tracked e ≡ true → slice_get (takes Left (request x) w.judge).state.connections i ≡ Some e
   request_stays x i e (inl is) at tracked = ap (λ (l : List Connection). slice_get l i) is ∙ at
   request_stays x i e (inr is) at tracked =
       ap (λ (l : List Connection). slice_get l i) is
@@ -110,21 +110,21 @@ module _ (local : Local) (w : Whole) (f : Followed local w) (sane : IsSane w.tap
       slice_get cs p ≡ Some c
   tracked_by x p c tracked h = grind arith
 
-  strays_still : (v : Value) → w.tap.course.disconnects.strays ≡ true → (takes Left v w.tap).state.course.disconnects.strays ≡ true
-  strays_still v h = strays_last (passing Left v) w.tap h
+  strays_still : (v : Value) → w.judge.course.disconnects.strays ≡ true → (takes Left v w.judge).state.course.disconnects.strays ≡ true
+  strays_still v h = strays_last (passing Left v) w.judge h
 
-  spares_still : (v : Value) (r peer : ℕ) (spare : List Value) → AllByRecursion (IsSpare w.tap.course.disconnects.strays r peer) spare →
-      AllByRecursion (IsSpare (takes Left v w.tap).state.course.disconnects.strays r peer) spare
+  spares_still : (v : Value) (r peer : ℕ) (spare : List Value) → AllByRecursion (IsSpare w.judge.course.disconnects.strays r peer) spare →
+      AllByRecursion (IsSpare (takes Left v w.judge).state.course.disconnects.strays r peer) spare
   spares_still v r peer spare h = search (arith, all_so, strays_still)
 
-  owned_still : (x : Connect) (v : Value) → IsOwned w.tap v → IsOwned (takes Left (request x) w.tap).state v
+  owned_still : (x : Connect) (v : Value) → IsOwned w.judge v → IsOwned (takes Left (request x) w.judge).state v
   owned_still x v (asking y e) = asking y e
-  owned_still x v (of p c at tracked is) = of p c (request_stays x p c (request_does x w.tap) at tracked) tracked is
+  owned_still x v (of p c at tracked is) = of p c (request_stays x p c (request_does x w.judge) at tracked) tracked is
   owned_still x v (stray m source e strays) = stray m source e (strays_still (request x) strays)
 
   request_line : (x : Connect) (rest : List Value) (c : Connection) → w.put ≡ request x ∷ rest →
-      Following local w.put w.begun w.tap.course.disconnects.strays w.end w.coming c →
-      Following local rest false (takes Left (request x) w.tap).state.course.disconnects.strays w.end w.coming c
+      Following local w.put w.begun w.judge.course.disconnects.strays w.end w.coming c →
+      Following local rest false (takes Left (request x) w.judge).state.course.disconnects.strays w.end w.coming c
   request_line x rest c e g = followed_at g (ap (λ (l : List Value). ours g.r g.peer l) (sym e))
       (spares_still (request x) g.r g.peer g.spare g.spares)
       (ap (λ (l : List Value). w.begun && leads (is_ours g.r g.peer) l) e ∙ and_false w.begun) g.row
@@ -143,11 +143,11 @@ module _ (local : Local) (w : Whole) (f : Followed local w) (sane : IsSane w.tap
   settled_one x rest r given k i c h waits same = grind arith
 
   settled_still : (x : Connect) (rest : List Value) → w.put ≡ request x ∷ rest → (v : Value) →
-      AreSettled cs w.put w.end.given v → AreSettled (takes Left (request x) w.tap).state.connections rest w.end.given v
+      AreSettled cs w.put w.end.given v → AreSettled (takes Left (request x) w.judge).state.connections rest w.end.given v
   settled_still x rest e v h m source is = grind (arith, settled_one, request_item, asks, request_does)
 
   seen_still : (x : Connect) (i : ℕ) (c : Connection) → is_tracked c ≡ true → is_silent c.seen_by_left.phase ≡ false →
-      (c ≡ asked_by x) ⊎ (slice_get cs i ≡ Some c) → (takes Left (request x) w.tap).state.course.class_seen ≡ Some Two
+      (c ≡ asked_by x) ⊎ (slice_get cs i ≡ Some c) → (takes Left (request x) w.judge).state.course.class_seen ≡ Some Two
   seen_still x i c tracked known h = grind (arith, is_tracked, lasts_passing)
 
   request_lost : (x : Connect) (i : ℕ) (c : Connection) → c.is_judged ≡ false → (c ≡ asked_by x) ⊎ (slice_get cs i ≡ Some c) →
@@ -162,39 +162,39 @@ module _ (local : Local) (w : Whole) (f : Followed local w) (sane : IsSane w.tap
   request_passes x rest e =
       let (first, requests) = subst (AllByRecursion (λ (v : Value). (y : Connect) → v ≡ request y → IsAsking local w.end w.coming y)) e
       f.requests in
-      let (head, owned) = subst (AllByRecursion (λ (v : Value). IsOwned w.tap v)) e f.owned in
+      let (head, owned) = subst (AllByRecursion (λ (v : Value). IsOwned w.judge v)) e f.owned in
       let (alone, settled) = subst (AllByRecursion (AreSettled cs w.put w.end.given)) e f.settled in
-      let does = request_does x w.tap in
+      let does = request_does x w.judge in
       record {
         lines = λ i c at tracked.
             request_line x rest c e (f.lines i c (tracked_by x i c tracked (request_item x i c does at)) tracked);
         waiting = λ i c at waits. request_waits x c i (first x refl) (request_item x i c does at) waits;
-        owned = all_so (λ v. IsOwned w.tap v) (λ v. IsOwned (takes Left (request x) w.tap).state v) rest
+        owned = all_so (λ v. IsOwned w.judge v) (λ v. IsOwned (takes Left (request x) w.judge).state v) rest
             (λ v. owned_still x v) owned;
         linked = λ lasts r peer link h. let (t, two) = f.linked lasts r peer link h in (grind (arith, request_stays, request_does), two);
-        answers = all_so (λ v. IsAnswer w.tap.course.loose cs w.end v) (λ v. IsAnswer (takes Left (request x) w.tap).state.course.loose
-            (takes Left (request x) w.tap).state.connections w.end v) w.coming
+        answers = all_so (λ v. IsAnswer w.judge.course.loose cs w.end v) (λ v. IsAnswer (takes Left (request x) w.judge).state.course.loose
+            (takes Left (request x) w.judge).state.connections w.end v) w.coming
             (λ v h n y k lasts why.
             let (t, row) = h n y k lasts (grind (arith, why_before, lasts_passing)) in
             (grind (arith, request_stays, request_does), row)) f.answers;
         requests = requests;
         two = λ r t.
             let (p, c, at, tracked, is) = t in
-            (lasts_passing (passing Left (request x)) w.tap).two
+            (lasts_passing (passing Left (request x)) w.judge).two
             (f.two r (p, c, tracked_by x p c tracked (request_item x p c does at), tracked, is));
         silent = λ i c at none. request_silent x i c none (request_item x i c does at);
-        zero = subst (λ (k : Option Class). (k ≡ None) ⊎ (k ≡ Some Two)) (sym (left_class (request x) w.tap)) f.zero;
+        zero = subst (λ (k : Option Class). (k ≡ None) ⊎ (k ≡ Some Two)) (sym (left_class (request x) w.judge)) f.zero;
         some = λ h. absurd (cc h);
         few = f.few;
         seen = λ i c at tracked known. seen_still x i c tracked known (request_item x i c does at);
         settled = all_so (AreSettled cs w.put w.end.given)
-            (AreSettled (takes Left (request x) w.tap).state.connections rest w.end.given) rest
+            (AreSettled (takes Left (request x) w.judge).state.connections rest w.end.given) rest
             (λ v h. settled_still x rest e v h) settled;
         lost = λ i c at lost. request_lost x i c lost (request_item x i c does at);
         shut = λ lasts i c at closed row. request_shut x lasts i c closed row (request_item x i c does at);
       }
 
-  pub request_peers : (x : Connect) → AreNamedApart Right (takes Left (request x) w.tap).state.connections
+  pub request_peers : (x : Connect) → AreNamedApart Right (takes Left (request x) w.judge).state.connections
   request_peers x = grind (arith, right_asked)
 
   -- ---- a unit of an open connection passes
@@ -221,9 +221,9 @@ module _ (local : Local) (w : Whole) (f : Followed local w) (sane : IsSane w.tap
   put_first u others (v ∷ vs) spare e none = grind (arith, first_is, rest_is)
 
   module _ (u : Value) (rest : List Value) (p : ℕ) (c : Connection) (e : w.put ≡ u ∷ rest) (begun : w.begun ≡ true)
-      (left : w.tap.course.left_stopped ≡ false) (at : slice_get cs p ≡ Some c) (tracked : is_tracked c ≡ true)
+      (left : w.judge.course.left_stopped ≡ false) (at : slice_get cs p ≡ Some c) (tracked : is_tracked c ≡ true)
       (own : IsOf c.left.reference c.right.reference u) (judged : c.is_judged ≡ true) where
-    abbrev g : Following local w.put w.begun w.tap.course.disconnects.strays w.end w.coming c
+    abbrev g : Following local w.put w.begun w.judge.course.disconnects.strays w.end w.coming c
     g = f.lines p c at tracked
 
     abbrev n : ℕ
@@ -238,7 +238,7 @@ module _ (local : Local) (w : Whole) (f : Followed local w) (sane : IsSane w.tap
     parts : (vs : List Value) × ((g.line.put ≡ u ∷ vs) × (ours g.r g.peer rest ≡ vs ++ g.spare))
     parts = put_first u (ours g.r g.peer rest) g.line.put g.spare
         (sym (picked_first (is_ours g.r g.peer) u rest named_by) ∙ ap (λ (l : List Value). ours g.r g.peer l) (sym e) ∙ g.put_is)
-        (no_spare local w.put w.coming w.begun w.tap.course.disconnects.strays w.end c judged tracked g)
+        (no_spare local w.put w.coming w.begun w.judge.course.disconnects.strays w.end c judged tracked g)
 
     abbrev still : List Value
     still = parts.0
@@ -252,35 +252,35 @@ module _ (local : Local) (w : Whole) (f : Followed local w) (sane : IsSane w.tap
     right : IsRight Left c u
     right =
         let fair = open_is_fair Left g.r g.peer g.tracks.first g.line g.tracks.acts g.tracks.opened g.tracks.along line_begun
-        (ap (λ (x : Connection). x.is_judged) g.tap ∙ judged) in
+        (ap (λ (x : Connection). x.is_judged) g.judge ∙ judged) in
         grind (arith, first_put)
 
     is_its_name : is_named Left n c ≡ true
     is_its_name = named_of (destination_of u) n Left c named right.named
 
-    seen : w.tap.course.class_seen ≡ Some Two
+    seen : w.judge.course.class_seen ≡ Some Two
     seen = f.seen p c at tracked (named_parts (is_over Left c) (is_silent c.seen_by_left.phase) (c.seen_by_left.reference == n) is_its_name)
 
     abbrev in_use : Bool
     in_use = uses_source Left cs u
 
     abbrev finding : Connection → Finding
-    finding x = finding_of Left w.tap.course in_use x u
+    finding x = finding_of Left w.judge.course in_use x u
 
     kept : finding c ≡ Kept
-    kept = judged_so c.is_judged (found Left w.tap.course in_use c u) judged (right.kept w.tap.course in_use)
+    kept = judged_so c.is_judged (found Left w.judge.course in_use c u) judged (right.kept w.judge.course in_use)
 
-    pub own_kept : (takes Left u w.tap).told.finding ≡ Kept
-    own_kept = found_is Left u w.tap n p c (grind (arith, seen, is_its_name, name_first)) named ∙ kept
+    pub own_kept : (takes Left u w.judge).told.finding ≡ Kept
+    own_kept = found_is Left u w.judge n p c (grind (arith, seen, is_its_name, name_first)) named ∙ kept
 
     abbrev next : Connection
     next = after_finding Left (finding c) u c
 
     abbrev after : Whole
-    after = record w { put = rest; begun = false; tap = (takes Left u w.tap).state }
+    after = record w { put = rest; begun = false; judge = (takes Left u w.judge).state }
 
-    next_all : (takes Left u w.tap).state.connections ≡ set cs p next
-    next_all = after_is Left u w.tap n p c (grind (arith, seen, is_its_name, name_first)) named
+    next_all : (takes Left u w.judge).state.connections ≡ set cs p next
+    next_all = after_is Left u w.judge n p c (grind (arith, seen, is_its_name, name_first)) named
 
     next_is : next ≡ sent_on Left u c
     next_is = ap (λ (x : Finding). after_finding Left x u c) kept
@@ -292,21 +292,21 @@ module _ (local : Local) (w : Whole) (f : Followed local w) (sane : IsSane w.tap
     line_after = record g.line {
       put = still;
       begun = false;
-      tap = after_finding Left (finding g.line.tap) u g.line.tap;
+      judge = after_finding Left (finding g.line.judge) u g.line.judge;
     }
 
     tracks_after : Tracks g.r g.peer line_after
-    tracks_after = tracks_on g.r g.peer g.line line_after (passes_own w.tap.course in_use ∷ []) g.tracks
+    tracks_after = tracks_on g.r g.peer g.line line_after (passes_own w.judge.course in_use ∷ []) g.tracks
         (line_after, (u, first_put, line_begun, refl), refl)
 
-    tap_after : line_after.tap ≡ next
-    tap_after = ap (λ (x : Connection). after_finding Left (finding x) u x) g.tap
+    judge_after : line_after.judge ≡ next
+    judge_after = ap (λ (x : Connection). after_finding Left (finding x) u x) g.judge
 
-    next_at : slice_get (takes Left u w.tap).state.connections p ≡ Some next
+    next_at : slice_get (takes Left u w.judge).state.connections p ≡ Some next
     next_at = ap (λ (l : List Connection). slice_get l p) next_all ∙ set_there cs p next c at
 
     next_left : next.left.reference ≡ c.left.reference
-    next_left = (own_stays (is_applied (finding c)) w.tap u (reach_of (Some Two) (finding c)) c refl).reference
+    next_left = (own_stays (is_applied (finding c)) w.judge u (reach_of (Some Two) (finding c)) c refl).reference
 
     next_right : next.right ≡ c.right
     next_right = right_then u (is_applied (finding c)) (reach_of (Some Two) (finding c)) c
@@ -317,8 +317,8 @@ module _ (local : Local) (w : Whole) (f : Followed local w) (sane : IsSane w.tap
     -- as long as the end has its link, it has not closed the connection
     linked_open : (link : Standing) → g.line.link ≡ Some link → is_tracked next ≡ true
     linked_open link h =
-        let held = tracks_hold g.r g.peer line_after tracks_after (grind (arith, tap_after, next_judged)) in
-        tracked_if (grind (arith, tap_after, put_open))
+        let held = tracks_hold g.r g.peer line_after tracks_after (grind (arith, judge_after, next_judged)) in
+        tracked_if (grind (arith, judge_after, put_open))
 
     row_open : w.end.ended ≡ None → (o : Option Live) → value_at g.r w.end.live ≡ o → is_held o ≡ true →
         Row local w.end w.coming g.r g.peer g.line →
@@ -328,18 +328,18 @@ module _ (local : Local) (w : Whole) (f : Followed local w) (sane : IsSane w.tap
     -- the end puts nothing after it has closed the connection
     none_by : (l : List Value) → still ≡ l → is_tracked next ≡ false → l ≡ []
     none_by [] e h = refl
-    none_by (v ∷ vs) e h = grind (arith, differ, tracked_if, tap_after, waits_open, tracks_after, next_judged, no_list)
+    none_by (v ∷ vs) e h = grind (arith, differ, tracked_if, judge_after, waits_open, tracks_after, next_judged, no_list)
 
     -- so the units with its references are spare then
     spare_left : is_tracked next ≡ false → ours g.r g.peer rest ≡ g.spare
     spare_left h = parts.1.1 ∙ ap (λ (l : List Value). l ++ g.spare) (none_by still refl h)
 
-    item : (i : ℕ) (x : Connection) → slice_get (takes Left u w.tap).state.connections i ≡ Some x →
+    item : (i : ℕ) (x : Connection) → slice_get (takes Left u w.judge).state.connections i ≡ Some x →
         ((i ≡ p) × (x ≡ next)) ⊎ ((i ≡ p → ⊥) × (slice_get cs i ≡ Some x))
     item i x h = after_change cs p i next x (ap (λ (l : List Connection). slice_get l i) (sym next_all) ∙ h)
 
     other_at : (i : ℕ) (x : Connection) → (i ≡ p → ⊥) → slice_get cs i ≡ Some x →
-        slice_get (takes Left u w.tap).state.connections i ≡ Some x
+        slice_get (takes Left u w.judge).state.connections i ≡ Some x
     other_at i x other h = ap (λ (l : List Connection). slice_get l i) next_all ∙ set_other cs p i next x other h
 
     same_one : (i : ℕ) (x : Connection) → i ≡ p → slice_get cs i ≡ Some x → x ≡ c
@@ -347,7 +347,7 @@ module _ (local : Local) (w : Whole) (f : Followed local w) (sane : IsSane w.tap
 
     -- ---- lines
 
-    line_next : Following local rest false after.tap.course.disconnects.strays w.end w.coming next
+    line_next : Following local rest false after.judge.course.disconnects.strays w.end w.coming next
     line_next = record {
       r = g.r;
       peer = g.peer;
@@ -355,7 +355,7 @@ module _ (local : Local) (w : Whole) (f : Followed local w) (sane : IsSane w.tap
       left = next_left ∙ g.left;
       right = ap (λ (x : Half). x.reference) next_right ∙ g.right;
       tracks = tracks_after;
-      tap = tap_after;
+      judge = judge_after;
       spare = g.spare;
       put_is = parts.1.1;
       spares = spares_still u g.r g.peer g.spare g.spares;
@@ -366,7 +366,7 @@ module _ (local : Local) (w : Whole) (f : Followed local w) (sane : IsSane w.tap
     }
 
     line_other : (i : ℕ) (x : Connection) → (i ≡ p → ⊥) → slice_get cs i ≡ Some x → is_tracked x ≡ true →
-        Following local rest false after.tap.course.disconnects.strays w.end w.coming x
+        Following local rest false after.judge.course.disconnects.strays w.end w.coming x
     line_other i x other there is_there =
         let k = f.lines i x there is_there in
         let not_named : is_ours k.r k.peer u ≡ false = ours_not k.r n k.peer u (grind (arith, one_peer)) named in
@@ -377,7 +377,7 @@ module _ (local : Local) (w : Whole) (f : Followed local w) (sane : IsSane w.tap
 
     line_at : (i : ℕ) (x : Connection) → is_tracked x ≡ true →
         ((i ≡ p) × (x ≡ next)) ⊎ ((i ≡ p → ⊥) × (slice_get cs i ≡ Some x)) →
-        Following local rest false after.tap.course.disconnects.strays w.end w.coming x
+        Following local rest false after.judge.course.disconnects.strays w.end w.coming x
     line_at i x is_there (inl (same, is)) = grind (arith, line_next)
     line_at i x is_there (inr (other, there)) = line_other i x other there is_there
 
@@ -392,12 +392,12 @@ module _ (local : Local) (w : Whole) (f : Followed local w) (sane : IsSane w.tap
     -- ---- the place of each connection
 
     tracked_one : (r i : ℕ) (x : Connection) → slice_get cs i ≡ Some x → is_tracked x ≡ true → x.left.reference ≡ r →
-        (c.left.reference ≡ r → is_tracked next ≡ true) → (b : Bool) → (i == p) ≡ b → Tracked (takes Left u w.tap).state.connections r
+        (c.left.reference ≡ r → is_tracked next ≡ true) → (b : Bool) → (i == p) ≡ b → Tracked (takes Left u w.judge).state.connections r
     tracked_one r i x there is_there is k true h = grind (arith, same_one, eqb-true, next_at, next_left)
     tracked_one r i x there is_there is k false h = (i, x, other_at i x (unlike i p h) there, is_there, is)
 
     tracked_next : (r : ℕ) → Tracked cs r → (c.left.reference ≡ r → is_tracked next ≡ true) →
-        Tracked (takes Left u w.tap).state.connections r
+        Tracked (takes Left u w.judge).state.connections r
     tracked_next r (i, x, there, is_there, is) k = tracked_one r i x there is_there is k (i == p) refl
 
     tracked_was : (r i : ℕ) (x : Connection) → is_tracked x ≡ true → x.left.reference ≡ r →
@@ -406,14 +406,14 @@ module _ (local : Local) (w : Whole) (f : Followed local w) (sane : IsSane w.tap
 
     -- a unit that is still to pass for the connection that has just been closed is a spare DC
     abbrev IsSpareIf : Value → Type 0
-    IsSpareIf v = is_tracked next ≡ false → is_ours g.r g.peer v ≡ true → IsSpare w.tap.course.disconnects.strays g.r g.peer v
+    IsSpareIf v = is_tracked next ≡ false → is_ours g.r g.peer v ≡ true → IsSpare w.judge.course.disconnects.strays g.r g.peer v
 
-    of_next : (v : Value) → is_tracked next ≡ true → IsOf c.left.reference c.right.reference v → IsOwned after.tap v
+    of_next : (v : Value) → is_tracked next ≡ true → IsOf c.left.reference c.right.reference v → IsOwned after.judge v
     of_next v h is = search (arith, of, next_at, next_right, next_left)
 
     owned_one : (v : Value) (i : ℕ) (x : Connection) → slice_get cs i ≡ Some x → is_tracked x ≡ true →
         IsOf x.left.reference x.right.reference v → IsSpareIf v → (b d : Bool) → (i == p) ≡ b → is_tracked next ≡ d →
-        IsOwned after.tap v
+        IsOwned after.judge v
     owned_one v i x there is_there is k true true h d =
         of_next v d (subst (λ (y : Connection). IsOf y.left.reference y.right.reference v) (same_one i x (eqb-true i p h) there) is)
     owned_one v i x there is_there is k true false h d =
@@ -423,36 +423,36 @@ module _ (local : Local) (w : Whole) (f : Followed local w) (sane : IsSane w.tap
         stray g.peer g.r spare.is (strays_still u spare.strays)
     owned_one v i x there is_there is k false d h e = of i x (other_at i x (unlike i p h) there) is_there is
 
-    owned_next : (v : Value) → IsSpareIf v → IsOwned w.tap v → IsOwned after.tap v
+    owned_next : (v : Value) → IsSpareIf v → IsOwned w.judge v → IsOwned after.judge v
     owned_next v k (asking x e) = asking x e
     owned_next v k (of i x there is_there is) = owned_one v i x there is_there is k (i == p) (is_tracked next) refl refl
     owned_next v k (stray m source is strays) = stray m source is (strays_still u strays)
 
-    owned_rest : (b : Bool) → is_tracked next ≡ b → AllByRecursion (λ (v : Value). IsOwned w.tap v) rest →
-        AllByRecursion (λ (v : Value). IsOwned after.tap v) rest
+    owned_rest : (b : Bool) → is_tracked next ≡ b → AllByRecursion (λ (v : Value). IsOwned w.judge v) rest →
+        AllByRecursion (λ (v : Value). IsOwned after.judge v) rest
     owned_rest true h a =
-        all_so (λ v. IsOwned w.tap v) (λ v. IsOwned after.tap v) rest (λ v o. owned_next v (λ k. differ (is_tracked next) h k) o) a
+        all_so (λ v. IsOwned w.judge v) (λ v. IsOwned after.judge v) rest (λ v o. owned_next v (λ k. differ (is_tracked next) h k) o) a
     owned_rest false h a =
-        all_two (λ v. IsOwned w.tap v) (λ v. is_ours g.r g.peer v ≡ true → IsSpare w.tap.course.disconnects.strays g.r g.peer v)
-        (λ v. IsOwned after.tap v) rest (λ v o spare. owned_next v (λ k. spare) o) a
-        (picked_each (IsSpare w.tap.course.disconnects.strays g.r g.peer) (is_ours g.r g.peer) rest
-        (subst (AllByRecursion (IsSpare w.tap.course.disconnects.strays g.r g.peer)) (sym (spare_left h)) g.spares))
+        all_two (λ v. IsOwned w.judge v) (λ v. is_ours g.r g.peer v ≡ true → IsSpare w.judge.course.disconnects.strays g.r g.peer v)
+        (λ v. IsOwned after.judge v) rest (λ v o spare. owned_next v (λ k. spare) o) a
+        (picked_each (IsSpare w.judge.course.disconnects.strays g.r g.peer) (is_ours g.r g.peer) rest
+        (subst (AllByRecursion (IsSpare w.judge.course.disconnects.strays g.r g.peer)) (sym (spare_left h)) g.spares))
 
     -- ---- the class, and the references that are settled
 
     seen_at : (i : ℕ) (x : Connection) → is_tracked x ≡ true → is_silent x.seen_by_left.phase ≡ false →
-        ((i ≡ p) × (x ≡ next)) ⊎ ((i ≡ p → ⊥) × (slice_get cs i ≡ Some x)) → after.tap.course.class_seen ≡ Some Two
+        ((i ≡ p) × (x ≡ next)) ⊎ ((i ≡ p → ⊥) × (slice_get cs i ≡ Some x)) → after.judge.course.class_seen ≡ Some Two
     seen_at i x is_there known (inl (same, so)) =
-        (lasts_passing (passing Left u) w.tap).seen (f.two c.left.reference (p, c, at, tracked, refl)) seen
+        (lasts_passing (passing Left u) w.judge).seen (f.two c.left.reference (p, c, at, tracked, refl)) seen
     seen_at i x is_there known (inr (other, there)) =
-        (lasts_passing (passing Left u) w.tap).seen (f.two x.left.reference (i, x, there, is_there, refl))
+        (lasts_passing (passing Left u) w.judge).seen (f.two x.left.reference (i, x, there, is_there, refl))
         (f.seen i x there is_there known)
 
     not_waiting : (i : ℕ) (x : Connection) → is_waiting x ≡ true →
         ((i ≡ p) × (x ≡ next)) ⊎ ((i ≡ p → ⊥) × (slice_get cs i ≡ Some x)) → slice_get cs i ≡ Some x
     not_waiting i x waits h = grind (arith, differ, right, next_right, and_second, there_not_silent, right_there)
 
-    settled_next : (v : Value) → AreSettled cs w.put w.end.given v → AreSettled after.tap.connections rest w.end.given v
+    settled_next : (v : Value) → AreSettled cs w.put w.end.given v → AreSettled after.judge.connections rest w.end.given v
     settled_next v h m source is =
         let k = h m source is in
         record {
@@ -478,7 +478,7 @@ module _ (local : Local) (w : Whole) (f : Followed local w) (sane : IsSane w.tap
     own_passes =
         let (head, requests) = subst (AllByRecursion (λ (v : Value). (y : Connect) → v ≡ request y → IsAsking local w.end w.coming y)) e
         f.requests in
-        let (one, owned) = subst (AllByRecursion (λ (v : Value). IsOwned w.tap v)) e f.owned in
+        let (one, owned) = subst (AllByRecursion (λ (v : Value). IsOwned w.judge v)) e f.owned in
         let (alone, settled) = subst (AllByRecursion (AreSettled cs w.put w.end.given)) e f.settled in
         record {
           lines = λ i x there is_there. line_at i x is_there (item i x there);
@@ -487,22 +487,22 @@ module _ (local : Local) (w : Whole) (f : Followed local w) (sane : IsSane w.tap
           linked = λ lasts r peer link h.
               let (t, two) = f.linked lasts r peer link h in
               (tracked_next r t (λ is. held_at lasts r (Some (linked peer link)) h refl is), two);
-          answers = all_so (λ v. IsAnswer w.tap.course.loose cs w.end v)
-              (λ v. IsAnswer after.tap.course.loose after.tap.connections w.end v) w.coming
+          answers = all_so (λ v. IsAnswer w.judge.course.loose cs w.end v)
+              (λ v. IsAnswer after.judge.course.loose after.judge.connections w.end v) w.coming
               (λ v h m y k lasts why.
-              let (t, row) = h m y k lasts (grind (arith, why_before, lasts_passing (passing Left u) w.tap)) in
+              let (t, row) = h m y k lasts (grind (arith, why_before, lasts_passing (passing Left u) w.judge)) in
               (tracked_next m t (λ is. held_at lasts m (Some asked) row refl is), row)) f.answers;
           requests = requests;
           two = λ r t.
               let (i, x, there, is_there, is) = t in
-              (lasts_passing (passing Left u) w.tap).two (f.two r (tracked_was r i x is_there is (item i x there)));
+              (lasts_passing (passing Left u) w.judge).two (f.two r (tracked_was r i x is_there is (item i x there)));
           silent = λ i x there none. silent_at i x none (item i x there);
-          zero = subst (λ (k : Option Class). (k ≡ None) ⊎ (k ≡ Some Two)) (sym (left_class u w.tap)) f.zero;
+          zero = subst (λ (k : Option Class). (k ≡ None) ⊎ (k ≡ Some Two)) (sym (left_class u w.judge)) f.zero;
           some = λ h. absurd (cc h);
           few = f.few;
           seen = λ i x there is_there known. seen_at i x is_there known (item i x there);
           settled = all_so (AreSettled cs w.put w.end.given)
-              (AreSettled after.tap.connections rest w.end.given) rest settled_next settled;
+              (AreSettled after.judge.connections rest w.end.given) rest settled_next settled;
           lost = λ i x there lost. lost_at i x lost (item i x there);
           shut = λ lasts i x there closed row. shut_at lasts i x closed row (item i x there);
         }
@@ -510,7 +510,7 @@ module _ (local : Local) (w : Whole) (f : Followed local w) (sane : IsSane w.tap
     live : is_over Left c ≡ false
     live = not_first (is_over Left c) (not (is_silent c.seen_by_left.phase) && (c.seen_by_left.reference == n)) is_its_name
 
-    pub own_peers : AreNamedApart Right after.tap.connections
-    own_peers = subst (AreNamedApart Right) (sym next_all) (end_set Right w.tap sane.apart peers p c at next live next_judged judged
+    pub own_peers : AreNamedApart Right after.judge.connections
+    own_peers = subst (AreNamedApart Right) (sym next_all) (end_set Right w.judge sane.apart peers p c at next live next_judged judged
         next_right (ap (λ (x : Connection). x.seen_by_right) next_is ∙ own_seen u c)
         (ap (λ (x : Connection). x.seen_by_left) next_is ∙ own_sees u c))

@@ -46,16 +46,16 @@ fits_cc x local size c a e = search (arith, two_power)
 
 -- ---- a unit of the end passes
 
-module _ (local : Local) (w : Whole) (apart : AreApart w.tap.connections) (judged : HoldsOfEach IsJudged w.tap.connections)
-    (right : w.tap.course.right_stopped ≡ false) (u : Value) (rest : List Value) (begun : w.begun ≡ true) (put : w.put ≡ u ∷ rest) where
+module _ (local : Local) (w : Whole) (apart : AreApart w.judge.connections) (judged : HoldsOfEach IsJudged w.judge.connections)
+    (right : w.judge.course.right_stopped ≡ false) (u : Value) (rest : List Value) (begun : w.begun ≡ true) (put : w.put ≡ u ∷ rest) where
   abbrev all : List Connection
-  all = w.tap.connections
+  all = w.judge.connections
 
   abbrev passed : Whole
-  passed = record w { put = rest; begun = false; tap = (takes Right u w.tap).state }
+  passed = record w { put = rest; begun = false; judge = (takes Right u w.judge).state }
 
   abbrev IsFine : Type 0
-  IsFine = (takes Right u w.tap).told.finding ≡ Kept
+  IsFine = (takes Right u w.judge).told.finding ≡ Kept
 
   name_first : (n p : ℕ) (c : Connection) → slice_get all p ≡ Some c → is_named Right n c ≡ true → position (is_named Right n) all ≡ Some p
   name_first n p c at named =
@@ -80,18 +80,18 @@ module _ (local : Local) (w : Whole) (apart : AreApart w.tap.connections) (judge
     unused_so = any_none (λ (e : Connection). uses Right f.r e) all (λ i e there.
         grind (arith, use_so, unequal e.right.reference f.r (e.right.reference == f.r) refl (f.unused i e there)))
 
-    cc_kept : found_on Right w.tap f.c u ≡ Kept
-    cc_kept = ap (λ (v : Value). found_on Right w.tap f.c v) u_cc
-        ∙ judged_so f.c.is_judged (found Right w.tap.course (uses_source Right all cc_is) f.c cc_is) Kept (judged f.p f.c f.at)
-        (grind (arith, unused_so, zero_right local f.x f.size f.r f.c w.tap.course f.selected f.asked.offer f.asked.right f.class))
+    cc_kept : found_on Right w.judge f.c u ≡ Kept
+    cc_kept = ap (λ (v : Value). found_on Right w.judge f.c v) u_cc
+        ∙ judged_so f.c.is_judged (found Right w.judge.course (uses_source Right all cc_is) f.c cc_is) Kept (judged f.p f.c f.at)
+        (grind (arith, unused_so, zero_right local f.x f.size f.r f.c w.judge.course f.selected f.asked.offer f.asked.right f.class))
 
     abbrev cc_next : Connection
     cc_next = sent_on Right cc_is f.c
 
-    cc_conns : (takes Right u w.tap).state.connections ≡ set all f.p cc_next
+    cc_conns : (takes Right u w.judge).state.connections ≡ set all f.p cc_next
     cc_conns = grind (arith, conns_kept, u_cc, cc_named, name_first, cc_kept)
 
-    cc_course : (takes Right u w.tap).state.course ≡ course_after Right f.c cc_is true w.tap.course
+    cc_course : (takes Right u w.judge).state.course ≡ course_after Right f.c cc_is true w.judge.course
     cc_course = grind (arith, course_kept, u_cc, cc_named, name_first, cc_kept)
 
     not_there : {A : Type 0} (i : ℕ) (e : Connection) → ((i ≡ f.p) × (e ≡ cc_next)) ⊎ ((i ≡ f.p → ⊥) × (slice_get all i ≡ Some e)) →
@@ -100,7 +100,7 @@ module _ (local : Local) (w : Whole) (apart : AreApart w.tap.connections) (judge
 
     pub selecting_passes : IsFine × Selected passed
     selecting_passes = (
-      finding_kept u w.tap f.x.source f.p f.c right (grind (arith, u_cc)) (grind (arith, cc_named, name_first)) f.at cc_kept,
+      finding_kept u w.judge f.x.source f.p f.c right (grind (arith, u_cc)) (grind (arith, cc_named, name_first)) f.at cc_kept,
       record {
         p = f.p;
         c = cc_next;
@@ -137,10 +137,10 @@ module _ (local : Local) (w : Whole) (apart : AreApart w.tap.connections) (judge
       abbrev dt_next : Connection
       dt_next = sent_on Right (data0 end user) f.c
 
-      conns : (takes Right u w.tap).state.connections ≡ set all f.p dt_next
+      conns : (takes Right u w.judge).state.connections ≡ set all f.p dt_next
       conns = grind (arith, dt_conns, only)
 
-      course : (takes Right u w.tap).state.course ≡ w.tap.course
+      course : (takes Right u w.judge).state.course ≡ w.judge.course
       course = grind (arith, dt_course, only)
 
       apart_of : {A : Type 0} (i : ℕ) (e : Connection) → ((i ≡ f.p) × (e ≡ dt_next)) ⊎ ((i ≡ f.p → ⊥) × (slice_get all i ≡ Some e)) →

@@ -1,4 +1,4 @@
--- A unit of the other side passes at the tap of a whole calling end: what it does to the line of its connection, and to no other.
+-- A unit of the other side passes at the judge of a whole calling end: what it does to the line of its connection, and to no other.
 -- For the law on a whole end.
 use Rattle.osi_fair.proofs.Vocabulary.{[], ap, arith, Bool, false, if◌then◌else◌, inl, inr, is_some, List, None, Option, refl, set, Some}
 use Rattle.osi_fair.proofs.Vocabulary.{subst, sym, true, ℕ, ◌++◌, ◌<◌, ◌∙◌, ◌∷◌, ◌≡◌, ◌≢◌, ◌⊎◌, eqb-true, AllByRecursion, list_any}
@@ -24,7 +24,7 @@ use Rattle.osi_fair.proofs.how_a_connection_opens.{calling_opens}
 use Rattle.osi_fair.proofs.references_of_requests_rise.{Rise, rise_from}
 use Rattle.osi_fair.proofs.what_holds_of_one_item.{none_true}
 use Rattle.osi_fair.proofs.what_keeps_names_apart.{Sound}
-use Rattle.osi_fair.proofs.what_lasts_at_the_tap.{IsCalm, lasts_passing}
+use Rattle.osi_fair.proofs.what_lasts_at_the_judge.{IsCalm, lasts_passing}
 use Rattle.osi_fair.proofs.what_stays_of_each_connection.{judged_was, left_then, right_judged, right_own}
 use Rattle.osi_fair.proofs.what_belongs_to_no_open_connection.{strays_last}
 use Rattle.osi_fair.proofs.what_the_other_side_closes.{IsSane, is_name}
@@ -86,11 +86,11 @@ data Kind (c : Connection) : Type 0 where
   waits_yet : is_waiting c ≡ true → is_silent c.right.phase ≡ true → is_tracked c ≡ false → c.is_judged ≡ true → Kind c
   is_past : is_open c.left.phase ≡ false → is_silent c.right.phase ≡ false → Kind c
 
-module _ (local : Local) (w : Whole) (f : Followed local w) (sane : IsSane w.tap) (peers : AreNamedApart Right w.tap.connections)
-    (newer : Newer w) (v : Value) (ranges : HasFieldsInRange v) (t : Told v w.tap (takes Right v w.tap))
-    (calm_after : IsCalm (takes Right v w.tap).state.course) (none_zero : (takes Right v w.tap).state.course.class ≡ Some Zero → ⊥) where
+module _ (local : Local) (w : Whole) (f : Followed local w) (sane : IsSane w.judge) (peers : AreNamedApart Right w.judge.connections)
+    (newer : Newer w) (v : Value) (ranges : HasFieldsInRange v) (t : Told v w.judge (takes Right v w.judge))
+    (calm_after : IsCalm (takes Right v w.judge).state.course) (none_zero : (takes Right v w.judge).state.course.class ≡ Some Zero → ⊥) where
   abbrev cs : List Connection
-  cs = w.tap.connections
+  cs = w.judge.connections
 
   abbrev c : Connection
   c = t.c
@@ -99,37 +99,37 @@ module _ (local : Local) (w : Whole) (f : Followed local w) (sane : IsSane w.tap
   more = w.coming ++ v ∷ []
 
   abbrev after : Whole
-  after = record w { tap = (takes Right v w.tap).state; coming = more }
+  after = record w { judge = (takes Right v w.judge).state; coming = more }
 
   sound_c : Sound c
   sound_c = each_sound Right cs sane.apart peers t.q c t.at
 
   abbrev found_so : Finding
-  found_so = found_on Right w.tap c v
+  found_so = found_on Right w.judge c v
 
   abbrev far : Reach
-  far = reach_of (class_for Right w.tap.course) found_so
+  far = reach_of (class_for Right w.judge.course) found_so
 
   abbrev nxt : Connection
   nxt = connection_after Right v (is_applied found_so) far c
 
   abbrev course_so : Course
-  course_so = noted Right found_so (reached Right far (course_after Right c v (is_applied found_so) w.tap.course))
+  course_so = noted Right found_so (reached Right far (course_after Right c v (is_applied found_so) w.judge.course))
 
-  conns : (takes Right v w.tap).state.connections ≡ set cs t.q nxt
+  conns : (takes Right v w.judge).state.connections ≡ set cs t.q nxt
   conns = ap (λ (o : Outcome). o.state.connections) t.is
 
-  course_is : (takes Right v w.tap).state.course ≡ course_so
+  course_is : (takes Right v w.judge).state.course ≡ course_so
   course_is = ap (λ (o : Outcome). o.state.course) t.is
 
   calm_so : IsCalm course_so
   calm_so = subst IsCalm course_is calm_after
 
   abbrev strays_after : Bool
-  strays_after = (takes Right v w.tap).state.course.disconnects.strays
+  strays_after = (takes Right v w.judge).state.course.disconnects.strays
 
-  strays_on : w.tap.course.disconnects.strays ≡ true → strays_after ≡ true
-  strays_on h = strays_last (passing Right v) w.tap h
+  strays_on : w.judge.course.disconnects.strays ≡ true → strays_after ≡ true
+  strays_on h = strays_last (passing Right v) w.judge h
 
   name_is : c.left.reference ≡ t.n
   name_is = is_name c t.n sound_c t.named
@@ -137,7 +137,7 @@ module _ (local : Local) (w : Whole) (f : Followed local w) (sane : IsSane w.tap
   nxt_left : nxt.left ≡ c.left
   nxt_left = left_then v (is_applied found_so) far c
 
-  nxt_at : slice_get (takes Right v w.tap).state.connections t.q ≡ Some nxt
+  nxt_at : slice_get (takes Right v w.judge).state.connections t.q ≡ Some nxt
   nxt_at = ap (λ (l : List Connection). slice_get l t.q) conns ∙ set_there cs t.q nxt c t.at
 
   live : is_over Right c ≡ false
@@ -153,7 +153,7 @@ module _ (local : Local) (w : Whole) (f : Followed local w) (sane : IsSane w.tap
 
   -- it selects no class
   abbrev SameClass : Type 0
-  SameClass = course_so.class ≡ w.tap.course.class
+  SameClass = course_so.class ≡ w.judge.course.class
 
   data Next : Type 0 where
     goes_on : is_tracked c ≡ true → is_tracked nxt ≡ true → nxt.right.reference ≡ c.right.reference → SameClass →
@@ -175,19 +175,19 @@ module _ (local : Local) (w : Whole) (f : Followed local w) (sane : IsSane w.tap
   cc_none j judged there m x e = grind (arith, cc_idle, sound_c)
 
   -- so it comes only if a connection has lost its judgement
-  cc_late : {A : Type 0} → (takes Right v w.tap).state.course.loose ≡ false → is_silent c.right.phase ≡ false → (m : ℕ) (x : Connect) →
+  cc_late : {A : Type 0} → (takes Right v w.judge).state.course.loose ≡ false → is_silent c.right.phase ≡ false → (m : ℕ) (x : Connect) →
       v ≡ confirm m x → A
   cc_late firm there m x e =
-      let judged = sane.judged ((lasts_passing (passing Right v) w.tap).firm firm) t.q c t.at in
+      let judged = sane.judged ((lasts_passing (passing Right v) w.judge).firm firm) t.q c t.at in
       grind (arith, differ, cc_loose, sound_c, course_is)
 
   same_by : (b : Bool) → is_applied found_so ≡ b → (b ≡ true → (m : ℕ) (x : Connect) → v ≡ confirm m x → ⊥) → SameClass
   same_by true e none =
-      reached_same far (course_after Right c v (is_applied found_so) w.tap.course)
-      ∙ course_same c v (is_applied found_so) w.tap.course (none refl)
+      reached_same far (course_after Right c v (is_applied found_so) w.judge.course)
+      ∙ course_same c v (is_applied found_so) w.judge.course (none refl)
   same_by false e none =
-      reached_same far (course_after Right c v (is_applied found_so) w.tap.course)
-      ∙ ap (λ (b : Bool). (course_after Right c v b w.tap.course).class) e ∙ course_idle c v w.tap.course
+      reached_same far (course_after Right c v (is_applied found_so) w.judge.course)
+      ∙ ap (λ (b : Bool). (course_after Right c v b w.judge.course).class) e ∙ course_idle c v w.judge.course
 
   class_kept : is_silent c.right.phase ≡ false → SameClass
   class_kept there = same_by (is_applied found_so) refl
@@ -202,11 +202,11 @@ module _ (local : Local) (w : Whole) (f : Followed local w) (sane : IsSane w.tap
       let r_is : t.n ≡ g.r = sym name_is ∙ g.left in
       let dest : destination_of v ≡ Some g.r = t.dest ∙ ap (λ (i : ℕ). Some i) r_is in
       let line : Line = record g.line {
-        tap = after_finding Right (finding_of Right w.tap.course in_use g.line.tap v) v g.line.tap;
+        judge = after_finding Right (finding_of Right w.judge.course in_use g.line.judge v) v g.line.judge;
         coming = g.line.coming ++ v ∷ [];
       } in
-      let tap : line.tap ≡ nxt = grind arith in
-      let some : reach_of (Some Two) (finding_of Right w.tap.course in_use g.line.tap v) ≢ reach.Everything = λ e.
+      let judge : line.judge ≡ nxt = grind arith in
+      let some : reach_of (Some Two) (finding_of Right w.judge.course in_use g.line.judge v) ≢ reach.Everything = λ e.
       differ course_so.left_stopped (grind arith) calm_so.left in
       record {
         r = g.r;
@@ -214,12 +214,12 @@ module _ (local : Local) (w : Whole) (f : Followed local w) (sane : IsSane w.tap
         line = line;
         left = ap (λ (x : Half). x.reference) nxt_left ∙ g.left;
         right = right ∙ g.right;
-        tracks = tracks_on g.r g.peer g.line line (passes_other w.tap.course in_use v ∷ []) g.tracks
+        tracks = tracks_on g.r g.peer g.line line (passes_other w.judge.course in_use v ∷ []) g.tracks
             (line, (ranges, dest, some, refl), refl);
-        tap = tap;
+        judge = judge;
         spare = g.spare;
         put_is = g.put_is;
-        spares = spares_on w.tap.course.disconnects.strays strays_after g.r g.peer g.spare strays_on g.spares;
+        spares = spares_on w.judge.course.disconnects.strays strays_after g.r g.peer g.spare strays_on g.spares;
         gone = g.gone;
         begun_is = g.begun_is;
         row = row_add local w.end w.coming g.r g.peer g.line line v (named_so g.r v dest) refl refl g.row;
@@ -231,7 +231,7 @@ module _ (local : Local) (w : Whole) (f : Followed local w) (sane : IsSane w.tap
 
   stays_open : (j : Bool) → c.is_judged ≡ j → is_tracked c ≡ true →
       ((is_open nxt.right.phase || is_closing nxt.right.phase) ≡ true) × (nxt.right.reference ≡ c.right.reference)
-  stays_open true judged tracked = open_stays w.tap c judged sound_c v t.n t.dest tracked
+  stays_open true judged tracked = open_stays w.judge c judged sound_c v t.n t.dest tracked
   stays_open false lost tracked = grind (arith, right_there)
 
   goes_so : is_tracked c ≡ true → Next
@@ -252,7 +252,7 @@ module _ (local : Local) (w : Whole) (f : Followed local w) (sane : IsSane w.tap
   unnamed_by x r u i e false same unused there tracked dest = grind (arith, ours_not, unlike)
 
   unnamed_put : (x : Connect) (r : ℕ) → list_any (λ (e : Connection). uses Right x.source e) cs ≡ false → is_waiting c ≡ true →
-      c.left.reference ≡ r → (u : Value) → IsOwned w.tap u → AreSettled cs w.put w.end.given u → is_ours r x.source u ≡ false
+      c.left.reference ≡ r → (u : Value) → IsOwned w.judge u → AreSettled cs w.put w.end.given u → is_ours r x.source u ≡ false
   unnamed_put x r unused waiting mine u (asking y e) k = ap (λ (a : Value). is_ours r x.source a) e
   unnamed_put x r unused waiting mine u (of i e there tracked own) k =
       unnamed_by x r u i e (e.right.reference == x.source) refl unused there tracked own.named
@@ -273,12 +273,12 @@ module _ (local : Local) (w : Whole) (f : Followed local w) (sane : IsSane w.tap
   opens_so : (m : ℕ) (x : Connect) → v ≡ confirm m x → (found_so ≡ Kept) ⊎ (found_so ≡ Broke rule.LargerSize) → (x.class == 2) ≡ true →
       uses_source Right cs v ≡ false → is_waiting c ≡ true → is_tracked c ≡ false → Waiting local w.end w.coming c → Next
   opens_so m x e right_so two unused waiting not_tracked k =
-      let (applied, nothing) = fine_reach (class_for Right w.tap.course) found_so right_so in
+      let (applied, nothing) = fine_reach (class_for Right w.judge.course) found_so right_so in
       let none_use : list_any (λ (y : Connection). uses Right x.source y) cs ≡ false =
       sym (ap (λ (u : Value). uses_source Right cs u) e) ∙ unused in
       let r_is : k.r ≡ t.n = sym (ap (λ (h : Half). h.reference) k.left) ∙ name_is in
       let named_r = named_so k.r v (t.dest ∙ ap (λ (i : ℕ). Some i) (sym r_is)) in
-      let others = all_two (λ u. IsOwned w.tap u) (λ u. AreSettled cs w.put w.end.given u) (λ u. is_ours k.r x.source u ≡ false) w.put
+      let others = all_two (λ u. IsOwned w.judge u) (λ u. AreSettled cs w.put w.end.given u) (λ u. is_ours k.r x.source u ≡ false) w.put
       (unnamed_put x k.r none_use waiting (name_is ∙ sym r_is)) f.owned f.settled in
       let none_put = picked_none (is_ours k.r x.source) w.put others in
       let none_head = leads_none (is_ours k.r x.source) w.put others in
@@ -299,7 +299,7 @@ module _ (local : Local) (w : Whole) (f : Followed local w) (sane : IsSane w.tap
         left = ap (λ (h : Half). h.reference) nxt_left ∙ ap (λ (h : Half). h.reference) k.left;
         right = ap (λ (y : Connection). y.right.reference) is;
         tracks = record { first = line; acts = []; opened = calling_opens local x k.r c range.1 k.left k.right k.seen; along = refl };
-        tap = sym is;
+        judge = sym is;
         spare = [];
         put_is = none_put;
         spares = tt;
@@ -310,9 +310,9 @@ module _ (local : Local) (w : Whole) (f : Followed local w) (sane : IsSane w.tap
             ∙ ap (λ (u : Value). those k.r w.coming ++ u ∷ []) (e ∙ ap (λ (i : ℕ). confirm i x) (same_name m x e ∙ sym r_is))) refl);
         calm = λ j. tt;
       }) (λ lasts. ap (λ (i : ℕ). value_at i w.end.live) (sym r_is) ∙ k.row lasts)
-      (reached_same far (course_after Right c v (is_applied found_so) w.tap.course)
-      ∙ ap (λ (u : Value). (course_after Right c u (is_applied found_so) w.tap.course).class) e
-      ∙ ap (λ (b : Bool). (course_after Right c (confirm m x) b w.tap.course).class) applied
+      (reached_same far (course_after Right c v (is_applied found_so) w.judge.course)
+      ∙ ap (λ (u : Value). (course_after Right c u (is_applied found_so) w.judge.course).class) e
+      ∙ ap (λ (b : Bool). (course_after Right c (confirm m x) b w.judge.course).class) applied
       ∙ ap (λ (a : Class). Some a) (class_opened x two))
 
   refused_so : is_refused nxt.right.phase ≡ true → nxt.is_judged ≡ true → is_tracked c ≡ false →
@@ -323,7 +323,7 @@ module _ (local : Local) (w : Whole) (f : Followed local w) (sane : IsSane w.tap
       (λ m x e. absurd (none m x e)) (same_by (is_applied found_so) refl (λ applied. none))
       (λ lost. differ nxt.is_judged judged lost)
 
-  by_answer : is_waiting c ≡ true → is_tracked c ≡ false → (judged : c.is_judged ≡ true) → Answered w.tap c judged sound_c v → Next
+  by_answer : is_waiting c ≡ true → is_tracked c ≡ false → (judged : c.is_judged ≡ true) → Answered w.judge c judged sound_c v → Next
   by_answer waiting not_tracked judged (opens m x e right_so two unused) =
       opens_so m x e right_so two unused waiting not_tracked (f.waiting t.q c t.at waiting)
   by_answer waiting not_tracked judged (refused h after none) = refused_so h after not_tracked none
@@ -350,8 +350,8 @@ module _ (local : Local) (w : Whole) (f : Followed local w) (sane : IsSane w.tap
   by_kind : Kind c → Next
   by_kind (stands tracked) = goes_so tracked
   by_kind (waits_yet waiting silent not_tracked judged) =
-      by_answer waiting not_tracked judged (answered w.tap c judged sound_c v t.n t.dest silent
-      (not_selected w.tap c judged sound_c v (λ h. none_zero (ap (λ (k : Course). k.class) course_is ∙ h))) calm_so)
+      by_answer waiting not_tracked judged (answered w.judge c judged sound_c v t.n t.dest silent
+      (not_selected w.judge c judged sound_c v (λ h. none_zero (ap (λ (k : Course). k.class) course_is ∙ h))) calm_so)
   by_kind (is_past not_open not_silent_c) =
       gone (no_two (is_open c.left.phase) (is_open c.right.phase || is_closing c.right.phase) not_open)
       (no_two (is_open nxt.left.phase) (is_open nxt.right.phase || is_closing nxt.right.phase)
@@ -368,7 +368,7 @@ module _ (local : Local) (w : Whole) (f : Followed local w) (sane : IsSane w.tap
   abbrev Item : ℕ → Connection → Type 0
   Item i x = ((i ≡ t.q) × (x ≡ nxt)) ⊎ ((i ≡ t.q → ⊥) × (slice_get cs i ≡ Some x))
 
-  item : (i : ℕ) (x : Connection) → slice_get (takes Right v w.tap).state.connections i ≡ Some x → Item i x
+  item : (i : ℕ) (x : Connection) → slice_get (takes Right v w.judge).state.connections i ≡ Some x → Item i x
   item i x h = after_change cs t.q i nxt x (ap (λ (l : List Connection). slice_get l i) (sym conns) ∙ h)
 
   same_one : (i : ℕ) (x : Connection) → i ≡ t.q → slice_get cs i ≡ Some x → x ≡ c
@@ -381,7 +381,7 @@ module _ (local : Local) (w : Whole) (f : Followed local w) (sane : IsSane w.tap
   line_at : (i : ℕ) (x : Connection) → is_tracked x ≡ true → Next → Item i x → Following local w.put w.begun strays_after w.end more x
   line_at i x tracked k (inr (other, there)) =
       let g = f.lines i x there tracked in
-      following_other local w.put w.begun w.tap.course.disconnects.strays strays_after w.end w.coming x v strays_on g
+      following_other local w.put w.begun w.judge.course.disconnects.strays strays_after w.end w.coming x v strays_on g
       (unlike_r i x g.r other there g.left)
   line_at i x tracked (goes_on a b right class line) (inl (same, is)) = grind arith
   line_at i x tracked (opened a silent b line row class) (inl (same, is)) = grind arith
@@ -410,23 +410,23 @@ module _ (local : Local) (w : Whole) (f : Followed local w) (sane : IsSane w.tap
   was_open A tracked k h = grind (arith, differ)
 
   tracked_one : (r i : ℕ) (x : Connection) → slice_get cs i ≡ Some x → is_tracked x ≡ true → x.left.reference ≡ r → (b : Bool) →
-      (i == t.q) ≡ b → Tracked (takes Right v w.tap).state.connections r
+      (i == t.q) ≡ b → Tracked (takes Right v w.judge).state.connections r
   tracked_one r i x there tracked is false h = (i, x, grind (arith, conns, set_other cs t.q i nxt x (unlike i t.q h) there), tracked, is)
   tracked_one r i x there tracked is true h = grind (arith, same_one, eqb-true, was_open, nxt_at, nxt_left, next_so)
 
-  tracked_to : (r : ℕ) → Tracked cs r → Tracked (takes Right v w.tap).state.connections r
+  tracked_to : (r : ℕ) → Tracked cs r → Tracked (takes Right v w.judge).state.connections r
   tracked_to r (i, x, there, tracked, is) = tracked_one r i x there tracked is (i == t.q) refl
 
   owned_one : (u : Value) (i : ℕ) (x : Connection) → slice_get cs i ≡ Some x → is_tracked x ≡ true →
-      IsOf x.left.reference x.right.reference u → (b : Bool) → (i == t.q) ≡ b → IsOwned (takes Right v w.tap).state u
+      IsOf x.left.reference x.right.reference u → (b : Bool) → (i == t.q) ≡ b → IsOwned (takes Right v w.judge).state u
   owned_one u i x there tracked own false h = of i x (grind (arith, conns, set_other cs t.q i nxt x (unlike i t.q h) there)) tracked own
   owned_one u i x there tracked own true h =
       let so = same_one i x (eqb-true i t.q h) there in
-      was_open (IsOwned (takes Right v w.tap).state u) (ap is_tracked (sym so) ∙ tracked)
+      was_open (IsOwned (takes Right v w.judge).state u) (ap is_tracked (sym so) ∙ tracked)
       (λ still right. of t.q nxt nxt_at still
       (grind (arith, nxt_left))) next_so
 
-  owned_to : (u : Value) → IsOwned w.tap u → IsOwned (takes Right v w.tap).state u
+  owned_to : (u : Value) → IsOwned w.judge u → IsOwned (takes Right v w.judge).state u
   owned_to u (asking x e) = asking x e
   owned_to u (of i x there tracked own) = owned_one u i x there tracked own (i == t.q) refl
   owned_to u (stray m source e strays) = stray m source e (strays_on strays)
@@ -434,7 +434,7 @@ module _ (local : Local) (w : Whole) (f : Followed local w) (sane : IsSane w.tap
   same_left : (m : ℕ) (x : Connect) → v ≡ confirm m x → nxt.left.reference ≡ m
   same_left m x e = (grind (arith, nxt_left)) ∙ name_is ∙ sym (same_name m x e)
 
-  answers_to : Next → IsAnswer (takes Right v w.tap).state.course.loose (takes Right v w.tap).state.connections w.end v
+  answers_to : Next → IsAnswer (takes Right v w.judge).state.course.loose (takes Right v w.judge).state.connections w.end v
   answers_to (goes_on a b right class line) m x e lasts (inl row) = ((t.q, nxt, nxt_at, b, same_left m x e), row)
   answers_to (goes_on a b right class line) m x e lasts (inr firm) =
       cc_late firm (there_not_silent c.right.phase (right_there c a)) m x e
@@ -444,19 +444,19 @@ module _ (local : Local) (w : Whole) (f : Followed local w) (sane : IsSane w.tap
   answers_to (opened a silent b line here class) m x e lasts why = grind (arith, nxt_at, same_left, same_name)
 
   class_from : (r i : ℕ) (x : Connection) → is_tracked x ≡ true → x.left.reference ≡ r → Next → Item i x →
-      (takes Right v w.tap).state.course.class ≡ Some Two
+      (takes Right v w.judge).state.course.class ≡ Some Two
   class_from r i x tracked is k (inr (other, there)) =
-      (lasts_passing (passing Right v) w.tap).two (f.two r (i, x, there, tracked, is))
+      (lasts_passing (passing Right v) w.judge).two (f.two r (i, x, there, tracked, is))
   class_from r i x tracked is (goes_on a b right class line) (inl (same, so)) =
-      (lasts_passing (passing Right v) w.tap).two (f.two c.left.reference (t.q, c, t.at, a, refl))
+      (lasts_passing (passing Right v) w.judge).two (f.two c.left.reference (t.q, c, t.at, a, refl))
   class_from r i x tracked is (opened a silent b line row class) (inl (same, so)) = ap (λ (k : Course). k.class) course_is ∙ class
   class_from r i x tracked is (gone a b silent none class lost) (inl (same, so)) = grind (arith, differ, is_tracked)
   class_from r i x tracked is (quiet a still dc) (inl (same, so)) = differ (is_tracked c) (ap is_tracked (sym (so ∙ still)) ∙ tracked) a
 
-  after_class : SameClass → ((takes Right v w.tap).state.course.class ≡ None) ⊎ ((takes Right v w.tap).state.course.class ≡ Some Two)
+  after_class : SameClass → ((takes Right v w.judge).state.course.class ≡ None) ⊎ ((takes Right v w.judge).state.course.class ≡ Some Two)
   after_class same = grind (arith, course_is)
 
-  zero_after : Next → ((takes Right v w.tap).state.course.class ≡ None) ⊎ ((takes Right v w.tap).state.course.class ≡ Some Two)
+  zero_after : Next → ((takes Right v w.judge).state.course.class ≡ None) ⊎ ((takes Right v w.judge).state.course.class ≡ Some Two)
   zero_after (goes_on a b right class line) = after_class class
   zero_after (gone a b silent none class lost) = after_class class
   zero_after (quiet a still dc) = after_class (same_by (is_applied found_so) refl (λ applied. dc_no_cc v dc))
@@ -480,18 +480,18 @@ module _ (local : Local) (w : Whole) (f : Followed local w) (sane : IsSane w.tap
       grind (arith, name_is)
 
   seen_at : (i : ℕ) (x : Connection) → is_tracked x ≡ true → is_silent x.seen_by_left.phase ≡ false → Next → Item i x →
-      (takes Right v w.tap).state.course.class_seen ≡ Some Two
+      (takes Right v w.judge).state.course.class_seen ≡ Some Two
   seen_at i x tracked known k (inr (other, there)) =
-      (lasts_passing (passing Right v) w.tap).seen (f.two x.left.reference (i, x, there, tracked, refl)) (f.seen i x there tracked known)
+      (lasts_passing (passing Right v) w.judge).seen (f.two x.left.reference (i, x, there, tracked, refl)) (f.seen i x there tracked known)
   seen_at i x tracked known (goes_on a b right class line) (inl (same, is)) =
       let before = ap (λ (h : Half). is_silent h.phase) (sym (known_then v (is_applied found_so) far c))
       ∙ ap (λ (y : Connection). is_silent y.seen_by_left.phase) (sym is) ∙ known in
-      (lasts_passing (passing Right v) w.tap).seen (f.two c.left.reference (t.q, c, t.at, a, refl)) (f.seen t.q c t.at a before)
+      (lasts_passing (passing Right v) w.judge).seen (f.two c.left.reference (t.q, c, t.at, a, refl)) (f.seen t.q c t.at a before)
   seen_at i x tracked known (opened a silent b line row class) (inl (same, is)) = grind (arith, known_then, differ, sound_c)
   seen_at i x tracked known (gone a b silent none class lost) (inl (same, is)) = grind (arith, differ, is_tracked)
   seen_at i x tracked known (quiet a still dc) (inl (same, is)) = differ (is_tracked c) (ap is_tracked (sym (is ∙ still)) ∙ tracked) a
 
-  settled_to : (u : Value) → AreSettled cs w.put w.end.given u → AreSettled (takes Right v w.tap).state.connections w.put w.end.given u
+  settled_to : (u : Value) → AreSettled cs w.put w.end.given u → AreSettled (takes Right v w.judge).state.connections w.put w.end.given u
   settled_to u h m source e =
       let k = h m source e in
       record {
@@ -512,12 +512,12 @@ module _ (local : Local) (w : Whole) (f : Followed local w) (sane : IsSane w.tap
   other_passes = record {
     lines = λ i x there tracked. line_at i x tracked next_so (item i x there);
     waiting = λ i x there waiting. waits_at i x waiting next_so (item i x there);
-    owned = all_so (λ u. IsOwned w.tap u) (λ u. IsOwned (takes Right v w.tap).state u) w.put owned_to f.owned;
+    owned = all_so (λ u. IsOwned w.judge u) (λ u. IsOwned (takes Right v w.judge).state u) w.put owned_to f.owned;
     linked = λ lasts r peer link h. let (k, two) = f.linked lasts r peer link h in (tracked_to r k, two);
-    answers = all_add (λ u. IsAnswer after.tap.course.loose after.tap.connections w.end u) w.coming v
-        (all_so (λ u. IsAnswer w.tap.course.loose cs w.end u) (λ u. IsAnswer after.tap.course.loose after.tap.connections w.end u) w.coming
+    answers = all_add (λ u. IsAnswer after.judge.course.loose after.judge.connections w.end u) w.coming v
+        (all_so (λ u. IsAnswer w.judge.course.loose cs w.end u) (λ u. IsAnswer after.judge.course.loose after.judge.connections w.end u) w.coming
         (λ u h m x e lasts why.
-        let (k, row) = h m x e lasts (grind (arith, why_before, lasts_passing (passing Right v) w.tap)) in
+        let (k, row) = h m x e lasts (grind (arith, why_before, lasts_passing (passing Right v) w.judge)) in
         (tracked_to m k, row)) f.answers) (answers_to next_so);
     requests = all_two (λ u. (x : Connect) → u ≡ request x → IsAsking local w.end w.coming x)
         (λ u. (x : Connect) → u ≡ request x → newer.last < x.source)
@@ -535,5 +535,5 @@ module _ (local : Local) (w : Whole) (f : Followed local w) (sane : IsSane w.tap
     shut = λ lasts i x there closed row. shut_by lasts i x closed row (item i x there);
   }
 
-  pub other_peers : AreNamedApart Right (takes Right v w.tap).state.connections
-  other_peers = subst (AreNamedApart Right) (sym conns) (right_set w.tap sane.apart peers t.q c t.at v (class_for Right w.tap.course) live)
+  pub other_peers : AreNamedApart Right (takes Right v w.judge).state.connections
+  other_peers = subst (AreNamedApart Right) (sym conns) (right_set w.judge sane.apart peers t.q c t.at v (class_for Right w.judge.course) live)

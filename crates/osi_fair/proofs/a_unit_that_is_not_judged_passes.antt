@@ -1,4 +1,4 @@
--- A unit of a whole calling end passes that is not judged: it changes no connection at the tap, and if it is of a line, that of a
+-- A unit of a whole calling end passes that is not judged: it changes no connection at the judge, and if it is of a line, that of a
 -- connection which has lost its judgement. For the law on a whole end.
 use Rattle.osi_fair.proofs.Vocabulary.{Right, arith, [], ap, Bool, false, inl, inr, List, None, Option, refl, set, Some, subst, sym, true}
 use Rattle.osi_fair.proofs.Vocabulary.{ℕ, ◌++◌, ◌∙◌, ◌∷◌, ◌≡◌, ◌⊎◌, eq-eqb, AllByRecursion, position, slice_get, ◌&&◌, Connect}
@@ -14,12 +14,12 @@ use Rattle.osi_fair.proofs.left_selects_no_class.{left_class}
 use Rattle.osi_fair.proofs.names_stay_apart_though_one_is_lost.{AreNamedApart}
 use Rattle.osi_fair.proofs.what_a_line_keeps_though_it_is_lost.{Keeps}
 use Rattle.osi_fair.proofs.what_belongs_to_no_open_connection.{strays_last}
-use Rattle.osi_fair.proofs.what_lasts_at_the_tap.{lasts_passing}
+use Rattle.osi_fair.proofs.what_lasts_at_the_judge.{lasts_passing}
 use Rattle.osi_fair.proofs.what_the_other_side_closes.{IsSane}
 use Rattle.osi_fair.proofs.which_units_are_for_a_connection.{IsOf, picked_first, picked_rest, is_ours, leads, ours, ours_is}
 use Rattle.osi_fair.proofs.while_no_class_is_selected.{set_same}
 
--- ---- what the tap finds of a unit of a connection that has lost its judgement
+-- ---- what the judge finds of a unit of a connection that has lost its judgement
 
 -- it is not judged, and changes no connection
 pub record IsIgnored (u : Value) (s : Traffic) : Type 0 where
@@ -35,19 +35,19 @@ module _ (u : Value) (s : Traffic) (n p : ℕ) (c : Connection) (left : s.course
 
 -- ---- at the end
 
-module _ (local : Local) (w : Whole) (f : Followed local w) (sane : IsSane w.tap) (peers : AreNamedApart Right w.tap.connections)
-    (u : Value) (rest : List Value) (e : w.put ≡ u ∷ rest) (begun : w.begun ≡ true) (left : w.tap.course.left_stopped ≡ false) where
+module _ (local : Local) (w : Whole) (f : Followed local w) (sane : IsSane w.judge) (peers : AreNamedApart Right w.judge.connections)
+    (u : Value) (rest : List Value) (e : w.put ≡ u ∷ rest) (begun : w.begun ≡ true) (left : w.judge.course.left_stopped ≡ false) where
   abbrev cs : List Connection
-  cs = w.tap.connections
+  cs = w.judge.connections
 
   abbrev course : Course
-  course = (takes Left u w.tap).state.course
+  course = (takes Left u w.judge).state.course
 
   abbrev strays : Bool
-  strays = w.tap.course.disconnects.strays
+  strays = w.judge.course.disconnects.strays
 
   strays_on : strays ≡ true → course.disconnects.strays ≡ true
-  strays_on h = strays_last (passing Left u) w.tap h
+  strays_on h = strays_last (passing Left u) w.judge h
 
   -- ---- the unit is of the line of this connection, which has lost its judgement
 
@@ -76,7 +76,7 @@ module _ (local : Local) (w : Whole) (f : Followed local w) (sane : IsSane w.tap
         left = g.left;
         right = g.right;
         tracks = g.tracks;
-        tap = g.tap;
+        judge = g.judge;
         spare = ours g.r g.peer rest;
         put_is = ap (λ (l : List Value). l ++ ours g.r g.peer rest) (sym none);
         spares = spares_on (ours g.r g.peer rest) spare_head.1;
@@ -95,7 +95,7 @@ module _ (local : Local) (w : Whole) (f : Followed local w) (sane : IsSane w.tap
       line_after = record g.line {
         put = parts.0;
         begun = false;
-        tap = after_finding Left (finding_of Left w.tap.course false g.line.tap u) u g.line.tap;
+        judge = after_finding Left (finding_of Left w.judge.course false g.line.judge u) u g.line.judge;
       }
 
       pop_put : Following local rest false course.disconnects.strays w.end w.coming c
@@ -105,9 +105,9 @@ module _ (local : Local) (w : Whole) (f : Followed local w) (sane : IsSane w.tap
         line = line_after;
         left = g.left;
         right = g.right;
-        tracks = tracks_on g.r g.peer g.line line_after (passes_own w.tap.course false ∷ []) g.tracks
+        tracks = tracks_on g.r g.peer g.line line_after (passes_own w.judge.course false ∷ []) g.tracks
             (line_after, (u, parts.1.0, grind (arith, put_some, leads, is_ours, both), refl), refl);
-        tap = grind arith;
+        judge = grind arith;
         spare = g.spare;
         put_is = parts.1.1;
         spares = spares_on g.spare g.spares;
@@ -118,13 +118,13 @@ module _ (local : Local) (w : Whole) (f : Followed local w) (sane : IsSane w.tap
       }
 
       -- as it passes it names its connection
-      put_ignored : IsIgnored u w.tap
+      put_ignored : IsIgnored u w.judge
       put_ignored =
           let k : Keeps Left g.r g.peer g.line = tracks_keep g.r g.peer g.line g.tracks in
-          let (there, is) = subst (λ (x : Connection). (is_silent x.seen_by_left.phase ≡ false) × (x.seen_by_left.reference ≡ g.peer)) g.tap
+          let (there, is) = subst (λ (x : Connection). (is_silent x.seen_by_left.phase ≡ false) × (x.seen_by_left.reference ≡ g.peer)) g.judge
           (k.seen_so (grind (arith, put_some, leads, is_ours, both))) in
           let named : is_named Left g.peer c ≡ true = grind (arith, name_so, eq-eqb) in
-          lost_ignored u w.tap g.peer p c left (f.seen p c at tracked there) (ours_is g.r g.peer u mine).named
+          lost_ignored u w.judge g.peer p c left (f.seen p c at tracked there) (ours_is g.r g.peer u mine).named
           (name_first local w f sane peers g.peer p c at named) at lost
 
     pop_by : (l : List Value) → g.line.put ≡ l → Following local rest false course.disconnects.strays w.end w.coming c
@@ -132,13 +132,13 @@ module _ (local : Local) (w : Whole) (f : Followed local w) (sane : IsSane w.tap
     pop_by (v ∷ vs) some = pop_put v vs some
 
     -- such a unit is not judged, or a DC for a DR that closed nothing
-    pub lost_by : (l : List Value) → g.line.put ≡ l → IsIgnored u w.tap ⊎ ((u ≡ disconnected g.peer g.r) × (strays ≡ true))
+    pub lost_by : (l : List Value) → g.line.put ≡ l → IsIgnored u w.judge ⊎ ((u ≡ disconnected g.peer g.r) × (strays ≡ true))
     lost_by [] none = let k = (spare_head none).0 in inr (k.is, k.strays)
     lost_by (v ∷ vs) some = inl (put_ignored v vs some)
 
   -- ---- all lines
 
-  module _ (ignored : IsIgnored u w.tap) where
+  module _ (ignored : IsIgnored u w.judge) where
     judged_not : (p : ℕ) (c : Connection) → slice_get cs p ≡ Some c → is_tracked c ≡ true →
         (g : Following local w.put w.begun strays w.end w.coming c) → is_ours g.r g.peer u ≡ true → (b : Bool) → c.is_judged ≡ b →
         c.is_judged ≡ false
@@ -159,31 +159,31 @@ module _ (local : Local) (w : Whole) (f : Followed local w) (sane : IsSane w.tap
     line_by p c at tracked g true mine =
         pop_by p c at tracked g mine (judged_not p c at tracked g mine c.is_judged refl) g.line.put refl
 
-    owned_on : (v : Value) → IsOwned w.tap v → IsOwned (record { connections = cs; course = course }) v
+    owned_on : (v : Value) → IsOwned w.judge v → IsOwned (record { connections = cs; course = course }) v
     owned_on v (asking x is) = asking x is
     owned_on v (of p c at tracked own) = of p c at tracked own
     owned_on v (stray m source is k) = stray m source is (strays_on k)
 
-    ignored_so : Followed local (record w { put = rest; begun = false; tap = record { connections = cs; course = course } })
+    ignored_so : Followed local (record w { put = rest; begun = false; judge = record { connections = cs; course = course } })
     ignored_so =
-        let (first, owned) = subst (AllByRecursion (λ (v : Value). IsOwned w.tap v)) e f.owned in
+        let (first, owned) = subst (AllByRecursion (λ (v : Value). IsOwned w.judge v)) e f.owned in
         let (none, requests) = subst (AllByRecursion (λ (v : Value). (y : Connect) → v ≡ request y → IsAsking local w.end w.coming y)) e
         f.requests in
         let (alone, settled) = subst (AllByRecursion (AreSettled cs w.put w.end.given)) e f.settled in
-        let lasts = lasts_passing (passing Left u) w.tap in
+        let lasts = lasts_passing (passing Left u) w.judge in
         record {
           lines = λ i c at tracked.
               let g = f.lines i c at tracked in line_by i c at tracked g (is_ours g.r g.peer u) refl;
           waiting = f.waiting;
-          owned = all_so (λ v. IsOwned w.tap v) (λ v. IsOwned (record { connections = cs; course = course }) v) rest
+          owned = all_so (λ v. IsOwned w.judge v) (λ v. IsOwned (record { connections = cs; course = course }) v) rest
               (λ v k. owned_on v k) owned;
           linked = f.linked;
-          answers = all_so (λ v. IsAnswer w.tap.course.loose cs w.end v) (λ v. IsAnswer course.loose cs w.end v) w.coming
-              (λ v h m y k last why. h m y k last (why_before w.tap.course.loose course.loose lasts.firm why)) f.answers;
+          answers = all_so (λ v. IsAnswer w.judge.course.loose cs w.end v) (λ v. IsAnswer course.loose cs w.end v) w.coming
+              (λ v h m y k last why. h m y k last (why_before w.judge.course.loose course.loose lasts.firm why)) f.answers;
           requests = requests;
           two = λ r t. lasts.two (f.two r t);
           silent = f.silent;
-          zero = subst (λ (k : Option Class). (k ≡ None) ⊎ (k ≡ Some Two)) (sym (left_class u w.tap)) f.zero;
+          zero = subst (λ (k : Option Class). (k ≡ None) ⊎ (k ≡ Some Two)) (sym (left_class u w.judge)) f.zero;
           some = λ h. absurd (cc h);
           few = f.few;
           seen = λ i c at tracked known. lasts.seen (f.two c.left.reference (i, c, at, tracked, refl)) (f.seen i c at tracked known);
@@ -192,28 +192,28 @@ module _ (local : Local) (w : Whole) (f : Followed local w) (sane : IsSane w.tap
           shut = f.shut;
         }
 
-    pub ignored_passes : Followed local (record w { put = rest; begun = false; tap = (takes Left u w.tap).state })
+    pub ignored_passes : Followed local (record w { put = rest; begun = false; judge = (takes Left u w.judge).state })
     ignored_passes = subst (λ (l : List Connection). Followed local (record w {
       put = rest;
       begun = false;
-      tap = record { connections = l; course = course };
+      judge = record { connections = l; course = course };
     })) (sym ignored.same) ignored_so
 
-    pub ignored_peers : AreNamedApart Right (takes Left u w.tap).state.connections
+    pub ignored_peers : AreNamedApart Right (takes Left u w.judge).state.connections
     ignored_peers = subst (AreNamedApart Right) (sym ignored.same) peers
 
 -- ---- the unit that passes
 
 -- It is right, or not judged: a DR has passed that closed nothing, or a connection has lost its judgement. All holds after it.
 pub record Passed (local : Local) (w : Whole) (u : Value) (rest : List Value) : Type 0 where
-  pub fine : ((takes Left u w.tap).told.finding ≡ Kept) ⊎ (((takes Left u w.tap).told.finding ≡ NotJudged)
-      × ((w.tap.course.disconnects.strays ≡ true) ⊎ (w.tap.course.loose ≡ true)))
-  pub followed : Followed local (record w { put = rest; begun = false; tap = (takes Left u w.tap).state })
-  pub peers : AreNamedApart Right (takes Left u w.tap).state.connections
+  pub fine : ((takes Left u w.judge).told.finding ≡ Kept) ⊎ (((takes Left u w.judge).told.finding ≡ NotJudged)
+      × ((w.judge.course.disconnects.strays ≡ true) ⊎ (w.judge.course.loose ≡ true)))
+  pub followed : Followed local (record w { put = rest; begun = false; judge = (takes Left u w.judge).state })
+  pub peers : AreNamedApart Right (takes Left u w.judge).state.connections
 
-pub own_goes : (local : Local) (w : Whole) (f : Followed local w) (sane : IsSane w.tap) (peers : AreNamedApart Right w.tap.connections)
+pub own_goes : (local : Local) (w : Whole) (f : Followed local w) (sane : IsSane w.judge) (peers : AreNamedApart Right w.judge.connections)
     (u : Value) (rest : List Value) (p : ℕ) (c : Connection) (e : w.put ≡ u ∷ rest) (begun : w.begun ≡ true)
-    (left : w.tap.course.left_stopped ≡ false) (at : slice_get w.tap.connections p ≡ Some c) (tracked : is_tracked c ≡ true)
+    (left : w.judge.course.left_stopped ≡ false) (at : slice_get w.judge.connections p ≡ Some c) (tracked : is_tracked c ≡ true)
     (own : IsOf c.left.reference c.right.reference u) → c.is_judged ≡ true → Passed local w u rest
 own_goes local w f sane peers u rest p c e begun left at tracked own judged = record {
   fine = inl (own_kept local w f sane peers u rest p c e begun left at tracked own judged);

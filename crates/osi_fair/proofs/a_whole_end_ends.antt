@@ -44,13 +44,13 @@ is_over : (local : Local) (w : Whole) → Followed local w → (t : State) (late
     w.end.given ≤ t.given →
     Followed local (record w { end = t; coming = later })
 is_over local w f t later h early few up = record {
-  lines = λ i c at tracked. over_line local w.put w.begun w.tap.course.disconnects.strays w.end t w.coming later c h
+  lines = λ i c at tracked. over_line local w.put w.begun w.judge.course.disconnects.strays w.end t w.coming later c h
       (f.lines i c at tracked);
   waiting = λ i c at waits.
       grind (arith, over_not, f.waiting i c at waits);
   owned = f.owned;
   linked = λ lasts. over_not t.ended h lasts;
-  answers = all_made (λ v. IsAnswer w.tap.course.loose w.tap.connections t v) later (λ v n x e lasts why. over_not t.ended h lasts);
+  answers = all_made (λ v. IsAnswer w.judge.course.loose w.judge.connections t v) later (λ v n x e lasts why. over_not t.ended h lasts);
   requests = all_so (λ v. (x : Connect) → v ≡ request x → IsAsking local w.end w.coming x)
       (λ v. (x : Connect) → v ≡ request x → IsAsking local t later x) w.put
       (λ v k x e. let a = k x e in grind (arith, over_not)) f.requests;
@@ -60,7 +60,7 @@ is_over local w f t later h early few up = record {
   some = f.some;
   few = few;
   seen = f.seen;
-  settled = all_so (AreSettled w.tap.connections w.put w.end.given) (AreSettled w.tap.connections w.put t.given) w.put
+  settled = all_so (AreSettled w.judge.connections w.put w.end.given) (AreSettled w.judge.connections w.put t.given) w.put
       (grind arith) f.settled;
   lost = f.lost;
   shut = λ lasts. over_not t.ended h lasts;
@@ -75,14 +75,14 @@ kept_early b v vs h = grind arith
 
 -- ---- a unit, and a call, whether the end ends or not
 
-module _ (local : Local) (w : Whole) (f : Followed local w) (sane : IsSane w.tap) (peers : AreNamedApart Right w.tap.connections)
+module _ (local : Local) (w : Whole) (f : Followed local w) (sane : IsSane w.judge) (peers : AreNamedApart Right w.judge.connections)
     (offers : OffersTwo w.end) (orderly : IsOrderly w.end) (local_is : w.end.local ≡ local) where
   abbrev after : Value → List Value → Whole
   after u later = record w { end = react u w.end; put = w.put ++ put_for u w.end; coming = later }
 
   takes_by : (b : Bool) (u : Value) (later : List Value) → is_some (react u w.end).ended ≡ b → w.coming ≡ u ∷ later →
       ((react u w.end).ended ≡ None → w.end.ended ≡ None) →
-      (w.end.ended ≡ None → IsDr u → (m : ℕ) → closed_by u ≡ Some m → IsLive w.end m ⊎ (w.tap.course.disconnects.strays ≡ true)) →
+      (w.end.ended ≡ None → IsDr u → (m : ℕ) → closed_by u ≡ Some m → IsLive w.end m ⊎ (w.judge.course.disconnects.strays ≡ true)) →
       SelectsTwo w.end u →
       Followed local (after u later)
   takes_by true u later h e was live_dr selects =
@@ -93,7 +93,7 @@ module _ (local : Local) (w : Whole) (f : Followed local w) (sane : IsSane w.tap
   takes_by false u later h e was live_dr selects = search (arith, no_end, end_takes)
 
   pub whole_takes : (u : Value) (later : List Value) → w.coming ≡ u ∷ later → ((react u w.end).ended ≡ None → w.end.ended ≡ None) →
-      (w.end.ended ≡ None → IsDr u → (m : ℕ) → closed_by u ≡ Some m → IsLive w.end m ⊎ (w.tap.course.disconnects.strays ≡ true)) →
+      (w.end.ended ≡ None → IsDr u → (m : ℕ) → closed_by u ≡ Some m → IsLive w.end m ⊎ (w.judge.course.disconnects.strays ≡ true)) →
       SelectsTwo w.end u →
       Followed local (after u later)
   whole_takes u later e was live_dr selects = takes_by (is_some (react u w.end).ended) u later refl e was live_dr selects

@@ -37,13 +37,13 @@ same_up n = omega arith
 
 -- ---- a call on an open connection
 
-module _ (local : Local) (w : Whole) (f : Followed local w) (sane : IsSane w.tap) (peers : AreNamedApart Right w.tap.connections)
+module _ (local : Local) (w : Whole) (f : Followed local w) (sane : IsSane w.judge) (peers : AreNamedApart Right w.judge.connections)
     (t : State) (units : List Value) (n peer : ℕ) (link : Standing) (here : value_at n w.end.live ≡ Some (linked peer link))
     (rows : (m : ℕ) → (m ≡ n → ⊥) → value_at m t.live ≡ value_at m w.end.live) (class : t.class ≡ w.end.class)
     (given : t.given ≡ w.end.given) (was : w.end.ended ≡ None) (orderly : IsOrderly w.end) (after_row : Linked n peer t)
     (follows : (r q : ℕ) (l : Standing) → r ≡ n → value_at r w.end.live ≡ Some (linked q l) → Follows r q [] units w.end t) where
   abbrev cs : List Connection
-  cs = w.tap.connections
+  cs = w.judge.connections
 
   abbrev after : Whole
   after = record w { end = t; put = w.put ++ units }
@@ -62,13 +62,13 @@ module _ (local : Local) (w : Whole) (f : Followed local w) (sane : IsSane w.tap
       let row = ap (λ (j : ℕ). value_at j t.live) same ∙ there in closes o row i (inr h) (is ∙ ap link_now (row ∙ h)) coming
 
   record Grown (c : Connection) : Type 0 where
-    grown : Following local (w.put ++ units) w.begun w.tap.course.disconnects.strays t w.coming c
+    grown : Following local (w.put ++ units) w.begun w.judge.course.disconnects.strays t w.coming c
     own : AllOurs n c.right.reference units
 
   same_linked : (q r : ℕ) (l k : Standing) → Some (linked q l) ≡ Some (linked r k) → q ≡ r
   same_linked q r l k e = cc
 
-  grows : (p : ℕ) (c : Connection) → slice_get cs p ≡ Some c → (g : Following local w.put w.begun w.tap.course.disconnects.strays w.end
+  grows : (p : ℕ) (c : Connection) → slice_get cs p ≡ Some c → (g : Following local w.put w.begun w.judge.course.disconnects.strays w.end
       w.coming c) →
       g.r ≡ n →
       (l : Standing) → value_at g.r w.end.live ≡ Some (linked g.peer l) → g.line.link ≡ Some l → those g.r w.coming ≡ g.line.coming →
@@ -89,7 +89,7 @@ module _ (local : Local) (w : Whole) (f : Followed local w) (sane : IsSane w.tap
           left = g.left;
           right = g.right;
           tracks = tracks;
-          tap = g.tap;
+          judge = g.judge;
           spare = [];
           put_is = picked_join (is_ours g.r g.peer) w.put units
               ∙ ap (λ (v : List Value). v ++ ours g.r g.peer units) (g.put_is ∙ ap (λ (v : List Value). g.line.put ++ v) none
@@ -105,7 +105,7 @@ module _ (local : Local) (w : Whole) (f : Followed local w) (sane : IsSane w.tap
       }
 
   grown_by : (p : ℕ) (c : Connection) → slice_get cs p ≡ Some c →
-      (g : Following local w.put w.begun w.tap.course.disconnects.strays w.end w.coming c) → g.r ≡ n →
+      (g : Following local w.put w.begun w.judge.course.disconnects.strays w.end w.coming c) → g.r ≡ n →
       Row local w.end w.coming g.r g.peer g.line → Grown c
   grown_by p c at g same (over h) = differ (is_some w.end.ended) h (ap is_some was)
   grown_by p c at g same (talks l r is come_all) = grows p c at g same l r is come_all
@@ -113,14 +113,14 @@ module _ (local : Local) (w : Whole) (f : Followed local w) (sane : IsSane w.tap
   grown_by p c at g same (closes o r i (inl h) gone come_all) = grind arith
   grown_by p c at g same (closes o r i (inr h) gone come_all) = grind arith
 
-  owner : Owner w.tap n units
+  owner : Owner w.judge n units
   owner =
       let ((p, c, at, tracked, left), two) = f.linked was n peer link here in
       let g = f.lines p c at tracked in
       record { p = p; c = c; at = at; tracked = tracked; left = left; own = (grown_by p c at g (sym g.left ∙ left) g.row).own }
 
   put_other_peer : (p : ℕ) (c : Connection) → slice_get cs p ≡ Some c → is_tracked c ≡ true → (r q : ℕ) → c.right.reference ≡ q →
-      (c.left.reference ≡ n → ⊥) → (o : Owner w.tap n units) → ours r q (w.put ++ units) ≡ ours r q w.put
+      (c.left.reference ≡ n → ⊥) → (o : Owner w.judge n units) → ours r q (w.put ++ units) ≡ ours r q w.put
   put_other_peer p c at tracked r q right other o = search (arith, picked_join, is_ours, ours, none_ours, one_peer, append-nil)
 
   row_other : (r q : ℕ) (line : Line) → (r ≡ n → ⊥) → Row local w.end w.coming r q line → Row local t w.coming r q line
@@ -131,14 +131,14 @@ module _ (local : Local) (w : Whole) (f : Followed local w) (sane : IsSane w.tap
   row_other r q line other (closes o there i h is come_all) = closes o (rows r other ∙ there) i h is come_all
 
   line_other : (p : ℕ) (c : Connection) → slice_get cs p ≡ Some c → is_tracked c ≡ true →
-      (g : Following local w.put w.begun w.tap.course.disconnects.strays w.end w.coming c) → (g.r ≡ n → ⊥) →
-      Following local (w.put ++ units) w.begun w.tap.course.disconnects.strays t w.coming c
+      (g : Following local w.put w.begun w.judge.course.disconnects.strays w.end w.coming c) → (g.r ≡ n → ⊥) →
+      Following local (w.put ++ units) w.begun w.judge.course.disconnects.strays t w.coming c
   line_other p c at tracked g other = followed_at g (put_other_peer p c at tracked g.r g.peer g.right (λ e. other (sym g.left ∙ e)) owner)
       g.spares (leads_more w.begun (is_ours g.r g.peer) w.put units f.some) (row_other g.r g.peer g.line other g.row)
 
   line_by : (p : ℕ) (c : Connection) → slice_get cs p ≡ Some c → is_tracked c ≡ true →
-      (g : Following local w.put w.begun w.tap.course.disconnects.strays w.end w.coming c) → (b : Bool) → (g.r == n) ≡ b →
-      Following local (w.put ++ units) w.begun w.tap.course.disconnects.strays t w.coming c
+      (g : Following local w.put w.begun w.judge.course.disconnects.strays w.end w.coming c) → (b : Bool) → (g.r == n) ≡ b →
+      Following local (w.put ++ units) w.begun w.judge.course.disconnects.strays t w.coming c
   line_by p c at tracked g true e = (grown_by p c at g (eqb-true g.r n e) g.row).grown
   line_by p c at tracked g false e = line_other p c at tracked g (unlike g.r n e)
 
@@ -146,10 +146,10 @@ module _ (local : Local) (w : Whole) (f : Followed local w) (sane : IsSane w.tap
       Tracked cs m × (t.class ≡ Some Two)
   linked_by m q l b e h = grind (arith, eqb-true, unlike)
 
-  puts : Puts w.tap w.end n units
+  puts : Puts w.judge w.end n units
   puts = of_line owner (grind (arith, beyond, ltb-true, ltb-false))
 
-  answer_now : (v : Value) → IsAnswer w.tap.course.loose cs w.end v → IsAnswer w.tap.course.loose cs t v
+  answer_now : (v : Value) → IsAnswer w.judge.course.loose cs w.end v → IsAnswer w.judge.course.loose cs t v
   answer_now v h m x e lasts (inl row) = ((h m x e was (inl (grind (arith, eqb-true, unlike)))).0, row)
   answer_now v h m x e lasts (inr firm) = let (k, row) = h m x e was (inr firm) in (k, asked_still m row)
 
@@ -167,16 +167,16 @@ module _ (local : Local) (w : Whole) (f : Followed local w) (sane : IsSane w.tap
           early = k.early;
           row = λ lasts. asked_still k.r (k.row was);
         };
-    owned = all_join (λ v. IsOwned w.tap v) w.put units f.owned (units_owned w.tap w.end n units puts);
+    owned = all_join (λ v. IsOwned w.judge v) w.put units f.owned (units_owned w.judge w.end n units puts);
     linked = λ lasts m q l h. linked_by m q l (m == n) refl h;
-    answers = all_so (λ v. IsAnswer w.tap.course.loose cs w.end v) (λ v. IsAnswer w.tap.course.loose cs t v) w.coming answer_now f.answers;
+    answers = all_so (λ v. IsAnswer w.judge.course.loose cs w.end v) (λ v. IsAnswer w.judge.course.loose cs t v) w.coming answer_now f.answers;
     requests = all_join (λ v. (x : Connect) → v ≡ request x → IsAsking local t w.coming x) w.put units
         (all_so (λ v. (x : Connect) → v ≡ request x → IsAsking local w.end w.coming x) (λ v. (x : Connect) → v ≡ request x →
         IsAsking local t w.coming x) w.put
         (λ v h x e. let k = h x e in record
         { left = k.left; early = k.early; row = λ lasts. asked_still x.source (k.row was) })
         f.requests)
-        (units_ask w.tap w.end n units (λ x. IsAsking local t w.coming x) puts);
+        (units_ask w.judge w.end n units (λ x. IsAsking local t w.coming x) puts);
     two = f.two;
     silent = f.silent;
     zero = f.zero;
@@ -185,9 +185,9 @@ module _ (local : Local) (w : Whole) (f : Followed local w) (sane : IsSane w.tap
     seen = f.seen;
     settled = all_join (AreSettled cs (w.put ++ units) t.given) w.put units
         (all_so (AreSettled cs w.put w.end.given) (AreSettled cs (w.put ++ units) t.given) w.put
-        (settled_more cs w.put units w.end.given t.given (λ r. units_ask w.tap w.end n units (λ x. x.source ≡ r → ⊥) puts)
+        (settled_more cs w.put units w.end.given t.given (λ r. units_ask w.judge w.end n units (λ x. x.source ≡ r → ⊥) puts)
         (subst (λ (i : ℕ). w.end.given ≤ i) (sym given) (same_up w.end.given))) f.settled)
-        (units_settled w.tap w.end (w.put ++ units) t.given n units puts (grind (arith, asks, all_join, all_so, units_ask, puts)));
+        (units_settled w.judge w.end (w.put ++ units) t.given n units puts (grind (arith, asks, all_join, all_so, units_ask, puts)));
     lost = f.lost;
     shut = λ lasts i c at closed row. f.shut was i c at closed (grind (arith, eqb-true, unlike));
   }
@@ -201,7 +201,7 @@ source_so b local held calling called r = grind arith
 same_request : (x y : Connect) → request x ≡ request y → y ≡ x
 same_request x y e = cc
 
-module _ (local : Local) (w : Whole) (f : Followed local w) (sane : IsSane w.tap) (newer : Newer w) (offers : OffersTwo w.end)
+module _ (local : Local) (w : Whole) (f : Followed local w) (sane : IsSane w.judge) (newer : Newer w) (offers : OffersTwo w.end)
     (orderly : IsOrderly w.end) (local_is : w.end.local ≡ local) (was : w.end.ended ≡ None) (calling called : Option (List ℕ)) where
   abbrev s : State
   s = w.end
@@ -231,9 +231,9 @@ module _ (local : Local) (w : Whole) (f : Followed local w) (sane : IsSane w.tap
   row_c m q line other (talks l there is come_all) = talks l (rows_c m other ∙ there) is come_all
   row_c m q line other (closes o there i h is come_all) = closes o (rows_c m other ∙ there) i h is come_all
 
-  line_c : (p : ℕ) (c : Connection) → slice_get w.tap.connections p ≡ Some c →
-      Following local w.put w.begun w.tap.course.disconnects.strays s w.coming c →
-      Following local (w.put ++ request x ∷ []) w.begun w.tap.course.disconnects.strays t w.coming c
+  line_c : (p : ℕ) (c : Connection) → slice_get w.judge.connections p ≡ Some c →
+      Following local w.put w.begun w.judge.course.disconnects.strays s w.coming c →
+      Following local (w.put ++ request x ∷ []) w.begun w.judge.course.disconnects.strays t w.coming c
   line_c p c at g = followed_at g (picked_other (is_ours g.r g.peer) w.put (request x) refl) g.spares
       (leads_more w.begun (is_ours g.r g.peer) w.put (request x ∷ []) f.some) (row_c g.r g.peer g.line (grind arith) g.row)
 
@@ -241,22 +241,22 @@ module _ (local : Local) (w : Whole) (f : Followed local w) (sane : IsSane w.tap
   too_low source y new same low = absurd (omega arith)
 
   linked_c : (m q : ℕ) (l : Standing) (b : Bool) → (m == r) ≡ b → value_at m t.live ≡ Some (linked q l) →
-      Tracked w.tap.connections m × (s.class ≡ Some Two)
+      Tracked w.judge.connections m × (s.class ≡ Some Two)
   linked_c m q l b e h = grind (arith, beyond, push_here, eqb-true, rows_c, unlike)
 
   new_asking : (y : Connect) → request x ≡ request y → IsAsking local t w.coming y
   new_asking y e = grind (arith, asked_so, source_so, same_request, those, each_picked, names, all_so, is_dc, eqb-true, beyond, push_here)
 
   -- no CC has come for the new reference
-  answer_new : (v : Value) → IsAnswer w.tap.course.loose w.tap.connections s v → AreGiven s.given v → (m : ℕ) (y : Connect) →
-      v ≡ confirm m y → (b : Bool) → (m == r) ≡ b → value_at m t.live ≡ Some asked → Tracked w.tap.connections m
+  answer_new : (v : Value) → IsAnswer w.judge.course.loose w.judge.connections s v → AreGiven s.given v → (m : ℕ) (y : Connect) →
+      v ≡ confirm m y → (b : Bool) → (m == r) ≡ b → value_at m t.live ≡ Some asked → Tracked w.judge.connections m
   answer_new v h given_so m y e true same row =
       let up = given_so (ap is_dc e) m (ap destination_of e) in
       grind (arith, eqb-true)
   answer_new v h given_so m y e false other row = (h m y e was (inl (sym (rows_c m (unlike m r other)) ∙ row))).0
 
-  answer_c : (v : Value) → IsAnswer w.tap.course.loose w.tap.connections s v → AreGiven s.given v →
-      IsAnswer w.tap.course.loose w.tap.connections t v
+  answer_c : (v : Value) → IsAnswer w.judge.course.loose w.judge.connections s v → AreGiven s.given v →
+      IsAnswer w.judge.course.loose w.judge.connections t v
   answer_c v h given_so m y e lasts (inl row) = (answer_new v h given_so m y e (m == r) refl row, row)
   answer_c v h given_so m y e lasts (inr firm) = let (k, row) = h m y e was (inr firm) in (k, asked_c m row)
 
@@ -274,10 +274,10 @@ module _ (local : Local) (w : Whole) (f : Followed local w) (sane : IsSane w.tap
           row = λ lasts. asked_c k.r
               (k.row was);
         };
-    owned = all_join (λ v. IsOwned w.tap v) w.put (request x ∷ []) f.owned (asking x refl, tt);
+    owned = all_join (λ v. IsOwned w.judge v) w.put (request x ∷ []) f.owned (asking x refl, tt);
     linked = λ lasts m q l h. linked_c m q l (m == r) refl h;
-    answers = all_two (λ v. IsAnswer w.tap.course.loose w.tap.connections s v) (AreGiven s.given)
-        (λ v. IsAnswer w.tap.course.loose w.tap.connections t v) w.coming answer_c f.answers f.few;
+    answers = all_two (λ v. IsAnswer w.judge.course.loose w.judge.connections s v) (AreGiven s.given)
+        (λ v. IsAnswer w.judge.course.loose w.judge.connections t v) w.coming answer_c f.answers f.few;
     requests = all_join (λ v. (y : Connect) → v ≡ request y → IsAsking local t w.coming y) w.put (request x ∷ [])
         (all_so (λ v. (y : Connect) → v ≡ request y → IsAsking local s w.coming y) (λ v. (y : Connect) → v ≡ request y →
         IsAsking local t w.coming y) w.put
@@ -291,9 +291,9 @@ module _ (local : Local) (w : Whole) (f : Followed local w) (sane : IsSane w.tap
     some = λ h. some_more w.put (request x ∷ []) (f.some h);
     few = all_so (AreGiven s.given) (AreGiven t.given) w.coming (λ v h none m e. let up = h none m e in omega arith) f.few;
     seen = f.seen;
-    settled = all_join (AreSettled w.tap.connections (w.put ++ request x ∷ []) t.given) w.put (request x ∷ [])
-        (all_so (AreSettled w.tap.connections w.put s.given)
-        (AreSettled w.tap.connections (w.put ++ request x ∷ []) t.given) w.put (grind (arith, all_join, too_low, same_request))
+    settled = all_join (AreSettled w.judge.connections (w.put ++ request x ∷ []) t.given) w.put (request x ∷ [])
+        (all_so (AreSettled w.judge.connections w.put s.given)
+        (AreSettled w.judge.connections (w.put ++ request x ∷ []) t.given) w.put (grind (arith, all_join, too_low, same_request))
         f.settled)
         (λ m source e. absurd (cc e), tt);
     lost = f.lost;
@@ -322,7 +322,7 @@ class_all r (tsdu ∷ tsdus) s = class_all r tsdus (sent r tsdu s) ∙ class_sen
 broken : {A : Type 0} (reason : EndReason) (s : State) → s.ended ≡ None → (ended_by reason s).ended ≡ None → A
 broken reason s was h = grind arith
 
-module _ (local : Local) (w : Whole) (f : Followed local w) (sane : IsSane w.tap) (peers : AreNamedApart Right w.tap.connections)
+module _ (local : Local) (w : Whole) (f : Followed local w) (sane : IsSane w.judge) (peers : AreNamedApart Right w.judge.connections)
     (newer : Newer w) (offers : OffersTwo w.end) (orderly : IsOrderly w.end) (local_is : w.end.local ≡ local)
     (was : w.end.ended ≡ None) where
   sends_by : (r : ℕ) (tsdu : List ℕ) (o : Option (ℕ × Standing)) → open_link r w.end ≡ o → length tsdu ≤ longest_tsdu →

@@ -27,13 +27,13 @@ none_first : (xs ys : List Value) → xs ++ ys ≡ [] → xs ≡ []
 none_first [] ys e = refl
 none_first (x ∷ xs) ys e = absurd (cc e)
 
-module _ (local : Local) (w : Whole) (f : Followed local w) (sane : IsSane w.tap) (peers : AreNamedApart Right w.tap.connections)
+module _ (local : Local) (w : Whole) (f : Followed local w) (sane : IsSane w.judge) (peers : AreNamedApart Right w.judge.connections)
     (offers : OffersTwo w.end) (orderly : IsOrderly w.end) (local_is : w.end.local ≡ local) (was : w.end.ended ≡ None) (u : Value)
     (later : List Value) (come : w.coming ≡ u ∷ later) (lasts : (react u w.end).ended ≡ None)
-    (live_dr : IsDr u → (m : ℕ) → closed_by u ≡ Some m → IsLive w.end m ⊎ (w.tap.course.disconnects.strays ≡ true)) (k : Named u w.end)
+    (live_dr : IsDr u → (m : ℕ) → closed_by u ≡ Some m → IsLive w.end m ⊎ (w.judge.course.disconnects.strays ≡ true)) (k : Named u w.end)
     (selects : SelectsTwo w.end u) where
   abbrev cs : List Connection
-  cs = w.tap.connections
+  cs = w.judge.connections
 
   abbrev s : State
   s = w.end
@@ -48,7 +48,7 @@ module _ (local : Local) (w : Whole) (f : Followed local w) (sane : IsSane w.tap
   n = k.n
 
   abbrev strays : Bool
-  strays = w.tap.course.disconnects.strays
+  strays = w.judge.course.disconnects.strays
 
   abbrev after : Whole
   after = record w { end = t; put = w.put ++ units; coming = later }
@@ -73,7 +73,7 @@ module _ (local : Local) (w : Whole) (f : Followed local w) (sane : IsSane w.tap
   abbrev AskedBefore : Type 0
   AskedBefore = value_at n t.live ≡ Some asked → value_at n s.live ≡ Some asked
 
-  all : AskedBefore → Mine → MineLinked → Puts w.tap s n units → Followed local after
+  all : AskedBefore → Mine → MineLinked → Puts w.judge s n units → Followed local after
   all asked_was mine linked_mine owner = search (arith, taken_so, rows, unit_after u s offers selects, unit_gives, asked_dc)
 
   not_asked : (o : Option Live) → value_at n t.live ≡ o → (o ≡ Some asked → ⊥) → AskedBefore
@@ -99,7 +99,7 @@ module _ (local : Local) (w : Whole) (f : Followed local w) (sane : IsSane w.tap
         left = g.left;
         right = g.right;
         tracks = tracks_on g.r g.peer g.line line (ignores (u ∷ []) ∷ []) g.tracks (line, (gone, coming, refl), refl);
-        tap = g.tap;
+        judge = g.judge;
         spare = g.spare ++ more;
         put_is = puts ∙ ap (λ (l : List Value). l ++ more) g.put_is ∙ append_assoc g.line.put g.spare more;
         spares = all_join (IsSpare strays g.r g.peer) g.spare more g.spares spares;
@@ -226,7 +226,7 @@ module _ (local : Local) (w : Whole) (f : Followed local w) (sane : IsSane w.tap
 
   head_answer : value_at n s.live ≡ Some asked → (x : Connect) → u ≡ confirm n x → Tracked cs n
   head_answer here x e =
-      ((subst (AllByRecursion (λ (v : Value). IsAnswer w.tap.course.loose cs s v)) come f.answers).0 n x e was (inl here)).0
+      ((subst (AllByRecursion (λ (v : Value). IsAnswer w.judge.course.loose cs s v)) come f.answers).0 n x e was (inl here)).0
 
   by_asked : value_at n s.live ≡ Some asked → units ≡ [] → Asks n u s t → Followed local after
   by_asked here none (opened x e there two) =
@@ -288,7 +288,7 @@ module _ (local : Local) (w : Whole) (f : Followed local w) (sane : IsSane w.tap
           left = g.left;
           right = g.right;
           tracks = tracks;
-          tap = g.tap;
+          judge = g.judge;
           spare = [];
           put_is = picked_join (is_ours g.r g.peer) w.put units
               ∙ ap (λ (v : List Value). v ++ ours g.r g.peer units) (g.put_is ∙ ap (λ (v : List Value). g.line.put ++ v) none
@@ -330,9 +330,9 @@ module _ (local : Local) (w : Whole) (f : Followed local w) (sane : IsSane w.tap
   by_row : (o : Option Live) → value_at n s.live ≡ o → Followed local after
   by_row o here = grind (arith, at_gone, at_asked, at_linked, at_closing)
 
-pub end_takes : (local : Local) (w : Whole) → Followed local w → IsSane w.tap → AreNamedApart Right w.tap.connections → OffersTwo w.end →
+pub end_takes : (local : Local) (w : Whole) → Followed local w → IsSane w.judge → AreNamedApart Right w.judge.connections → OffersTwo w.end →
     IsOrderly w.end → w.end.local ≡ local → w.end.ended ≡ None → (u : Value) (later : List Value) → w.coming ≡ u ∷ later →
-    (react u w.end).ended ≡ None → (IsDr u → (m : ℕ) → closed_by u ≡ Some m → IsLive w.end m ⊎ (w.tap.course.disconnects.strays ≡ true)) →
+    (react u w.end).ended ≡ None → (IsDr u → (m : ℕ) → closed_by u ≡ Some m → IsLive w.end m ⊎ (w.judge.course.disconnects.strays ≡ true)) →
     SelectsTwo w.end u →
     Followed local (record w { end = react u w.end; put = w.put ++ put_for u w.end; coming = later })
 end_takes local w f sane peers offers orderly local_is was u later come lasts live_dr selects =
@@ -350,7 +350,7 @@ module _ (local : Local) (w : Whole) (u : Value) (later : List Value) (come : w.
 pub next_selects : (local : Local) (w : Whole) → Followed local w → (u : Value) (later : List Value) → w.coming ≡ u ∷ later →
     SelectsTwo w.end u
 next_selects local w f u later come lasts m x e row =
-    let answers = subst (AllByRecursion (λ (v : Value). IsAnswer w.tap.course.loose w.tap.connections w.end v)) come f.answers in
+    let answers = subst (AllByRecursion (λ (v : Value). IsAnswer w.judge.course.loose w.judge.connections w.end v)) come f.answers in
     let (p, c, at, tracked, left) = (answers.0 m x e lasts (inl row)).0 in
     let g = f.lines p c at tracked in
     two_by local w u later come lasts m x e row g.r g.peer g.line (sym g.left ∙ left) g.row

@@ -1,5 +1,5 @@
--- An open end of class 2 is fair, over every list of what happens to it and to the tap: at left, and then at right, which is left
--- with the sides of the tap exchanged.
+-- An open end of class 2 is fair, over every list of what happens to it and to the judge: at left, and then at right, which is left
+-- with the sides of the judge exchanged.
 -- For the law of that name.
 use Rattle.osi_fair.proofs.Vocabulary.{Disconnects, false}
 use Rattle.osi_fair.proofs.Vocabulary.{[], ap, arith, Bool, inl, inr, List, subst, sym, true, ℕ, ◌-◌, ◌∙◌, ◌∷◌, ◌≡◌, ◌⊎◌, Value, fresh_two}
@@ -27,21 +27,21 @@ was_judged d f v c h = grind (arith, sent_judged)
 -- ---- at left
 
 abbrev pub Keeps : (r peer : ℕ) → Line → Type 0
-Keeps r peer line = line.tap.is_judged ≡ true → Holds r peer line
+Keeps r peer line = line.judge.is_judged ≡ true → Holds r peer line
 
 act_keeps : (r peer : ℕ) (act : Act) (old new : Line) → Acts Left r peer act old new → Keeps r peer old → Keeps r peer new
 act_keeps r peer (moves move) old new (link, after, is, e, short, coming, new_is) h judged =
     moves_hold r peer move old new (link, after, is, e, short, coming, new_is)
-    (h (sym (ap (λ (l : Line). l.tap.is_judged) new_is) ∙ judged))
+    (h (sym (ap (λ (l : Line). l.judge.is_judged) new_is) ∙ judged))
 act_keeps r peer (closes reason units) old new (link, is, coming, new_is) h judged =
-    closes_hold r peer reason units old new (link, is, coming, new_is) (h (sym (ap (λ (l : Line). l.tap.is_judged) new_is) ∙ judged))
+    closes_hold r peer reason units old new (link, is, coming, new_is) (h (sym (ap (λ (l : Line). l.judge.is_judged) new_is) ∙ judged))
 act_keeps r peer (ignores units) old new (none, coming, new_is) h judged = grind arith
 act_keeps r peer (answers unit) old new (link, is, dr, coming, new_is) h judged =
-    answers_hold r peer unit old new (link, is, dr, coming, new_is) (h (sym (ap (λ (l : Line). l.tap.is_judged) new_is) ∙ judged))
+    answers_hold r peer unit old new (link, is, dr, coming, new_is) (h (sym (ap (λ (l : Line). l.judge.is_judged) new_is) ∙ judged))
 act_keeps r peer begins_own old new (some, idle, new_is) h judged = grind (arith, first_right)
 act_keeps r peer (passes_own course in_use) old new (unit, first, begun, new_is) h judged =
-    let still = sym (ap (λ (l : Line). l.tap.is_judged) new_is) ∙ judged in
-    let was = was_judged Left (finding_of Left course in_use old.tap unit) unit old.tap still in
+    let still = sym (ap (λ (l : Line). l.judge.is_judged) new_is) ∙ judged in
+    let was = was_judged Left (finding_of Left course in_use old.judge unit) unit old.judge still in
     passes_own_holds r peer course in_use old new (unit, first, begun, new_is) was (h was)
 act_keeps r peer begins_elsewhere old new (idle, new_is) h judged = grind arith
 act_keeps r peer begins_other old new new_is h judged = grind (arith, begins_other_holds)
@@ -59,16 +59,16 @@ opened_holds r peer line o =
     let two = fresh_two o.size o.window o.credit in
     let begun_link = two_standing two.ends two.flow in
     let x : Tally = record { sent = 0; passed = 0; acked = 0; shown = 0; came = 0; heard = 0; edge = o.credit; window = o.window } in
-    let live : is_open line.tap.left.phase ≡ true = ap (λ (h : Half). is_open h.phase) o.sent in
-    let open_there : is_open line.tap.right.phase ≡ true = ap (λ (h : Half). is_open h.phase) o.came in
-    let credit : line.tap.right.credit ≡ o.credit = ap (λ (h : Half). h.credit) o.came in
+    let live : is_open line.judge.left.phase ≡ true = ap (λ (h : Half). is_open h.phase) o.sent in
+    let open_there : is_open line.judge.right.phase ≡ true = ap (λ (h : Half). is_open h.phase) o.came in
+    let credit : line.judge.right.credit ≡ o.credit = ap (λ (h : Half). h.credit) o.came in
     let some = o.some in
     record {
       limit = o.size - 5;
       tally = x;
       noted = 0;
       ordered = omega arith;
-      taps = grind (arith, is_there);
+      judges = grind (arith, is_there);
       puts = grind arith;
       takes = grind arith;
       under_way = λ b. absurd (cc (b, o.begun));
@@ -85,7 +85,7 @@ abbrev pub turned : Connection → Connection
 turned c = record c { left = c.right; right = c.left; seen_by_left = c.seen_by_right; seen_by_right = c.seen_by_left }
 
 abbrev pub turned_line : Line → Line
-turned_line line = record line { tap = turned line.tap }
+turned_line line = record line { judge = turned line.judge }
 
 finding_turned : (d : Direction) (f : Finding) (v : Value) (c : Connection) →
     turned (after_finding d f v c) ≡ after_finding (other d) f v (turned c)
@@ -121,26 +121,26 @@ found_other : (course : Course) (in_use : Bool) (c : Connection) (v : Value) →
 found_other course in_use c v = grind arith
 
 own_turned : (r peer : ℕ) (course : Course) (in_use : Bool) (old new : Line) → Acts Right r peer (passes_own course in_use) old new →
-    old.tap.is_judged ≡ true → Holds r peer (turned_line old) →
+    old.judge.is_judged ≡ true → Holds r peer (turned_line old) →
     Acts Left r peer (passes_own course in_use) (turned_line old) (turned_line new)
 own_turned r peer course in_use old new (unit, first, begun, new_is) was h =
-    let right = line_first (turned old.tap) old.put new.put unit first (h.under_way begun) in
-    let turned_kept = is_kept course in_use (turned old.tap) unit was right in
-    let kept : finding_of Right course in_use old.tap unit ≡ Kept =
-    judged_same old.tap.is_judged (found Right course in_use old.tap unit) was
-    ∙ kept_turned course in_use old.tap unit (right.kept course in_use) in
-    let tap_is = finding_turned Right (finding_of Right course in_use old.tap unit) unit old.tap
-    ∙ ap (λ (f : Finding). after_finding Left f unit (turned old.tap)) (kept ∙ sym turned_kept) in (
+    let right = line_first (turned old.judge) old.put new.put unit first (h.under_way begun) in
+    let turned_kept = is_kept course in_use (turned old.judge) unit was right in
+    let kept : finding_of Right course in_use old.judge unit ≡ Kept =
+    judged_same old.judge.is_judged (found Right course in_use old.judge unit) was
+    ∙ kept_turned course in_use old.judge unit (right.kept course in_use) in
+    let judge_is = finding_turned Right (finding_of Right course in_use old.judge unit) unit old.judge
+    ∙ ap (λ (f : Finding). after_finding Left f unit (turned old.judge)) (kept ∙ sym turned_kept) in (
       unit,
       first,
       begun,
-      ap turned_line new_is ∙ ap (λ (c : Connection). record (turned_line old) { put = new.put; begun = false; tap = c }) tap_is,
+      ap turned_line new_is ∙ ap (λ (c : Connection). record (turned_line old) { put = new.put; begun = false; judge = c }) judge_is,
     )
 
 other_keeps : (r peer : ℕ) (course : Course) (in_use : Bool) (unit : Value) (old new : Line) →
     Acts Right r peer (passes_other course in_use unit) old new → Keeps r peer (turned_line old) →
-    (found Left course in_use old.tap unit ≡ found Right (turned_course course) in_use (turned old.tap) unit)
-    ⊎ (found Left course in_use old.tap unit ≡ Broke rule.WrongForm) → Keeps r peer (turned_line new)
+    (found Left course in_use old.judge unit ≡ found Right (turned_course course) in_use (turned old.judge) unit)
+    ⊎ (found Left course in_use old.judge unit ≡ Broke rule.WrongForm) → Keeps r peer (turned_line new)
 other_keeps r peer course in_use unit old new a h (inl e) judged =
     act_keeps r peer (passes_other (turned_course course) in_use unit) (turned_line old) (turned_line new)
     (grind (arith, finding_turned)) h judged
@@ -158,8 +158,8 @@ act_turned r peer (answers unit) old new (link, is, dr, coming, new_is) h judged
 act_turned r peer begins_own old new (some, idle, new_is) h judged =
     act_keeps r peer begins_own (turned_line old) (turned_line new) (some, idle, ap turned_line new_is) h judged
 act_turned r peer (passes_own course in_use) old new (unit, first, begun, new_is) h judged =
-    let still = sym (ap (λ (l : Line). l.tap.is_judged) new_is) ∙ judged in
-    let was = was_judged Right (finding_of Right course in_use old.tap unit) unit old.tap still in
+    let still = sym (ap (λ (l : Line). l.judge.is_judged) new_is) ∙ judged in
+    let was = was_judged Right (finding_of Right course in_use old.judge unit) unit old.judge still in
     act_keeps r peer (passes_own course in_use) (turned_line old) (turned_line new)
     (own_turned r peer course in_use old new (unit, first, begun, new_is) was (h was)) h judged
 act_turned r peer begins_elsewhere old new (idle, new_is) h judged = grind (arith, act_keeps)
@@ -176,7 +176,7 @@ right_is_fair : (r peer : ℕ) (begin line : Line) (acts : List Act) → IsOpene
     IsFair Right line
 right_is_fair r peer begin line acts o along begun judged =
     let h = all_turned r peer acts begin line along (λ _. opened_holds r peer (turned_line begin) (grind arith)) judged in
-    right_turned line.tap line.put (h.under_way begun)
+    right_turned line.judge line.put (h.under_way begun)
 
 pub open_is_fair : (d : Direction) (r peer : ℕ) (begin line : Line) (acts : List Act) → IsOpened d r peer begin →
     ActsAlong d r peer begin acts line → IsFair d line

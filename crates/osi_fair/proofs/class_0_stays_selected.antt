@@ -1,4 +1,4 @@
--- Class 0 stays selected at the tap, whatever passes.
+-- Class 0 stays selected at the judge, whatever passes.
 -- For the law on a whole end.
 use Rattle.osi_fair.proofs.Vocabulary.{Some, ◌≡◌, Zero, Traffic as State, passes, Passing, arith}
 use Rattle.osi_rules.specs.declared.findings.Rule.TheVariants as rule

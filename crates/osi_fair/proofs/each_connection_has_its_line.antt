@@ -1,4 +1,4 @@
--- Each connection of a calling end that is open at the tap has its line: what that says, and that it stays so as packets begin.
+-- Each connection of a calling end that is open at the judge has its line: what that says, and that it stays so as packets begin.
 -- For the law on a whole end.
 use Rattle.osi_fair.proofs.Vocabulary.{arith, [], ap, Bool, false, is_some, List, map, None, Option, option_map, refl, Some, subst, sym}
 use Rattle.osi_fair.proofs.Vocabulary.{true, ℕ, ◌++◌, ◌∙◌, ◌∷◌, ◌≡◌, ◌≢◌, ◌≤◌, ◌⊎◌, slice_get-map, AllByRecursion, slice_get, ◌&&◌, ◌==◌}
@@ -28,14 +28,14 @@ pub tracks_on : (r peer : ℕ) (line after : Line) (more : List Act) → Tracks 
     Tracks r peer after
 tracks_on r peer line after more t h = grind (arith, acts_join Left r peer t.acts more t.first line after t.along h)
 
-pub tracks_hold : (r peer : ℕ) (line : Line) → Tracks r peer line → line.tap.is_judged ≡ true → Holds r peer line
+pub tracks_hold : (r peer : ℕ) (line : Line) → Tracks r peer line → line.judge.is_judged ≡ true → Holds r peer line
 tracks_hold r peer line t judged = left_holds r peer t.first line t.acts t.opened t.along judged
 
 -- be its connection judged or not
 pub tracks_keep : (r peer : ℕ) (line : Line) → Tracks r peer line → Keeps Left r peer line
 tracks_keep r peer line t = line_keeps Left r peer t.first line t.acts t.opened t.along
 
--- ---- the connections at the tap
+-- ---- the connections at the judge
 
 -- left has not closed it, and right has answered the CR by a CC
 abbrev pub is_tracked : Connection → Bool
@@ -86,7 +86,7 @@ pub record Following (local : Local) (put : List Value) (begun strays : Bool) (e
   pub left : c.left.reference ≡ r
   pub right : c.right.reference ≡ peer
   pub tracks : Tracks r peer line
-  pub tap : line.tap ≡ c
+  pub judge : line.judge ≡ c
   pub spare : List Value
   pub put_is : ours r peer put ≡ line.put ++ spare
   pub spares : AllByRecursion (IsSpare strays r peer) spare
@@ -109,7 +109,7 @@ followed_at g same spares begun row = record {
   left = g.left;
   right = g.right;
   tracks = g.tracks;
-  tap = g.tap;
+  judge = g.judge;
   spare = g.spare;
   put_is = same ∙ g.put_is;
   spares = spares;
@@ -161,38 +161,38 @@ abbrev pub AreSettled : List Connection → (all : List Value) → (given : ℕ)
 AreSettled cs all given v = (m source : ℕ) → v ≡ disconnected m source → IsSettled cs all given source
 
 pub record Followed (local : Local) (w : Whole) : Type 0 where
-  pub lines : HoldsOfEach (λ (c : Connection). is_tracked c ≡ true → Following local w.put w.begun w.tap.course.disconnects.strays w.end
+  pub lines : HoldsOfEach (λ (c : Connection). is_tracked c ≡ true → Following local w.put w.begun w.judge.course.disconnects.strays w.end
       w.coming c)
-      w.tap.connections
-  pub waiting : HoldsOfEach (λ (c : Connection). is_waiting c ≡ true → Waiting local w.end w.coming c) w.tap.connections
-  pub owned : AllByRecursion (λ (v : Value). IsOwned w.tap v) w.put
+      w.judge.connections
+  pub waiting : HoldsOfEach (λ (c : Connection). is_waiting c ≡ true → Waiting local w.end w.coming c) w.judge.connections
+  pub owned : AllByRecursion (λ (v : Value). IsOwned w.judge v) w.put
   pub linked : w.end.ended ≡ None → (r peer : ℕ) (link : Standing) → value_at r w.end.live ≡ Some (linked peer link) →
-      Tracked w.tap.connections r × (w.end.class ≡ Some Two)
-  pub answers : AllByRecursion (λ (v : Value). IsAnswer w.tap.course.loose w.tap.connections w.end v) w.coming
+      Tracked w.judge.connections r × (w.end.class ≡ Some Two)
+  pub answers : AllByRecursion (λ (v : Value). IsAnswer w.judge.course.loose w.judge.connections w.end v) w.coming
   pub requests : AllByRecursion (λ (v : Value). (x : Connect) → v ≡ request x → IsAsking local w.end w.coming x) w.put
-  pub two : (r : ℕ) → Tracked w.tap.connections r → w.tap.course.class ≡ Some Two
+  pub two : (r : ℕ) → Tracked w.judge.connections r → w.judge.course.class ≡ Some Two
   -- left closes nothing before right has answered; class 0 is not selected
-  pub silent : HoldsOfEach (λ (c : Connection). is_silent c.right.phase ≡ true → is_open c.left.phase ≡ true) w.tap.connections
-  pub zero : (w.tap.course.class ≡ None) ⊎ (w.tap.course.class ≡ Some Two)
+  pub silent : HoldsOfEach (λ (c : Connection). is_silent c.right.phase ≡ true → is_open c.left.phase ≡ true) w.judge.connections
+  pub zero : (w.judge.course.class ≡ None) ⊎ (w.judge.course.class ≡ Some Two)
   pub some : w.begun ≡ true → w.put ≢ []
   -- what has come is for references that were given
   pub few : AllByRecursion (AreGiven w.end.given) w.coming
   -- left knows the class if it knows of a CC
   pub seen : HoldsOfEach (λ (c : Connection). is_tracked c ≡ true → is_silent c.seen_by_left.phase ≡ false →
-      w.tap.course.class_seen ≡ Some Two) w.tap.connections
+      w.judge.course.class_seen ≡ Some Two) w.judge.connections
   -- no CR waits for the connection of a DC that is to pass
-  pub settled : AllByRecursion (AreSettled w.tap.connections w.put w.end.given) w.put
+  pub settled : AllByRecursion (AreSettled w.judge.connections w.put w.end.given) w.put
   -- a connection that has lost its judgement was answered and not refused, and right has not answered a DR there
   pub lost : HoldsOfEach (λ (c : Connection). c.is_judged ≡ false → (is_open c.right.phase || is_closing c.right.phase) ≡ true)
-      w.tap.connections
+      w.judge.connections
   -- the end awaits no CC for a connection that left has closed
   pub shut : w.end.ended ≡ None → HoldsOfEach (λ (c : Connection). is_open c.left.phase ≡ false →
-      value_at c.left.reference w.end.live ≡ Some asked → ⊥) w.tap.connections
+      value_at c.left.reference w.end.live ≡ Some asked → ⊥) w.judge.connections
 
 -- ---- a packet begins
 
 begun_row : (local : Local) (end : State) (coming : List Value) (r peer : ℕ) (line : Line) (b : Bool) (c : Connection) →
-    Row local end coming r peer line → Row local end coming r peer (record line { begun = b; tap = c })
+    Row local end coming r peer line → Row local end coming r peer (record line { begun = b; judge = c })
 begun_row local end coming r peer line b c (asks there x source two early dcs first link) = asks there x source two early dcs first link
 begun_row local end coming r peer line b c (talks link there is same) = talks link there is same
 begun_row local end coming r peer line b c (closes o there q e is same) = closes o there q e is same
@@ -216,7 +216,7 @@ module _ (local : Local) (put : List Value) (strays : Bool) (end : State) (comin
   elsewhere : f.line.begun ≡ false → (IsFirst f.line.put f.spare → leads (is_ours f.r f.peer) put ≡ false) →
       Following local put true strays end coming (begins Left c)
   elsewhere idle none =
-      let after = record f.line { tap = begins Left f.line.tap } in
+      let after = record f.line { judge = begins Left f.line.judge } in
       record {
         r = f.r;
         peer = f.peer;
@@ -224,20 +224,20 @@ module _ (local : Local) (put : List Value) (strays : Bool) (end : State) (comin
         left = f.left;
         right = f.right;
         tracks = tracks_on f.r f.peer f.line after (begins_elsewhere ∷ []) f.tracks (after, (idle, refl), refl);
-        tap = ap (begins Left) f.tap;
+        judge = ap (begins Left) f.judge;
         spare = f.spare;
         put_is = f.put_is;
         spares = f.spares;
         gone = f.gone;
         begun_is = λ first. idle ∙ sym (none first);
-        row = begun_row local end coming f.r f.peer f.line f.line.begun (begins Left f.line.tap) f.row;
+        row = begun_row local end coming f.r f.peer f.line f.line.begun (begins Left f.line.judge) f.row;
         calm = λ j. f.calm (sym (begins_judged Left c) ∙ j);
       }
 
   begins_line : (v : Value) (vs : List Value) → f.line.put ≡ v ∷ vs → leads (is_ours f.r f.peer) put ≡ true →
       Following local put true strays end coming (begins Left c)
   begins_line v vs some e =
-      let after = record f.line { begun = true; tap = begins Left f.line.tap } in
+      let after = record f.line { begun = true; judge = begins Left f.line.judge } in
       record {
         r = f.r;
         peer = f.peer;
@@ -246,13 +246,13 @@ module _ (local : Local) (put : List Value) (strays : Bool) (end : State) (comin
         right = f.right;
         tracks = tracks_on f.r f.peer f.line after (begins_own ∷ []) f.tracks
             (after, (λ h. no_list v vs (sym some ∙ h), f.begun_is (put_some v vs f.spare f.line.put some), refl), refl);
-        tap = ap (begins Left) f.tap;
+        judge = ap (begins Left) f.judge;
         spare = f.spare;
         put_is = f.put_is;
         spares = f.spares;
         gone = f.gone;
         begun_is = λ first. sym e;
-        row = begun_row local end coming f.r f.peer f.line true (begins Left f.line.tap) f.row;
+        row = begun_row local end coming f.r f.peer f.line true (begins Left f.line.judge) f.row;
         calm = λ j. f.calm (sym (begins_judged Left c) ∙ j);
       }
 
@@ -268,7 +268,7 @@ module _ (local : Local) (put : List Value) (strays : Bool) (end : State) (comin
 right_begins : (local : Local) (put : List Value) (b strays : Bool) (end : State) (coming : List Value) (c : Connection) →
     Following local put b strays end coming c → Following local put b strays end coming (begins Right c)
 right_begins local put b strays end coming c f =
-    let after = record f.line { tap = begins Right f.line.tap } in
+    let after = record f.line { judge = begins Right f.line.judge } in
     record {
       r = f.r;
       peer = f.peer;
@@ -276,13 +276,13 @@ right_begins local put b strays end coming c f =
       left = f.left;
       right = f.right;
       tracks = tracks_on f.r f.peer f.line after (begins_other ∷ []) f.tracks (after, refl, refl);
-      tap = ap (begins Right) f.tap;
+      judge = ap (begins Right) f.judge;
       spare = f.spare;
       put_is = f.put_is;
       spares = f.spares;
       gone = f.gone;
       begun_is = f.begun_is;
-      row = begun_row local end coming f.r f.peer f.line f.line.begun (begins Right f.line.tap) f.row;
+      row = begun_row local end coming f.r f.peer f.line f.line.begun (begins Right f.line.judge) f.row;
       calm = λ j. f.calm (sym (begins_judged Right c) ∙ j);
     }
 
@@ -326,39 +326,39 @@ settled_at d cs all given v h m source e =
 
 -- left knows the class that is selected
 seen_at : (local : Local) (d : Direction) (w : Whole) → Followed local w → (i : ℕ) (x : Connection) →
-    slice_get w.tap.connections i ≡ Some x → is_tracked x ≡ true → is_silent (begins d x).seen_by_left.phase ≡ false →
-    (packet_begins d w.tap).course.class_seen ≡ Some Two
+    slice_get w.judge.connections i ≡ Some x → is_tracked x ≡ true → is_silent (begins d x).seen_by_left.phase ≡ false →
+    (packet_begins d w.judge).course.class_seen ≡ Some Two
 seen_at local Left w f i x was tracked known = f.two x.left.reference (i, x, was, tracked, refl)
 seen_at local Right w f i x was tracked known = f.seen i x was tracked known
 
 pub followed_begins : (local : Local) (d : Direction) (w : Whole) (b : Bool) → (b ≡ true → w.put ≢ []) → Followed local w →
-    ((i : ℕ) (c : Connection) → slice_get w.tap.connections i ≡ Some c → is_tracked c ≡ true →
-    Following local w.put w.begun w.tap.course.disconnects.strays w.end w.coming c →
-    Following local w.put b w.tap.course.disconnects.strays w.end w.coming (begins d c)) →
-    Followed local (record w { begun = b; tap = packet_begins d w.tap })
+    ((i : ℕ) (c : Connection) → slice_get w.judge.connections i ≡ Some c → is_tracked c ≡ true →
+    Following local w.put w.begun w.judge.course.disconnects.strays w.end w.coming c →
+    Following local w.put b w.judge.course.disconnects.strays w.end w.coming (begins d c)) →
+    Followed local (record w { begun = b; judge = packet_begins d w.judge })
 followed_begins local d w b some f k = record {
   lines = λ i c at tracked.
-      let (x, was, is) = after_map (begins d) w.tap.connections i c at in
+      let (x, was, is) = after_map (begins d) w.judge.connections i c at in
       let before = sym (tracked_begins d x) ∙ ap is_tracked (sym is) ∙ tracked in
       subst (λ (s : Bool). Following local w.put b s w.end w.coming c) (sym (grind arith))
-      (subst (λ (e : Connection). Following local w.put b w.tap.course.disconnects.strays w.end w.coming e) (sym is)
+      (subst (λ (e : Connection). Following local w.put b w.judge.course.disconnects.strays w.end w.coming e) (sym is)
       (k i x was before (f.lines i x was before)));
   waiting = grind (arith, after_map, waits_begun, waiting_begins);
-  owned = all_so (λ v. IsOwned w.tap v) (λ v. IsOwned (packet_begins d w.tap) v) w.put (λ v. owned_at d w.tap v) f.owned;
-  linked = λ lasts r peer link e. let (t, two) = f.linked lasts r peer link e in (tracked_at d w.tap.connections r t, two);
-  answers = all_so (λ v. IsAnswer w.tap.course.loose w.tap.connections w.end v)
-      (λ v. IsAnswer (packet_begins d w.tap).course.loose (map (begins d) w.tap.connections) w.end v) w.coming
+  owned = all_so (λ v. IsOwned w.judge v) (λ v. IsOwned (packet_begins d w.judge) v) w.put (λ v. owned_at d w.judge v) f.owned;
+  linked = λ lasts r peer link e. let (t, two) = f.linked lasts r peer link e in (tracked_at d w.judge.connections r t, two);
+  answers = all_so (λ v. IsAnswer w.judge.course.loose w.judge.connections w.end v)
+      (λ v. IsAnswer (packet_begins d w.judge).course.loose (map (begins d) w.judge.connections) w.end v) w.coming
       (λ v h n x e lasts why.
-      let (t, row) = h n x e lasts (why_before w.tap.course.loose (packet_begins d w.tap).course.loose (grind arith) why) in
-      (tracked_at d w.tap.connections n t, row)) f.answers;
+      let (t, row) = h n x e lasts (why_before w.judge.course.loose (packet_begins d w.judge).course.loose (grind arith) why) in
+      (tracked_at d w.judge.connections n t, row)) f.answers;
   requests = f.requests;
-  two = λ r t. course_class d w.tap ∙ f.two r (tracked_was d w.tap.connections r t);
+  two = λ r t. course_class d w.judge ∙ f.two r (tracked_was d w.judge.connections r t);
   silent = grind (arith, after_map, begun_right, begun_left);
-  zero = subst (λ (k : Option Class). (k ≡ None) ⊎ (k ≡ Some Two)) (sym (course_class d w.tap)) f.zero;
+  zero = subst (λ (k : Option Class). (k ≡ None) ⊎ (k ≡ Some Two)) (sym (course_class d w.judge)) f.zero;
   some = some;
   few = f.few;
   seen = λ i c at tracked known.
-      let (x, was, is) = after_map (begins d) w.tap.connections i c at in
+      let (x, was, is) = after_map (begins d) w.judge.connections i c at in
       seen_at local d w f i x was (sym (tracked_begins d x) ∙ ap is_tracked (sym is) ∙ tracked)
       (ap (λ (e : Connection). is_silent e.seen_by_left.phase) (sym is) ∙ known);
   settled = search (arith, all_so, settled_at);
@@ -366,7 +366,7 @@ followed_begins local d w b some f k = record {
   shut = grind (arith, after_map, begun_left);
 }
 
--- what the line of a connection that is open at the tap has put comes before the spare DCs
+-- what the line of a connection that is open at the judge has put comes before the spare DCs
 none_by : (spare : List Value) (put : List Value) → (spare ≢ [] → put ≡ [] → ⊥) → put ≡ [] → spare ≡ []
 none_by [] put h e = refl
 none_by (v ∷ vs) put h e = absurd (h (λ k. cc k) e)
@@ -374,18 +374,18 @@ none_by (v ∷ vs) put h e = absurd (h (λ k. cc k) e)
 pub no_spare : (local : Local) (put coming : List Value) (b strays : Bool) (end : State) (c : Connection) → c.is_judged ≡ true →
     is_tracked c ≡ true → (g : Following local put b strays end coming c) → g.line.put ≡ [] → g.spare ≡ []
 no_spare local put coming b strays end c judged tracked g e =
-    let line_judged = ap (λ (x : Connection). x.is_judged) g.tap ∙ judged in
-    let live = ap (λ (x : Connection). is_open x.left.phase) g.tap
+    let line_judged = ap (λ (x : Connection). x.is_judged) g.judge ∙ judged in
+    let live = ap (λ (x : Connection). is_open x.left.phase) g.judge
     ∙ and_first (is_open c.left.phase) (is_open c.right.phase || is_closing c.right.phase) tracked in
     none_by g.spare g.line.put
     (λ some none. close_waits g.r g.peer g.line (tracks_hold g.r g.peer g.line g.tracks line_judged) (g.gone some) live none) e
 
 pub own_begins : (local : Local) (w : Whole) → w.begun ≡ false → w.put ≢ [] → Followed local w →
-    Followed local (record w { begun = true; tap = packet_begins Left w.tap })
+    Followed local (record w { begun = true; judge = packet_begins Left w.judge })
 own_begins local w e some f =
     followed_begins local Left w true (λ h. some) f (λ i c at tracked g.
-    let s = w.tap.course.disconnects.strays in
+    let s = w.judge.course.disconnects.strays in
     left_begins local w.put s w.end w.coming c (subst (λ (b : Bool). Following local w.put b s w.end w.coming c) e g))
 
-pub other_begins : (local : Local) (w : Whole) → Followed local w → Followed local (record w { tap = packet_begins Right w.tap })
+pub other_begins : (local : Local) (w : Whole) → Followed local w → Followed local (record w { judge = packet_begins Right w.judge })
 other_begins local w f = search (arith, followed_begins, right_begins)

@@ -1,4 +1,4 @@
--- Each connection at the tap of a called end: its CR has not been answered, its answer is to pass, or its line goes on.
+-- Each connection at the judge of a called end: its CR has not been answered, its answer is to pass, or its line goes on.
 -- For the law on a whole called end.
 use Rattle.osi_fair.proofs.Vocabulary.{arith, [], ap, Bool, false, inl, inr, is_some, List, None, Option, option_map, refl, Some, subst}
 use Rattle.osi_fair.proofs.Vocabulary.{sym, true, ℕ, ◌++◌, ◌<◌, ◌∙◌, ◌∷◌, ◌≡◌, ◌≢◌, ◌≤◌, ◌⊎◌, slice_get-map, AllByRecursion, slice_get}
@@ -37,7 +37,7 @@ among_skip xs (y ∷ ys) v dc (inr (zs, e, a)) = inr (zs, e, among_skip zs ys v 
 
 -- ---- one connection
 
--- the CR, as the tap knows it until it is answered
+-- the CR, as the judge knows it until it is answered
 pub record Asked (x : Connect) (c : Connection) : Type 0 where
   pub range : IsConnect x
   pub offer : c.offer ≡ offer_of x
@@ -57,9 +57,9 @@ pub data Row (end : State) (coming : List Value) (r peer : ℕ) (link : Option S
   closes : IsUnlinked end r → link ≡ None → Among come (those r coming) → Row end coming r peer link come
   over : is_some end.ended ≡ true → Row end coming r peer link come
 
--- a line that begins as the CC passes, whatever the tap knows then
+-- a line that begins as the CC passes, whatever the judge knows then
 abbrev pub line_of : Option Standing → List Value → List Value → Connection → Line
-line_of link put come tap = record { link = link; put = put; begun = false; tap = tap; coming = come }
+line_of link put come judge = record { link = link; put = put; begun = false; judge = judge; coming = come }
 
 -- the CC is to pass
 pub record Answering (local : Local) (shut : ℕ → Bool) (end : State) (coming mine : List Value) (begun : Bool) (o : Option ℕ)
@@ -75,8 +75,8 @@ pub record Answering (local : Local) (shut : ℕ → Bool) (end : State) (coming
   pub come : List Value
   pub mine_is : mine ≡ confirm x.source (acceptance Two size x local r) ∷ more
   pub acts : List Act
-  pub along : (tap : Connection) →
-      ActsAlong Right r x.source (opened_line (opened_link Two size local x.credit) tap) acts (line_of link more come tap)
+  pub along : (judge : Connection) →
+      ActsAlong Right r x.source (opened_line (opened_link Two size local x.credit) judge) acts (line_of link more come judge)
   pub seen : begun ≡ true → c.seen_by_right ≡ c.left
   pub row : Row end coming r x.source link come
   pub shut_is : shut r ≡ true → link ≡ None
@@ -87,7 +87,7 @@ pub record Running (shut : ℕ → Bool) (end : State) (coming mine : List Value
   pub peer : ℕ
   pub index : o ≡ Some r
   pub line : Line
-  pub tap : line.tap ≡ c
+  pub judge : line.judge ≡ c
   pub put : line.put ≡ mine
   pub begun_is : line.begun ≡ begun
   pub first : Line
@@ -155,7 +155,7 @@ module _ (local : Local) (shut : ℕ → Bool) (end after : State) (coming later
     peer = g.peer;
     index = g.index;
     line = g.line;
-    tap = g.tap;
+    judge = g.judge;
     put = g.put;
     begun_is = g.begun_is;
     first = g.first;
@@ -222,31 +222,31 @@ pub record Called (local : Local) (w : Whole) : Type 0 where
   pub refs : ℕ → Option ℕ
   pub home : ℕ → ℕ
   pub shut : ℕ → Bool
-  pub stands : (p : ℕ) (c : Connection) → slice_get w.tap.connections p ≡ Some c →
+  pub stands : (p : ℕ) (c : Connection) → slice_get w.judge.connections p ≡ Some c →
       Stand local shut w.end w.coming (units_at p tagged) (units_at p came) (w.begun && first_at p tagged) (refs p) c
-  pub beyond : (p : ℕ) → slice_get w.tap.connections p ≡ None →
+  pub beyond : (p : ℕ) → slice_get w.judge.connections p ≡ None →
       (units_at p tagged ≡ []) × (units_at p came ≡ []) × ((r : ℕ) → refs p ≡ Some r → IsUnlinked w.end r)
   pub homes : (p r : ℕ) → refs p ≡ Some r → (home r ≡ p) × (r ≤ w.end.given)
   pub positive : (p r : ℕ) → refs p ≡ Some r → 1 ≤ r
   pub linked_at : w.end.ended ≡ None → (r peer : ℕ) (link : Standing) → value_at r w.end.live ≡ Some (linked peer link) →
       refs (home r) ≡ Some r
   pub shut_given : (q : ℕ) → shut q ≡ true → q ≤ w.end.given
-  pub strays : AreStrays shut w.end refs home w.tap.course.disconnects.strays tagged
+  pub strays : AreStrays shut w.end refs home w.judge.course.disconnects.strays tagged
   pub last : ℕ
-  pub tops : (p : ℕ) (c : Connection) → slice_get w.tap.connections p ≡ Some c → c.right.reference ≤ last
+  pub tops : (p : ℕ) (c : Connection) → slice_get w.judge.connections p ≡ Some c → c.right.reference ≤ last
   pub above : AreAbove w.end.given last (values tagged)
-  pub class : (w.tap.course.class ≡ None) ⊎ (w.tap.course.class ≡ Some Two)
-  pub two : (p : ℕ) (c : Connection) → slice_get w.tap.connections p ≡ Some c → is_open c.right.phase ≡ true →
-      w.tap.course.class ≡ Some Two
-  pub class_seen : (w.tap.course.class_seen ≡ None) ⊎ (w.tap.course.class_seen ≡ Some Two)
+  pub class : (w.judge.course.class ≡ None) ⊎ (w.judge.course.class ≡ Some Two)
+  pub two : (p : ℕ) (c : Connection) → slice_get w.judge.connections p ≡ Some c → is_open c.right.phase ≡ true →
+      w.judge.course.class ≡ Some Two
+  pub class_seen : (w.judge.course.class_seen ≡ None) ⊎ (w.judge.course.class_seen ≡ Some Two)
   -- a class was selected by a CC
-  pub past_two : w.tap.course.class ≡ Some Two → 1 ≤ w.end.given
-  pub seen_two : w.tap.course.class_seen ≡ Some Two → w.tap.course.class ≡ Some Two
+  pub past_two : w.judge.course.class ≡ Some Two → 1 ≤ w.end.given
+  pub seen_two : w.judge.course.class_seen ≡ Some Two → w.judge.course.class ≡ Some Two
   pub some : w.begun ≡ true → values tagged ≢ []
   pub few : AllByRecursion (IsFor w.end.given) w.coming
   pub untagged : AllByRecursion Untagged came
   -- as long as each DR has closed something
-  pub timely : w.tap.course.disconnects.strays ≡ false → w.end.ended ≡ None → Timely w.end w.coming w.tap.connections (values tagged)
+  pub timely : w.judge.course.disconnects.strays ≡ false → w.end.ended ≡ None → Timely w.end w.coming w.judge.connections (values tagged)
 
 -- ---- a packet begins
 
@@ -256,20 +256,20 @@ off_left o c h = grind (arith, or_last)
 module _ (local : Local) (shut : ℕ → Bool) (end : State) (coming mine asks : List Value) (o : Option ℕ) where
   -- it is of another connection, or of the other side
   run_begins : (b : Bool) (c e : Connection) (act : Act) → (h : Running shut end coming mine b o c) →
-      ActsAlong Right h.r h.peer h.line (act ∷ []) (record h.line { tap = e }) → e.right ≡ c.right → e.left ≡ c.left →
+      ActsAlong Right h.r h.peer h.line (act ∷ []) (record h.line { judge = e }) → e.right ≡ c.right → e.left ≡ c.left →
       Running shut end coming mine b o e
   run_begins b c e act h along right left = record {
     r = h.r;
     peer = h.peer;
     index = h.index;
-    line = record h.line { tap = e };
-    tap = refl;
+    line = record h.line { judge = e };
+    judge = refl;
     put = h.put;
     begun_is = h.begun_is;
     first = h.first;
     acts = h.acts ++ act ∷ [];
     opened = h.opened;
-    along = acts_join Right h.r h.peer h.acts (act ∷ []) h.first h.line (record h.line { tap = e }) h.along along;
+    along = acts_join Right h.r h.peer h.acts (act ∷ []) h.first h.line (record h.line { judge = e }) h.along along;
     there = ap (λ (x : Half). is_open x.phase) right ∙ h.there;
     right = ap (λ (x : Half). x.reference) right ∙ h.right;
     left = ap (λ (x : Half). x.reference) left ∙ h.left;
@@ -286,7 +286,7 @@ module _ (local : Local) (shut : ℕ → Bool) (end : State) (coming mine asks :
   other_begins_one b c (refuses x a reason is none i seen) = refuses x (asked_begins Left x c a) reason is none i seen
   other_begins_one b c (answers h none) = answers (grind (arith, asked_begins)) none
   other_begins_one b c (runs h none) =
-      runs (run_begins b c (begins Left c) begins_other h (record h.line { tap = begins Left c }, sym (grind arith), refl) refl
+      runs (run_begins b c (begins Left c) begins_other h (record h.line { judge = begins Left c }, sym (grind arith), refl) refl
       refl) none
   other_begins_one b c (past silent up none asks un off) = past silent up none asks un (off_left o c off)
 
@@ -298,7 +298,7 @@ module _ (local : Local) (shut : ℕ → Bool) (end : State) (coming mine asks :
   elsewhere_begins_one c (answers h none) = answers (grind (arith, asked_begins)) none
   elsewhere_begins_one c (runs h none) =
       runs (run_begins false c (begins Right c) begins_elsewhere h
-      (record h.line { tap = begins Right c }, (h.begun_is, sym (grind arith)), refl) refl refl) none
+      (record h.line { judge = begins Right c }, (h.begun_is, sym (grind arith)), refl) refl refl) none
   elsewhere_begins_one c (past silent up none asks un off) = past silent up none asks un off
 
   own_begins_one : (c : Connection) → mine ≢ [] → Stand local shut end coming mine asks false o c → Stand local shut end coming mine asks
@@ -307,13 +307,13 @@ module _ (local : Local) (shut : ℕ → Bool) (end : State) (coming mine asks :
   own_begins_one c some (refuses x a reason is none i seen) = refuses x (asked_begins Right x c a) reason is none i (λ h. refl)
   own_begins_one c some (answers h none) = answers (grind (arith, asked_begins)) none
   own_begins_one c some (runs h none) =
-      let line = record h.line { begun = true; tap = begins Right c } in
+      let line = record h.line { begun = true; judge = begins Right c } in
       runs (record {
         r = h.r;
         peer = h.peer;
         index = h.index;
         line = line;
-        tap = refl;
+        judge = refl;
         put = h.put;
         begun_is = refl;
         first = h.first;
@@ -324,8 +324,8 @@ module _ (local : Local) (shut : ℕ → Bool) (end : State) (coming mine asks :
           (
             λ e. some (sym h.put ∙ e),
             h.begun_is,
-            ap (λ (e : Connection). record h.line { begun = true; tap = begins Right e })
-                (sym h.tap),
+            ap (λ (e : Connection). record h.line { begun = true; judge = begins Right e })
+                (sym h.judge),
           ),
           refl,
         );
@@ -353,10 +353,10 @@ module _ (local : Local) (w : Whole) (f : Called local w) where
   StandsBy b p c = Stand local f.shut w.end w.coming (units_at p f.tagged) (units_at p f.came) (b && first_at p f.tagged) (f.refs p) c
 
   begins_all : (d : Direction) (b : Bool) → (b ≡ true → values f.tagged ≢ []) →
-      (((packet_begins d w.tap).course.class_seen ≡ None) ⊎ ((packet_begins d w.tap).course.class_seen ≡ Some Two)) →
-      ((packet_begins d w.tap).course.class_seen ≡ Some Two → (packet_begins d w.tap).course.class ≡ Some Two) →
+      (((packet_begins d w.judge).course.class_seen ≡ None) ⊎ ((packet_begins d w.judge).course.class_seen ≡ Some Two)) →
+      ((packet_begins d w.judge).course.class_seen ≡ Some Two → (packet_begins d w.judge).course.class ≡ Some Two) →
       ((p : ℕ) (c : Connection) → StandsBy w.begun p c → StandsBy b p (begins d c)) →
-      Called local (record w { begun = b; tap = packet_begins d w.tap })
+      Called local (record w { begun = b; judge = packet_begins d w.judge })
   begins_all d b some seen seen_is k = record {
     tagged = f.tagged;
     put = f.put;
@@ -366,38 +366,38 @@ module _ (local : Local) (w : Whole) (f : Called local w) where
     home = f.home;
     shut = f.shut;
     stands = λ p c at.
-        let (x, was, is) = after_map (begins d) w.tap.connections p c at in
+        let (x, was, is) = after_map (begins d) w.judge.connections p c at in
         subst (λ (e : Connection). StandsBy b p e) (sym is) (k p x (f.stands p x was));
-    beyond = λ p none. f.beyond p (map_none d (slice_get w.tap.connections p) (sym (slice_get-map (begins d) w.tap.connections p) ∙ none));
+    beyond = λ p none. f.beyond p (map_none d (slice_get w.judge.connections p) (sym (slice_get-map (begins d) w.judge.connections p) ∙ none));
     homes = f.homes;
     positive = f.positive;
     linked_at = f.linked_at;
     shut_given = f.shut_given;
-    strays = subst (λ (s : Bool). AreStrays f.shut w.end f.refs f.home s f.tagged) (sym (course_strays d w.tap)) f.strays;
+    strays = subst (λ (s : Bool). AreStrays f.shut w.end f.refs f.home s f.tagged) (sym (course_strays d w.judge)) f.strays;
     last = f.last;
     tops = λ p c at.
-        let (x, was, is) = after_map (begins d) w.tap.connections p c at in
+        let (x, was, is) = after_map (begins d) w.judge.connections p c at in
         subst (λ (h : Half). h.reference ≤ f.last) (sym (ap (λ (e : Connection). e.right) is ∙ begun_right d x)) (f.tops p x was);
     above = f.above;
-    class = subst (λ (k : Option Class). (k ≡ None) ⊎ (k ≡ Some Two)) (sym (course_class d w.tap)) f.class;
+    class = subst (λ (k : Option Class). (k ≡ None) ⊎ (k ≡ Some Two)) (sym (course_class d w.judge)) f.class;
     two = λ p c at up.
-        let (x, was, is) = after_map (begins d) w.tap.connections p c at in
-        course_class d w.tap ∙ f.two p x was (ap (λ (h : Half). is_open h.phase) (sym (ap (λ (e : Connection). e.right) is ∙ begun_right d
+        let (x, was, is) = after_map (begins d) w.judge.connections p c at in
+        course_class d w.judge ∙ f.two p x was (ap (λ (h : Half). is_open h.phase) (sym (ap (λ (e : Connection). e.right) is ∙ begun_right d
         x)) ∙ up);
     class_seen = seen;
-    past_two = λ h. f.past_two (sym (course_class d w.tap) ∙ h);
+    past_two = λ h. f.past_two (sym (course_class d w.judge) ∙ h);
     seen_two = seen_is;
     some = some;
     few = f.few;
     untagged = f.untagged;
     timely = λ none lasts.
-        let h = f.timely (sym (course_strays d w.tap) ∙ none) lasts in
+        let h = f.timely (sym (course_strays d w.judge) ∙ none) lasts in
         record {
-          taps = λ p c at judged left right.
-              let (x, was, is) = after_map (begins d) w.tap.connections p c at in
+          judges = λ p c at judged left right.
+              let (x, was, is) = after_map (begins d) w.judge.connections p c at in
               let same = ap (λ (e : Connection). e.right) is ∙ begun_right d x in
               subst (λ (k : Half). IsHeld w.end w.coming k.reference) (sym same)
-              (h.taps p x was (sym (ap (λ (e : Connection). e.is_judged) is ∙ begins_judged d x) ∙ judged)
+              (h.judges p x was (sym (ap (λ (e : Connection). e.is_judged) is ∙ begins_judged d x) ∙ judged)
               (sym (ap (λ (e : Connection). is_open e.left.phase) is ∙ ap (λ (k : Half). is_open k.phase)
               (begun_left d x)) ∙ left)
               (ap (λ (k : Half). is_open k.phase) (sym same) ∙ right));
@@ -407,7 +407,7 @@ module _ (local : Local) (w : Whole) (f : Called local w) where
         };
   }
 
-  pub other_begins : Called local (record w { tap = packet_begins Left w.tap })
+  pub other_begins : Called local (record w { judge = packet_begins Left w.judge })
   other_begins = search (arith, begins_all, other_begins_one)
 
   own_by : (p : ℕ) (b : Bool) → first_at p f.tagged ≡ b → (c : Connection) →
@@ -417,7 +417,7 @@ module _ (local : Local) (w : Whole) (f : Called local w) where
       own_begins_one local f.shut w.end w.coming (units_at p f.tagged) (units_at p f.came) (f.refs p) c (first_some p f.tagged e) h
   own_by p false e c h = elsewhere_begins_one local f.shut w.end w.coming (units_at p f.tagged) (units_at p f.came) (f.refs p) c h
 
-  pub own_begins : w.begun ≡ false → w.put ≢ [] → Called local (record w { begun = true; tap = packet_begins Right w.tap })
+  pub own_begins : w.begun ≡ false → w.put ≢ [] → Called local (record w { begun = true; judge = packet_begins Right w.judge })
   own_begins e some = begins_all Right true (λ h k. some (f.put ∙ k)) f.class_seen f.seen_two (λ p c h.
       own_by p (first_at p f.tagged) refl c
       (subst (λ (b : Bool). Stand local f.shut w.end w.coming (units_at p f.tagged) (units_at p f.came) (b && first_at p f.tagged)

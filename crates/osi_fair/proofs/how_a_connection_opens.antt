@@ -61,7 +61,7 @@ pub calling_opens : (local : Local) (c : Connect) (r : ℕ) (t : Connection) →
     (opened_line (opened_link Two (agreed_size c.parameters.size local) local c.credit) (sent_on Right (confirm r c) t))
 calling_opens local c r t range left right noted = grind (arith, at_least_five, pow-le-pow_right)
 
--- the CR of this end, as the tap knows it
+-- the CR of this end, as the judge knows it
 pub asked_so : (local : Local) (held : Option Class) (calling called : Option (List ℕ)) (r : ℕ) → local.class2 ≡ true →
     (asked_by (proposal local held calling called r)).left ≡ opened_half r (window_units local.window)
 asked_so local held calling called r e = ap (λ (b : Bool). (asked_by (proposal_by b local held calling called r)).left) e

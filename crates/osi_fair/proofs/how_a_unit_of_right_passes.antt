@@ -1,4 +1,4 @@
--- A unit of the called side that is right on its connection passes: what the tap has then, by the kind of the unit.
+-- A unit of the called side that is right on its connection passes: what the judge has then, by the kind of the unit.
 -- For the law on a whole called end.
 use Rattle.osi_fair.proofs.Vocabulary.{arith, [], ap, Bool, false, List, None, Option, set, Some, true, ℕ, ◌∙◌, ◌∷◌, ◌≡◌, not, position}
 use Rattle.osi_fair.proofs.Vocabulary.{slice_get, ◌&&◌, confirm, Connect, destination_of, Value, Class, Two, is_named, is_silent}

@@ -10,25 +10,25 @@ use Rattle.osi_fair.proofs.a_reference_names_one_connection.{no_item}
 use Rattle.osi_fair.proofs.a_request_of_a_whole_end_is_new.{IsUnused, Newer, next_unused, still_newer}
 use Rattle.osi_fair.proofs.how_requests_go_on.{Stage, asks, calm_passes, known, quiet, still_staged, zero, answered, ended, refused, waits}
 use Rattle.osi_fair.proofs.what_an_end_does_in_class_zero.{anyhow, zero_puts}
-use Rattle.osi_fair.proofs.what_lasts_at_the_tap.{lasts_passing}
-use Rattle.osi_fair.proofs.while_no_class_is_selected.{AllOver, GoesOn, calm_tap}
+use Rattle.osi_fair.proofs.what_lasts_at_the_judge.{lasts_passing}
+use Rattle.osi_fair.proofs.while_no_class_is_selected.{AllOver, GoesOn, calm_judge}
 
 -- ---- left was judged before
 
-went_on : (event : Event) (w new : Whole) → Happens Left event w new → GoesOn new.tap → GoesOn w.tap
-went_on arrives w new (unit, coming, is) h = subst (λ (x : Whole). GoesOn x.tap) is h
-went_on (calls call) w new (may, is) h = subst (λ (x : Whole). GoesOn x.tap) is h
-went_on begins_own w new (some, not_begun, is) h = (lasts_passing (packet Left) w.tap).left (subst (λ (x : Whole). GoesOn x.tap) is h)
-went_on passes_own w new (v, put, begun, is) h = (lasts_passing (passing Left v) w.tap).left (subst (λ (x : Whole). GoesOn x.tap) is h)
-went_on begins_other w new is h = (lasts_passing (packet Right) w.tap).left (subst (λ (x : Whole). GoesOn x.tap) is h)
-went_on (passes_other v) w new (ranges, is) h = (lasts_passing (passing Right v) w.tap).left (subst (λ (x : Whole). GoesOn x.tap) is h)
-went_on passes_rubbish w new is h = (lasts_passing (rubbish Right) w.tap).left (subst (λ (x : Whole). GoesOn x.tap) is h)
+went_on : (event : Event) (w new : Whole) → Happens Left event w new → GoesOn new.judge → GoesOn w.judge
+went_on arrives w new (unit, coming, is) h = subst (λ (x : Whole). GoesOn x.judge) is h
+went_on (calls call) w new (may, is) h = subst (λ (x : Whole). GoesOn x.judge) is h
+went_on begins_own w new (some, not_begun, is) h = (lasts_passing (packet Left) w.judge).left (subst (λ (x : Whole). GoesOn x.judge) is h)
+went_on passes_own w new (v, put, begun, is) h = (lasts_passing (passing Left v) w.judge).left (subst (λ (x : Whole). GoesOn x.judge) is h)
+went_on begins_other w new is h = (lasts_passing (packet Right) w.judge).left (subst (λ (x : Whole). GoesOn x.judge) is h)
+went_on (passes_other v) w new (ranges, is) h = (lasts_passing (passing Right v) w.judge).left (subst (λ (x : Whole). GoesOn x.judge) is h)
+went_on passes_rubbish w new is h = (lasts_passing (rubbish Right) w.judge).left (subst (λ (x : Whole). GoesOn x.judge) is h)
 
 -- ---- a run
 
 pub record Holds (local : Local) (w : Whole) : Type 0 where
   pub newer : Newer w
-  pub stage : GoesOn w.tap → Stage local w
+  pub stage : GoesOn w.judge → Stage local w
 
 pub holds_next : (local : Local) (event : Event) (w new : Whole) → Happens Left event w new → Holds local w → Holds local new
 holds_next local event w new h a = record {
@@ -57,18 +57,18 @@ some_cr : {A : Type 0} (w : Whole) (x : Connect) (rest : List Value) → w.put �
 some_cr w x rest e none = absurd (cc (sym e ∙ none))
 
 while_calm : (x : Connect) (w : Whole) (cs : List Connection) (drs : Disconnects) (rest : List Value) → w.put ≡ request x ∷ rest → Newer w →
-    w.tap ≡ calm_tap cs drs → AllOver cs → IsRightCr x w.tap
-while_calm x w cs drs rest e newer tap all =
-    let unused = subst (λ (t : Traffic). IsUnused x.source t) tap (next_unused x rest w e newer) in
-    grind (arith, calm_tap cs drs, calm_passes x cs drs all unused)
+    w.judge ≡ calm_judge cs drs → AllOver cs → IsRightCr x w.judge
+while_calm x w cs drs rest e newer judge all =
+    let unused = subst (λ (t : Traffic). IsUnused x.source t) judge (next_unused x rest w e newer) in
+    grind (arith, calm_judge cs drs, calm_passes x cs drs all unused)
 
 pub is_right : (local : Local) (x : Connect) (rest : List Value) (w : Whole) → w.put ≡ request x ∷ rest → w.begun ≡ true →
-    GoesOn w.tap → Newer w → Stage local w → IsRightCr x w.tap
+    GoesOn w.judge → Newer w → Stage local w → IsRightCr x w.judge
 is_right local x rest w e begun goes newer (ended none h) = some_cr w x rest e none
-is_right local x rest w e begun goes newer (quiet is none not_begun cs drs tap done dcs) = some_cr w x rest e none
-is_right local x rest w e begun goes newer (asks y put is offers cs drs tap done dcs all) = search (arith, while_calm)
-is_right local x rest w e begun goes newer (waits r is none not_begun cs drs tap p o offers waiting dcs) = some_cr w x rest e none
-is_right local x rest w e begun goes newer (refused r is none not_begun cs drs tap done dcs v more coming are refusal too) =
+is_right local x rest w e begun goes newer (quiet is none not_begun cs drs judge done dcs) = some_cr w x rest e none
+is_right local x rest w e begun goes newer (asks y put is offers cs drs judge done dcs all) = search (arith, while_calm)
+is_right local x rest w e begun goes newer (waits r is none not_begun cs drs judge p o offers waiting dcs) = some_cr w x rest e none
+is_right local x rest w e begun goes newer (refused r is none not_begun cs drs judge done dcs v more coming are refusal too) =
     some_cr w x rest e none
 is_right local x rest w e begun goes newer (answered r is none not_begun dcs n y more coming are class has after so z) =
     some_cr w x rest e none
@@ -76,8 +76,8 @@ is_right local x rest w e begun goes newer (zero has z) = grind (arith, anyhow, 
 is_right local x rest w e begun goes newer (known two seen has) = grind (arith, next_unused x rest w e newer)
 
 pub request_right : (local : Local) (events : List Event) (w : Whole) (x : Connect) (rest : List Value) →
-    HappenAlong Left (begin true local) events w → w.begun ≡ true → w.put ≡ request x ∷ rest → is_stopped Left w.tap.course ≡ false →
-    ((takes Left (request x) w.tap).told.finding ≡ Kept) ⊎ ((takes Left (request x) w.tap).told.finding ≡ TooMany)
+    HappenAlong Left (begin true local) events w → w.begun ≡ true → w.put ≡ request x ∷ rest → is_stopped Left w.judge.course ≡ false →
+    ((takes Left (request x) w.judge).told.finding ≡ Kept) ⊎ ((takes Left (request x) w.judge).told.finding ≡ TooMany)
 request_right local events w x rest along begun put goes =
     let h = holds_all local events (begin true local) w along (holds_first local) in
     is_right local x rest w put begun goes h.newer (h.stage goes)

@@ -1,4 +1,4 @@
--- Of the connections that are open at the tap of a calling end, be they judged or not, no two have the same reference of the other side.
+-- Of the connections that are open at the judge of a calling end, be they judged or not, no two have the same reference of the other side.
 -- For the law on a whole end.
 use Rattle.osi_fair.proofs.Vocabulary.{arith, [], false, List, refl, Some, suc, true, zero, ℕ, ◌++◌, ◌∷◌, ◌≡◌, eq-eqb, slice_get, ◌||◌}
 use Rattle.osi_fair.proofs.Vocabulary.{is_closing, is_open, is_over, is_silent, uses, Traffic, Connection, Left, Right, Phase}

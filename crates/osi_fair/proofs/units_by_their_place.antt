@@ -1,4 +1,4 @@
--- Units in order, each with the place at the tap of the connection that it is of: the units of one place.
+-- Units in order, each with the place at the judge of the connection that it is of: the units of one place.
 -- For the law on a whole called end.
 use Rattle.osi_fair.proofs.Vocabulary.{arith, [], ap, Bool, false, List, None, Option, refl, Some, true, ℕ, ◌++◌, ◌∙◌, ◌∷◌, ◌≡◌, eq-eqb}
 use Rattle.osi_fair.proofs.Vocabulary.{◌==◌, Value}

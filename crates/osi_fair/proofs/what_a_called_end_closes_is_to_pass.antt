@@ -1,4 +1,4 @@
--- A called end that has closed an open connection has put the unit that closes it: as long as the tap has not seen it, it is to
+-- A called end that has closed an open connection has put the unit that closes it: as long as the judge has not seen it, it is to
 -- pass. For the law on a whole called end.
 use Rattle.osi_fair.proofs.Vocabulary.{arith, [], Bool, false, if◌then◌else◌, List, None, Option, refl, Some, subst, sym, true, ℕ, ◌++◌}
 use Rattle.osi_fair.proofs.Vocabulary.{◌∙◌, ◌∷◌, ◌≡◌, ◌≢◌, disconnect, disconnected, Value, Standing, is_open, connection_after, half_after}
@@ -21,9 +21,9 @@ IsCloser _ = ⊥
 abbrev EndsIn : List Value → Type 0
 EndsIn vs = (first : List Value) × (v : Value) × (vs ≡ first ++ v ∷ []) × IsCloser v
 
--- if the end has closed the connection, and the tap has not seen it
+-- if the end has closed the connection, and the judge has not seen it
 abbrev Waits : Line → Type 0
-Waits line = line.tap.is_judged ≡ true → line.link ≡ None → is_open line.tap.right.phase ≡ true → EndsIn line.put
+Waits line = line.judge.is_judged ≡ true → line.link ≡ None → is_open line.judge.right.phase ≡ true → EndsIn line.put
 
 no_some : {A : Type 0} (l : Standing) (o : Option Standing) → o ≡ Some l → o ≡ None → A
 no_some l o h k = absurd (cc)
@@ -70,8 +70,8 @@ module _ (r peer : ℕ) (begin : Line) (opened : IsOpened Right r peer begin) wh
   ends_some vs ([], v, e, k) h = no_list v [] (sym e ∙ h)
   ends_some vs (y ∷ ys, v, e, k) h = no_list y (ys ++ v ∷ []) (sym e ∙ h)
 
-  pub close_waits : (line : Line) (acts : List Act) → ActsAlong Right r peer begin acts line → line.tap.is_judged ≡ true →
+  pub close_waits : (line : Line) (acts : List Act) → ActsAlong Right r peer begin acts line → line.judge.is_judged ≡ true →
       line.link ≡ None →
-      is_open line.tap.right.phase ≡ true → line.put ≢ []
+      is_open line.judge.right.phase ≡ true → line.put ≢ []
   close_waits line acts along judged none up =
       ends_some line.put (all_wait acts [] begin line refl along (λ j gone up. no_some _ begin.link opened.link gone) judged none up)

@@ -90,7 +90,7 @@ module _ (local : Local) (w : Whole) (f : Called local w) (t : State) (units : L
     (left : (peer : ℕ) (k : Standing) → value_at n w.end.live ≡ Some (linked peer k) → Leaves n peer t)
     (come_is : coming ≡ values came) (few : AllByRecursion (IsFor w.end.given) coming) (untagged : AllByRecursion Untagged came)
     (no_cc : AllByRecursion (λ (v : Value). (m : ℕ) (x : Connect) → v ≡ confirm m x → ⊥) units)
-    (timely : w.tap.course.disconnects.strays ≡ false → t.ended ≡ None → Timely t coming w.tap.connections (values f.tagged)) where
+    (timely : w.judge.course.disconnects.strays ≡ false → t.ended ≡ None → Timely t coming w.judge.connections (values f.tagged)) where
   abbrev s : State
   s = w.end
 
@@ -133,7 +133,7 @@ module _ (local : Local) (w : Whole) (f : Called local w) (t : State) (units : L
       (f.refs i) c (λ x ask lasts. asks i ∙ ask was) (λ none. asks i ∙ none)
       (λ r peer link come e. row_other r peer link come (grind arith)) (λ r e. unlinked_still r (grind arith))
 
-  stand_else : (i : ℕ) (c : Connection) → (i ≡ p → ⊥) → slice_get w.tap.connections i ≡ Some c → StandNow i c
+  stand_else : (i : ℕ) (c : Connection) → (i ≡ p → ⊥) → slice_get w.judge.connections i ≡ Some c → StandNow i c
   stand_else i c other at =
       subst (λ (b : Bool). StandThen (units_at i tagged) b i c) (sym (grind arith))
       (subst (λ (vs : List Value). StandThen vs (w.begun && first_at i f.tagged) i c) (sym (mine_other i other))
@@ -177,11 +177,11 @@ module _ (local : Local) (w : Whole) (f : Called local w) (t : State) (units : L
         mine_is = mine_here ∙ ap (λ (vs : List Value). vs ++ units) h.mine_is
             ∙ ap (λ (i : ℕ). confirm h.x.source (acceptance Two h.size h.x local i) ∷ (h.more ++ units)) r_is;
         acts = h.acts ++ o.follows.acts;
-        along = λ tap. acts_join Right n h.x.source h.acts o.follows.acts (opened_line (opened_link Two h.size local h.x.credit) tap)
-            (line_of h.link h.more h.come tap) (line_of (link_now (value_at n t.live)) (h.more ++ units) o.later tap)
-            (subst (λ (i : ℕ). ActsAlong Right i h.x.source (opened_line (opened_link Two h.size local h.x.credit) tap) h.acts
-            (line_of h.link h.more h.come tap)) r_is (h.along tap))
-            (o.follows.along Right (line_of h.link h.more h.come tap) o.later (g.is ∙ sym (ap link_now g.there)) o.is);
+        along = λ judge. acts_join Right n h.x.source h.acts o.follows.acts (opened_line (opened_link Two h.size local h.x.credit) judge)
+            (line_of h.link h.more h.come judge) (line_of (link_now (value_at n t.live)) (h.more ++ units) o.later judge)
+            (subst (λ (i : ℕ). ActsAlong Right i h.x.source (opened_line (opened_link Two h.size local h.x.credit) judge) h.acts
+            (line_of h.link h.more h.come judge)) r_is (h.along judge))
+            (o.follows.along Right (line_of h.link h.more h.come judge) o.later (g.is ∙ sym (ap link_now g.there)) o.is);
         seen = λ b. h.seen (sym (grind arith) ∙ b);
         row = new_row h.x.source o.later o.among (left h.x.source g.k g.there);
         shut_is = grind (arith, no_link);
@@ -199,7 +199,7 @@ module _ (local : Local) (w : Whole) (f : Called local w) (t : State) (units : L
         peer = h.peer;
         index = refl;
         line = line;
-        tap = h.tap;
+        judge = h.judge;
         put = ap (λ (vs : List Value). vs ++ units) h.put ∙ sym mine_here;
         begun_is = h.begun_is ∙ sym (grind arith);
         first = h.first;
@@ -224,7 +224,7 @@ module _ (local : Local) (w : Whole) (f : Called local w) (t : State) (units : L
   stand_mine c (runs h none) = runs (runs_on c h (number_is h.r n (sym h.index))) (asks p ∙ none)
   stand_mine c (past silent up none ask un off) = absurd (un n refl was q l here)
 
-  stand_by : (i : ℕ) (c : Connection) (b : Bool) → (i == p) ≡ b → slice_get w.tap.connections i ≡ Some c → StandNow i c
+  stand_by : (i : ℕ) (c : Connection) (b : Bool) → (i == p) ≡ b → slice_get w.judge.connections i ≡ Some c → StandNow i c
   stand_by i c true e at =
       let same = eqb-true i p e in
       subst (λ (j : ℕ). StandNow j c) (sym same) (grind (arith, index, stand_mine, units_at, first_at))
@@ -232,7 +232,7 @@ module _ (local : Local) (w : Whole) (f : Called local w) (t : State) (units : L
 
   -- ---- no connection
 
-  gone_by : (i : ℕ) → slice_get w.tap.connections i ≡ None → (b : Bool) → (i == p) ≡ b →
+  gone_by : (i : ℕ) → slice_get w.judge.connections i ≡ None → (b : Bool) → (i == p) ≡ b →
       (units_at i tagged ≡ []) × (units_at i came ≡ []) × ((r : ℕ) → f.refs i ≡ Some r → IsUnlinked t r)
   gone_by i none true e = search (arith, eqb-true, index)
   gone_by i none false e = grind (arith, mine_other, unlike, unlinked_still)
@@ -246,7 +246,7 @@ module _ (local : Local) (w : Whole) (f : Called local w) (t : State) (units : L
       f.shut n ≡ true → ⊥
   shut_n c l h = grind (arith, no_number, number_is, index, goes, no_link)
 
-  shut_at : (o : Option Connection) → slice_get w.tap.connections p ≡ o → f.shut n ≡ true → ⊥
+  shut_at : (o : Option Connection) → slice_get w.judge.connections p ≡ o → f.shut n ≡ true → ⊥
   shut_at None e h = (f.beyond p e).2 n index was q l here
   shut_at (Some c) e h = shut_n c (subst (λ (o : Option ℕ). Stand local f.shut s w.coming (units_at p f.tagged) (units_at p f.came)
       (w.begun && first_at p f.tagged) o c) index (f.stands p c e)) h
@@ -254,8 +254,8 @@ module _ (local : Local) (w : Whole) (f : Called local w) (t : State) (units : L
   stray_home : (m : ℕ) → f.shut m ≡ true → f.refs (f.home m) ≡ Some m → f.home m ≡ p → ⊥
   stray_home m h e same = grind (arith, number_is, index, shut_at)
 
-  stray_still : (v : Value) (later : List Placed) → IsStray f.shut s f.refs f.home w.tap.course.disconnects.strays v later →
-      IsStray f.shut t f.refs f.home w.tap.course.disconnects.strays v (later ++ all_at (Some p) units)
+  stray_still : (v : Value) (later : List Placed) → IsStray f.shut s f.refs f.home w.judge.course.disconnects.strays v later →
+      IsStray f.shut t f.refs f.home w.judge.course.disconnects.strays v (later ++ all_at (Some p) units)
   stray_still v later a = grind (arith, at_join, all_at, units_at, all_elsewhere, stray_home, append-nil)
 
   pub line_steps : Called local (record w { end = t; put = w.put ++ units; coming = coming })
@@ -274,9 +274,9 @@ module _ (local : Local) (w : Whole) (f : Called local w) (t : State) (units : L
     positive = f.positive;
     linked_at = λ lasts r peer k there. linked_by r peer k (r == n) refl there;
     shut_given = λ r e. subst (λ (j : ℕ). r ≤ j) (sym given) (f.shut_given r e);
-    strays = strays_keep f.shut f.shut s t f.refs f.refs f.home f.home w.tap.course.disconnects.strays f.tagged (all_at (Some p) units)
+    strays = strays_keep f.shut f.shut s t f.refs f.refs f.home f.home w.judge.course.disconnects.strays f.tagged (all_at (Some p) units)
         stray_still
-        (placed_not_stray f.shut t f.refs f.home w.tap.course.disconnects.strays p units) f.strays;
+        (placed_not_stray f.shut t f.refs f.home w.judge.course.disconnects.strays p units) f.strays;
     last = f.last;
     tops = f.tops;
     above = subst (λ (j : ℕ). AreAbove j f.last (values tagged)) (sym given)
@@ -292,7 +292,7 @@ module _ (local : Local) (w : Whole) (f : Called local w) (t : State) (units : L
         (some_more (values f.tagged) (values (all_at (Some p) units)) (f.some h));
     few = subst (λ (j : ℕ). AllByRecursion (IsFor j) coming) (sym given) few;
     untagged = untagged;
-    timely = λ none lasts. subst (λ (l : List Value). Timely t coming w.tap.connections l)
+    timely = λ none lasts. subst (λ (l : List Value). Timely t coming w.judge.connections l)
         (sym (values_join f.tagged (all_at (Some p) units) ∙ ap (λ (vs : List Value). values f.tagged ++ vs) (values_all (Some p) units)))
-        (timely_puts t coming w.tap.connections (values f.tagged) units no_cc (timely none lasts));
+        (timely_puts t coming w.judge.connections (values f.tagged) units no_cc (timely none lasts));
   }

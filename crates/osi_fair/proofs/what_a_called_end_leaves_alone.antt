@@ -25,11 +25,11 @@ module _ (local : Local) (w : Whole) (f : Called local w) (t : State) (units : L
     (others : (m : ℕ) → (m ≡ n → ⊥) → those m coming ≡ those m w.coming) (asks : (p : ℕ) → units_at p came ≡ units_at p f.came)
     (shut : ℕ → Bool) (shut_was : (r : ℕ) → shut r ≡ true → (f.shut r ≡ true) ⊎ (r ≡ n)) (shut_still : (r : ℕ) → f.shut r ≡ true →
     shut r ≡ true)
-    (shut_given : (r : ℕ) → shut r ≡ true → r ≤ t.given) (strays : AreStrays shut t f.refs f.home w.tap.course.disconnects.strays
+    (shut_given : (r : ℕ) → shut r ≡ true → r ≤ t.given) (strays : AreStrays shut t f.refs f.home w.judge.course.disconnects.strays
     (all_at None units))
     (come_is : coming ≡ values came) (few : AllByRecursion (IsFor w.end.given) coming) (untagged : AllByRecursion Untagged came)
     (no_cc : AllByRecursion (λ (v : Value). (m : ℕ) (x : Connect) → v ≡ confirm m x → ⊥) units)
-    (timely : w.tap.course.disconnects.strays ≡ false → t.ended ≡ None → Timely t coming w.tap.connections (values f.tagged)) where
+    (timely : w.judge.course.disconnects.strays ≡ false → t.ended ≡ None → Timely t coming w.judge.connections (values f.tagged)) where
   abbrev s : State
   s = w.end
 
@@ -95,9 +95,9 @@ module _ (local : Local) (w : Whole) (f : Called local w) (t : State) (units : L
         come = g.later;
         mine_is = h.mine_is;
         acts = h.acts ++ g.acts;
-        along = λ tap. acts_join Right h.r h.x.source h.acts g.acts (opened_line (opened_link Two h.size local h.x.credit) tap)
-            (line_of h.link h.more h.come tap) (line_of h.link h.more g.later tap) (h.along tap)
-            (g.along (line_of h.link h.more h.come tap) refl refl);
+        along = λ judge. acts_join Right h.r h.x.source h.acts g.acts (opened_line (opened_link Two h.size local h.x.credit) judge)
+            (line_of h.link h.more h.come judge) (line_of h.link h.more g.later judge) (h.along judge)
+            (g.along (line_of h.link h.more h.come judge) refl refl);
         seen = h.seen;
         row = g.row;
         shut_is = g.shut_is;
@@ -109,7 +109,7 @@ module _ (local : Local) (w : Whole) (f : Called local w) (t : State) (units : L
         peer = h.peer;
         index = h.index;
         line = record h.line { coming = g.later };
-        tap = h.tap;
+        judge = h.judge;
         put = h.put;
         begun_is = h.begun_is;
         first = h.first;
@@ -128,7 +128,7 @@ module _ (local : Local) (w : Whole) (f : Called local w) (t : State) (units : L
   mine_same : (i : ℕ) → units_at i tagged ≡ units_at i f.tagged
   mine_same i = grind (arith, at_join, all_nowhere, append-nil)
 
-  stand_now : (i : ℕ) (c : Connection) → slice_get w.tap.connections i ≡ Some c →
+  stand_now : (i : ℕ) (c : Connection) → slice_get w.judge.connections i ≡ Some c →
       StandThen (units_at i tagged) (w.begun && first_at i tagged) i c
   stand_now i c at =
       subst (λ (b : Bool). StandThen (units_at i tagged) b i c) (sym (grind arith))
@@ -168,8 +168,8 @@ module _ (local : Local) (w : Whole) (f : Called local w) (t : State) (units : L
     some = λ h. subst (λ (vs : List Value). vs ≢ []) (sym values_are) (some_more (values f.tagged) units (f.some h));
     few = subst (λ (j : ℕ). AllByRecursion (IsFor j) coming) (sym given) few;
     untagged = untagged;
-    timely = λ none lasts. subst (λ (l : List Value). Timely t coming w.tap.connections l) (sym values_are)
-        (timely_puts t coming w.tap.connections (values f.tagged) units no_cc (timely none lasts));
+    timely = λ none lasts. subst (λ (l : List Value). Timely t coming w.judge.connections l) (sym values_are)
+        (timely_puts t coming w.judge.connections (values f.tagged) units no_cc (timely none lasts));
   }
 
 -- ---- the end
@@ -187,8 +187,8 @@ module _ (local : Local) (w : Whole) (f : Called local w) (t : State) (coming : 
   stand_over i c mine begun = stands_at local f.shut w.end t w.coming coming mine (units_at i f.came) (units_at i came) begun (f.refs i) c
       (λ x ask lasts. not_last lasts) (asks i) (λ r peer link come e row. over gone) (λ r e un lasts. not_last lasts)
 
-  stray_over : (v : Value) (later : List Placed) → IsStray f.shut w.end f.refs f.home w.tap.course.disconnects.strays v later →
-      IsStray f.shut t f.refs f.home w.tap.course.disconnects.strays v (later ++ [])
+  stray_over : (v : Value) (later : List Placed) → IsStray f.shut w.end f.refs f.home w.judge.course.disconnects.strays v later →
+      IsStray f.shut t f.refs f.home w.judge.course.disconnects.strays v (later ++ [])
   stray_over v later a = search (arith, append-nil)
 
   pub is_over : Called local (record w { end = t; coming = coming })
@@ -206,8 +206,8 @@ module _ (local : Local) (w : Whole) (f : Called local w) (t : State) (coming : 
     positive = f.positive;
     linked_at = λ lasts. not_last lasts;
     shut_given = λ r e. subst (λ (j : ℕ). r ≤ j) (sym given) (f.shut_given r e);
-    strays = subst (λ (l : List Placed). AreStrays f.shut t f.refs f.home w.tap.course.disconnects.strays l) (append-nil f.tagged)
-        (strays_keep f.shut f.shut w.end t f.refs f.refs f.home f.home w.tap.course.disconnects.strays f.tagged [] stray_over tt f.strays);
+    strays = subst (λ (l : List Placed). AreStrays f.shut t f.refs f.home w.judge.course.disconnects.strays l) (append-nil f.tagged)
+        (strays_keep f.shut f.shut w.end t f.refs f.refs f.home f.home w.judge.course.disconnects.strays f.tagged [] stray_over tt f.strays);
     last = f.last;
     tops = f.tops;
     above = subst (λ (j : ℕ). AreAbove j f.last (values f.tagged)) (sym given) f.above;

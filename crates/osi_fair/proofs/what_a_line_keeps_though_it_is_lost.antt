@@ -1,4 +1,4 @@
--- What holds of a line, be its connection judged or not: its units have its references, and the tap knows that of the other side.
+-- What holds of a line, be its connection judged or not: its units have its references, and the judge knows that of the other side.
 -- For the laws on whole ends.
 use Rattle.osi_fair.proofs.Vocabulary.{[], ap, arith, Bool, false, List, Option, refl, Some, subst, sym, true, ℕ, ◌++◌, ◌∙◌, ◌∷◌, ◌≡◌, ◌≢◌}
 use Rattle.osi_fair.proofs.Vocabulary.{eq-eqb, acknowledge, confirm, Connect, data2, disconnect, disconnected, Value, Two, is_applied}
@@ -14,13 +14,13 @@ use Rattle.osi_fair.proofs.how_a_unit_of_right_passes.{half_keeps, half_started}
 use Rattle.osi_fair.proofs.what_stays_of_each_connection.{left_judged, left_own, left_then, right_judged, right_own, right_then}
 use Rattle.osi_fair.proofs.which_units_are_for_a_connection.{AllOurs}
 
--- what the tap knows of the other side, and what the end knew of it as its packet began
+-- what the judge knows of the other side, and what the end knew of it as its packet began
 pub record Keeps (d : Direction) (r peer : ℕ) (line : Line) : Type 0 where
   pub flow : (l : Standing) → line.link ≡ Some l → (f : Flow) × (l.flow ≡ Some f)
   pub ours : AllOurs r peer line.put
-  pub there : is_silent (theirs d line.tap).phase ≡ false
-  pub reference : (theirs d line.tap).reference ≡ peer
-  pub seen_so : line.begun ≡ true → (is_silent (seen d line.tap).phase ≡ false) × ((seen d line.tap).reference ≡ peer)
+  pub there : is_silent (theirs d line.judge).phase ≡ false
+  pub reference : (theirs d line.judge).reference ≡ peer
+  pub seen_so : line.begun ≡ true → (is_silent (seen d line.judge).phase ≡ false) × ((seen d line.judge).reference ≡ peer)
   pub some : line.begun ≡ true → line.put ≢ []
 
 ours_join : (r n : ℕ) (xs ys : List Value) → AllOurs r n xs → AllOurs r n ys → AllOurs r n (xs ++ ys)
@@ -31,7 +31,7 @@ some_join : (xs ys : List Value) → xs ≢ [] → xs ++ ys ≢ []
 some_join [] ys h = absurd (h refl)
 some_join (x ∷ xs) ys h = no_list x (xs ++ ys)
 
--- ---- the other side at the tap
+-- ---- the other side at the judge
 
 pub own_seen_after : (v : Value) (a : Bool) (r : Reach) (c : Connection) → (connection_after Right v a r c).seen_by_right ≡ c.seen_by_right
 own_seen_after v a r c = grind arith
@@ -116,8 +116,8 @@ module _ (d : Direction) (r peer : ℕ) (old new : Line) (h : Keeps d r peer old
   act_keeps begins_other new_is = grind (arith, begun_other)
   act_keeps (passes_own course in_use) (unit, put, begun, new_is) = grind (arith, own_after)
   act_keeps (passes_other course in_use unit) (ranges, dest, some, new_is) =
-      let f = finding_of (other d) course in_use old.tap unit in
-      let after = theirs_after d (is_applied f) unit (reach_of (Some Two) f) old.tap (no_cc d course in_use old.tap unit h.there) h.there in
+      let f = finding_of (other d) course in_use old.judge unit in
+      let after = theirs_after d (is_applied f) unit (reach_of (Some Two) f) old.judge (no_cc d course in_use old.judge unit h.there) h.there in
       grind (arith, seen_after)
 
 opened_keeps : (d : Direction) (r peer : ℕ) (line : Line) → IsOpened d r peer line → Keeps d r peer line

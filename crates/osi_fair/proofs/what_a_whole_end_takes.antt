@@ -111,21 +111,21 @@ after_early (d ∷ ds) u v us vs (one, more) none e = differ (is_dc d) one (sym 
 
 -- ---- after the unit
 
-module _ (local : Local) (w : Whole) (f : Followed local w) (sane : IsSane w.tap) (peers : AreNamedApart Right w.tap.connections)
+module _ (local : Local) (w : Whole) (f : Followed local w) (sane : IsSane w.judge) (peers : AreNamedApart Right w.judge.connections)
     (t : State) (units : List Value) (u : Value) (later : List Value) (n : ℕ) (come : w.coming ≡ u ∷ later)
     (dest : destination_of u ≡ Some n)
     (rows : (m : ℕ) → (m ≡ n → ⊥) → value_at m t.live ≡ value_at m w.end.live) (class : w.end.class ≡ Some Two → t.class ≡ Some Two)
     (given : w.end.given ≤ t.given) (was : w.end.ended ≡ None)
     (asked_dc : is_dc u ≡ true → value_at n w.end.live ≡ Some asked → value_at n t.live ≡ Some asked)
     (asked_was : value_at n t.live ≡ Some asked → value_at n w.end.live ≡ Some asked)
-    (mine : (p : ℕ) (c : Connection) → slice_get w.tap.connections p ≡ Some c → is_tracked c ≡ true →
-    (g : Following local w.put w.begun w.tap.course.disconnects.strays w.end w.coming c) → g.r ≡ n →
-    Following local (w.put ++ units) w.begun w.tap.course.disconnects.strays t later c)
+    (mine : (p : ℕ) (c : Connection) → slice_get w.judge.connections p ≡ Some c → is_tracked c ≡ true →
+    (g : Following local w.put w.begun w.judge.course.disconnects.strays w.end w.coming c) → g.r ≡ n →
+    Following local (w.put ++ units) w.begun w.judge.course.disconnects.strays t later c)
     (mine_linked : (peer : ℕ) (link : Standing) → value_at n t.live ≡ Some (linked peer link) →
-    Tracked w.tap.connections n × (t.class ≡ Some Two))
-    (owner : Puts w.tap w.end n units) where
+    Tracked w.judge.connections n × (t.class ≡ Some Two))
+    (owner : Puts w.judge w.end n units) where
   abbrev cs : List Connection
-  cs = w.tap.connections
+  cs = w.judge.connections
 
   later_other : (r : ℕ) → (r ≡ n → ⊥) → those r w.coming ≡ those r later
   later_other r other = grind (arith, picked_rest, named_not)
@@ -138,19 +138,19 @@ module _ (local : Local) (w : Whole) (f : Followed local w) (sane : IsSane w.tap
   row_later r peer line other (closes o there q k is all) = closes o (rows r other ∙ there) q k is (sym (later_other r other) ∙ all)
 
   put_by : (p : ℕ) (c : Connection) → slice_get cs p ≡ Some c → is_tracked c ≡ true → (r peer : ℕ) → c.left.reference ≡ r →
-      c.right.reference ≡ peer → (r ≡ n → ⊥) → Puts w.tap w.end n units → ours r peer (w.put ++ units) ≡ ours r peer w.put
+      c.right.reference ≡ peer → (r ≡ n → ⊥) → Puts w.judge w.end n units → ours r peer (w.put ++ units) ≡ ours r peer w.put
   put_by p c at tracked r peer left right other h =
       search (arith, ours, append-nil, picked_join, is_ours, none_ours, one_peer, picked_other, dc_not_ours)
 
   line_other : (p : ℕ) (c : Connection) → slice_get cs p ≡ Some c → is_tracked c ≡ true →
-      (g : Following local w.put w.begun w.tap.course.disconnects.strays w.end w.coming c) → (g.r ≡ n → ⊥) →
-      Following local (w.put ++ units) w.begun w.tap.course.disconnects.strays t later c
+      (g : Following local w.put w.begun w.judge.course.disconnects.strays w.end w.coming c) → (g.r ≡ n → ⊥) →
+      Following local (w.put ++ units) w.begun w.judge.course.disconnects.strays t later c
   line_other p c at tracked g other = followed_at g (put_by p c at tracked g.r g.peer g.left g.right other owner) g.spares
       (leads_more w.begun (is_ours g.r g.peer) w.put units f.some) (row_later g.r g.peer g.line other g.row)
 
   line_by : (p : ℕ) (c : Connection) → slice_get cs p ≡ Some c → is_tracked c ≡ true →
-      (g : Following local w.put w.begun w.tap.course.disconnects.strays w.end w.coming c) → (b : Bool) → (g.r == n) ≡ b →
-      Following local (w.put ++ units) w.begun w.tap.course.disconnects.strays t later c
+      (g : Following local w.put w.begun w.judge.course.disconnects.strays w.end w.coming c) → (b : Bool) → (g.r == n) ≡ b →
+      Following local (w.put ++ units) w.begun w.judge.course.disconnects.strays t later c
   line_by p c at tracked g true e = mine p c at tracked g (eqb-true g.r n e)
   line_by p c at tracked g false e = line_other p c at tracked g (unlike g.r n e)
 
@@ -165,20 +165,20 @@ module _ (local : Local) (w : Whole) (f : Followed local w) (sane : IsSane w.tap
   linked_by m peer link b e h = search (arith, eqb-true, unlike)
 
   abbrev Answered : Type 0
-  Answered = (w.tap.course.loose ≡ false) × (Tracked cs n × (value_at n w.end.live ≡ Some asked)) × (is_dc u ≡ false)
+  Answered = (w.judge.course.loose ≡ false) × (Tracked cs n × (value_at n w.end.live ≡ Some asked)) × (is_dc u ≡ false)
 
   calm_later : Answered → AllByRecursion (λ (v : Value). names n v ≡ true → IsNoCc v) later
   calm_later (firm, ((p, c, at, tracked, is), there), none) =
       let g = f.lines p c at tracked in
       picked_each IsNoCc (names n) later (grind (arith, after_early, differ))
 
-  answer_by : (v : Value) (m : ℕ) (x : Connect) → w.tap.course.loose ≡ false → v ≡ confirm m x →
+  answer_by : (v : Value) (m : ℕ) (x : Connect) → w.judge.course.loose ≡ false → v ≡ confirm m x →
       Tracked cs m × (value_at m w.end.live ≡ Some asked) → (Answered → names n v ≡ true → IsNoCc v) → (b d : Bool) → (m == n) ≡ b →
       is_dc u ≡ d → Tracked cs m × (value_at m t.live ≡ Some asked)
   answer_by v m x firm e h k b d same none = grind (arith, eqb-true, named_so, unlike)
 
-  answer_now : (v : Value) → IsAnswer w.tap.course.loose cs w.end v → (Answered → names n v ≡ true → IsNoCc v) →
-      IsAnswer w.tap.course.loose cs t v
+  answer_now : (v : Value) → IsAnswer w.judge.course.loose cs w.end v → (Answered → names n v ≡ true → IsNoCc v) →
+      IsAnswer w.judge.course.loose cs t v
   answer_now v h k m x e lasts (inl row) = ((h m x e was (inl (grind (arith, eqb-true, unlike)))).0, row)
   answer_now v h k m x e lasts (inr firm) = answer_by v m x firm e (h m x e was (inr firm)) k (m == n) (is_dc u) refl refl
 
@@ -193,7 +193,7 @@ module _ (local : Local) (w : Whole) (f : Followed local w) (sane : IsSane w.tap
             a.row (ap (λ (j : ℕ). value_at j w.end.live) (sym same ∙ ap (λ (h : Half). h.reference) k.left) ∙ k.row was);
         asks = all_join (λ (v : Value). (x : Connect) → v ≡ request x → x.source ≡ n → ⊥) w.put units
             (grind (arith, all_so))
-            (units_ask w.tap w.end n units (λ x. x.source ≡ n → ⊥) owner);
+            (units_ask w.judge w.end n units (λ x. x.source ≡ n → ⊥) owner);
       }
 
   pub taken_so : Followed local (record w { end = t; put = w.put ++ units; coming = later })
@@ -201,14 +201,14 @@ module _ (local : Local) (w : Whole) (f : Followed local w) (sane : IsSane w.tap
     lines = λ i c at tracked.
         let g = f.lines i c at tracked in line_by i c at tracked g (g.r == n) refl;
     waiting = λ i c at waiting. waits_new c (f.waiting i c at waiting);
-    owned = all_join (λ v. IsOwned w.tap v) w.put units f.owned (units_owned w.tap w.end n units owner);
+    owned = all_join (λ v. IsOwned w.judge v) w.put units f.owned (units_owned w.judge w.end n units owner);
     linked = λ lasts m peer link h. linked_by m peer link (m == n) refl h;
-    answers = all_two (λ v. IsAnswer w.tap.course.loose cs w.end v) (λ v. Answered → names n v ≡ true → IsNoCc v)
-        (λ v. IsAnswer w.tap.course.loose cs t v) later answer_now (grind arith)
+    answers = all_two (λ v. IsAnswer w.judge.course.loose cs w.end v) (λ v. Answered → names n v ≡ true → IsNoCc v)
+        (λ v. IsAnswer w.judge.course.loose cs t v) later answer_now (grind arith)
         (all_under Answered (λ v. names n v ≡ true → IsNoCc v) later calm_later);
     requests = all_join (λ v. (x : Connect) → v ≡ request x → IsAsking local t later x) w.put units
         (search (arith, all_so, asking_new))
-        (units_ask w.tap w.end n units (λ x. IsAsking local t later x) owner);
+        (units_ask w.judge w.end n units (λ x. IsAsking local t later x) owner);
     two = f.two;
     silent = f.silent;
     zero = f.zero;
@@ -217,9 +217,9 @@ module _ (local : Local) (w : Whole) (f : Followed local w) (sane : IsSane w.tap
     seen = f.seen;
     settled = all_join (AreSettled cs (w.put ++ units) t.given) w.put units
         (all_so (AreSettled cs w.put w.end.given) (AreSettled cs (w.put ++ units) t.given) w.put
-        (settled_more cs w.put units w.end.given t.given (λ r. units_ask w.tap w.end n units (λ x. x.source ≡ r → ⊥) owner) given)
+        (settled_more cs w.put units w.end.given t.given (λ r. units_ask w.judge w.end n units (λ x. x.source ≡ r → ⊥) owner) given)
         f.settled)
-        (units_settled w.tap w.end (w.put ++ units) t.given n units owner settled_here);
+        (units_settled w.judge w.end (w.put ++ units) t.given n units owner settled_here);
     lost = f.lost;
     shut = λ lasts i c at closed row. f.shut was i c at closed (grind (arith, eqb-true, unlike));
   }

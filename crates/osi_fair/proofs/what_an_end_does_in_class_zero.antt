@@ -29,7 +29,7 @@ pub data IsInZero (limit : ℕ) (s : State) (begun : ℕ) (units : List Value) :
 pub zero_puts : (limit : ℕ) (s : State) (begun : ℕ) (units : List Value) → IsInZero limit s begun units → PutsData limit anyhow begun units
 zero_puts limit s begun units h = grind (arith, puts_still)
 
--- after some units have passed, whatever the tap knows then
+-- after some units have passed, whatever the judge knows then
 pub zero_next : (limit : ℕ) (s : State) (a b : ℕ) (xs ys : List Value) →
     ((e : ℕ → Type 0) → PutsData limit e a xs → PutsData limit e b ys) → IsInZero limit s a xs → IsInZero limit s b ys
 zero_next limit s a b xs ys h (talks r peer link class live plain puts) =

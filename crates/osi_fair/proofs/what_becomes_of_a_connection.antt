@@ -1,4 +1,4 @@
--- What a unit of the other side does to its connection at the tap of a calling end: one that is open stays so, one that waits is
+-- What a unit of the other side does to its connection at the judge of a calling end: one that is open stays so, one that waits is
 -- opened or refused. For the law on a whole end.
 use Rattle.osi_fair.proofs.Vocabulary.{arith, [], ap, Bool, false, if◌then◌else◌, inr, List, None, Option, refl, Some, subst, sym, true, ℕ}
 use Rattle.osi_fair.proofs.Vocabulary.{◌∙◌, ◌∷◌, ◌≡◌, ◌⊎◌, nat_le, not, position, slice_get, ◌==◌, ◌||◌, acknowledge, confirm, Connect}
@@ -15,7 +15,7 @@ use Rattle.osi_fair.proofs.no_two_open_connections_have_one_peer.{left_open, rig
 use Rattle.osi_fair.proofs.each_connection_has_its_line.{is_tracked}
 use Rattle.osi_fair.proofs.what_keeps_names_apart.{Sound}
 use Rattle.osi_fair.proofs.what_stays_of_each_connection.{right_judged, right_own}
-use Rattle.osi_fair.proofs.what_lasts_at_the_tap.{IsCalm, calm_noted}
+use Rattle.osi_fair.proofs.what_lasts_at_the_judge.{IsCalm, calm_noted}
 use Rattle.osi_fair.proofs.what_the_other_side_closes.{not_calm}
 use Rattle.osi_fair.proofs.which_units_are_for_a_connection.{is_dc}
 use Rattle.osi_fair.proofs.while_no_class_is_selected.{named_where}

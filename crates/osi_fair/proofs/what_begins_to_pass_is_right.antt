@@ -5,7 +5,7 @@ use Rattle.osi_fair.proofs.Vocabulary.{Value, fits_size, begins, is_named, is_op
 use Rattle.osi_fair.proofs.small_facts_that_many_lemmas_use.{or_last}
 use Rattle.osi_fair.proofs.what_is_right_passes_each_test.{is_right}
 use Rattle.osi_fair.proofs.units_in_flight.{Puts}
-use Rattle.osi_fair.proofs.what_holds_of_a_line.{Tally, Ordered, bounds_of, is_there, tapped}
+use Rattle.osi_fair.proofs.what_holds_of_a_line.{Tally, Ordered, bounds_of, is_there, as_judged}
 use Rattle.osi_fair.proofs.how_a_connection_opens.{both, or_left}
 
 -- ---- phases
@@ -22,13 +22,13 @@ fits_so : (size : Option ℕ) (limit octets : ℕ) → IfSome size (λ most. lim
     fits_size size (octets + 5) ≡ true
 fits_so size limit octets h k = grind (arith, le-leb)
 
-module _ (r peer limit : ℕ) (x : Tally) (noted : ℕ) (tap : Connection) (o : Ordered x noted) (t : tapped r peer limit x noted tap)
-    (live : is_open tap.left.phase ≡ true) where
+module _ (r peer limit : ℕ) (x : Tally) (noted : ℕ) (judge : Connection) (o : Ordered x noted) (t : as_judged r peer limit x noted judge)
+    (live : is_open judge.left.phase ≡ true) where
   abbrev known : Connection
-  known = begins Left tap
+  known = begins Left judge
 
   -- whether the end has closed the connection or not
   pub first_right : (closed : Bool) (e : ℕ → ℕ → Type 0) (put : List Value) → put ≢ [] →
-      Puts (bounds_of r peer limit x closed tap.right) e x.passed x.shown tap.left.begun put → IsRightNow Left known put
+      Puts (bounds_of r peer limit x closed judge.right) e x.passed x.shown judge.left.begun put → IsRightNow Left known put
   first_right closed e put some h =
       grind (arith, is_named_so, lt-ltb, is_right, not_silent, eq-eqb, le-leb, fits_so, or_last, both, or_left)

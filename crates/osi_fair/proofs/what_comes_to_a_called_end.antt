@@ -1,4 +1,4 @@
--- What the other side sends passes at the tap of a whole called end: a CR, whose connection waits for its answer then, or another unit.
+-- What the other side sends passes at the judge of a whole called end: a CR, whose connection waits for its answer then, or another unit.
 -- For the law on a whole called end.
 use Rattle.osi_fair.proofs.Vocabulary.{[], ap, arith, Bool, false, if◌then◌else◌, inl, inr, length, List, None, Option, refl, set, Some}
 use Rattle.osi_fair.proofs.Vocabulary.{subst, suc, sym, true, zero, ℕ, ◌++◌, ◌∙◌, ◌∷◌, ◌≡◌, ◌≤◌, ◌⊎◌, eqb-true, append-nil, position}
@@ -53,25 +53,25 @@ not_zero k l h = grind arith
 
 -- ---- a CR
 
-module _ (local : Local) (w : Whole) (f : Called local w) (apart : AreApart w.tap.connections)
-    (named : AreNamedApart Left w.tap.connections) (v : Value) (ranges : HasFieldsInRange v)
-    (calm_after : IsCalm (takes Left v w.tap).state.course) where
+module _ (local : Local) (w : Whole) (f : Called local w) (apart : AreApart w.judge.connections)
+    (named : AreNamedApart Left w.judge.connections) (v : Value) (ranges : HasFieldsInRange v)
+    (calm_after : IsCalm (takes Left v w.judge).state.course) where
   abbrev cs : List Connection
-  cs = w.tap.connections
+  cs = w.judge.connections
 
   abbrev more : List Value
   more = w.coming ++ v ∷ []
 
   abbrev after : Whole
-  after = record w { tap = (takes Left v w.tap).state; coming = more }
+  after = record w { judge = (takes Left v w.judge).state; coming = more }
 
-  module _ (x : Connect) (v_is : v ≡ request x) (is : takes Left v w.tap ≡ asks_kept x w.tap (position is_free cs)) where
+  module _ (x : Connect) (v_is : v ≡ request x) (is : takes Left v w.judge ≡ asks_kept x w.judge (position is_free cs)) where
     no_name : (r : ℕ) → names r v ≡ false
     no_name r = ap (λ (u : Value). names r u) v_is
 
     -- the place that it gets
     record Free (p : ℕ) (all : List Connection) : Type 0 where
-      conns : (takes Left v w.tap).state.connections ≡ all
+      conns : (takes Left v w.judge).state.connections ≡ all
       new : slice_get all p ≡ Some (asked_by x)
       item : (i : ℕ) (c : Connection) → slice_get all i ≡ Some c → ((i ≡ p) × (c ≡ asked_by x)) ⊎ ((i ≡ p → ⊥) × (slice_get cs i ≡ Some c))
       none : (i : ℕ) → slice_get all i ≡ None → (i ≡ p → ⊥) × (slice_get cs i ≡ None)
@@ -84,9 +84,9 @@ module _ (local : Local) (w : Whole) (f : Called local w) (apart : AreApart w.ta
     busy_open p c at g h =
         let judged = and_first c.is_judged (is_over_by c.left c.seen_by_left) h in
         let s = apart.sound p c at judged in
-        let held = run_holds g.r g.peer g.first g.line g.acts g.opened g.along (ap (λ (y : Connection). y.is_judged) g.tap ∙ judged) in
+        let held = run_holds g.r g.peer g.first g.line g.acts g.opened g.along (ap (λ (y : Connection). y.is_judged) g.judge ∙ judged) in
         absurd (open_over c.left.phase c.seen_by_left.phase c.right.phase g.there
-        (ap (λ (y : Connection). is_there y.left.phase) (sym g.tap) ∙ held.taps.there) s.left_knows.refused s.left_knows.closing
+        (ap (λ (y : Connection). is_there y.left.phase) (sym g.judge) ∙ held.judges.there) s.left_knows.refused s.left_knows.closing
         s.left_knows.closed s.left_closed (and_second c.is_judged (is_over_by c.left c.seen_by_left) h))
 
     abbrev Idle : ℕ → Type 0
@@ -168,18 +168,18 @@ module _ (local : Local) (w : Whole) (f : Called local w) (apart : AreApart w.ta
       top_case i c h = grind arith
 
       two_case : (i : ℕ) (c : Connection) → ((i ≡ p) × (c ≡ asked_by x)) ⊎ ((i ≡ p → ⊥) × (slice_get cs i ≡ Some c)) →
-          is_open c.right.phase ≡ true → (takes Left v w.tap).state.course.class ≡ Some Two
+          is_open c.right.phase ≡ true → (takes Left v w.judge).state.course.class ≡ Some Two
       two_case i c h up = grind (arith, lasts)
 
-      course_so : (takes Left v w.tap).state.course ≡ w.tap.course
+      course_so : (takes Left v w.judge).state.course ≡ w.judge.course
       course_so = ap (λ (o : Outcome). o.state.course) is
 
       linked_case : (r peer : ℕ) (l : Standing) → w.end.ended ≡ None → value_at r w.end.live ≡ Some (linked peer l) → (b : Bool) →
           (f.home r == p) ≡ b → refs (f.home r) ≡ Some r
       linked_case r peer l lasts there b e = search (arith, eqb-true)
 
-      strays_case : (ts : List Placed) → AreStrays f.shut w.end f.refs f.home w.tap.course.disconnects.strays ts →
-          AreStrays f.shut w.end (λ i. refs i) f.home w.tap.course.disconnects.strays ts
+      strays_case : (ts : List Placed) → AreStrays f.shut w.end f.refs f.home w.judge.course.disconnects.strays ts →
+          AreStrays f.shut w.end (λ i. refs i) f.home w.judge.course.disconnects.strays ts
       strays_case [] h = tt
       strays_case ((None, u) ∷ ts) (one, rest) = search (arith, old_ref, strays_case ts rest)
       strays_case ((Some i, u) ∷ ts) (one, rest) = (tt, strays_case ts rest)
@@ -188,7 +188,7 @@ module _ (local : Local) (w : Whole) (f : Called local w) (apart : AreApart w.ta
           ((i ≡ p) × (c ≡ asked_by x)) ⊎ ((i ≡ p → ⊥) × (slice_get cs i ≡ Some c)) → c.is_judged ≡ true → is_open c.left.phase ≡ true →
           is_open c.right.phase ≡ true → IsHeld w.end w.coming c.right.reference
       held_case h i c (inl (same, so)) j a b = absurd (cc (sym (ap (λ (y : Connection). is_open y.right.phase) so) ∙ b))
-      held_case h i c (inr (other, there)) j a b = h.taps i c there j a b
+      held_case h i c (inr (other, there)) j a b = h.judges i c there j a b
 
       at_free : Called local after
       at_free = record {
@@ -222,7 +222,7 @@ module _ (local : Local) (w : Whole) (f : Called local w) (apart : AreApart w.ta
         untagged = all_add Untagged f.came (Some p, v) f.untagged (λ h. absurd (cc h));
         timely = λ none last.
             let h = f.timely ((lasts local w f apart named v ranges calm_after).strays none) last in
-            timely_comes w.end w.coming cs (takes Left v w.tap).state.connections (values f.tagged) v (ap shuts_of v_is) (ap dr_for v_is)
+            timely_comes w.end w.coming cs (takes Left v w.judge).state.connections (values f.tagged) v (ap shuts_of v_is) (ap dr_for v_is)
             (λ i c at j a b. held_case h i c (free.item i c (ap (λ (l : List Connection). slice_get l i) (sym free.conns) ∙ at)) j a b) h;
       }
 
@@ -231,19 +231,19 @@ module _ (local : Local) (w : Whole) (f : Called local w) (apart : AreApart w.ta
     by_place (Some p) e =
         let (c, at) = first_there is_free cs p p (asked_by x) e in at_free p (set cs p (asked_by x)) (free_at p c at e)
 
-    names_asked : first_failed (request_tests w.tap x) ≡ Kept → AreNamedApart Left (takes Left v w.tap).state.connections
+    names_asked : first_failed (request_tests w.judge x) ≡ Kept → AreNamedApart Left (takes Left v w.judge).state.connections
     names_asked kept = grind (arith, passes_each, left_asked, not_true)
 
   -- ---- any unit
 
   abbrev AllAfter : Type 0
-  AllAfter = Called local after × AreNamedApart Left after.tap.connections
+  AllAfter = Called local after × AreNamedApart Left after.judge.connections
 
-  by_came : Came v w.tap (takes Left v w.tap) → AllAfter
+  by_came : Came v w.judge (takes Left v w.judge) → AllAfter
   by_came (asks_so x e class kept is) = (by_place x e is (position is_free cs) refl, names_asked x e is kept)
   by_came (for_one n q c dest at name is) = search (arith, for_one_so, names_after)
-  by_came (only q c at class is) = not_zero w.tap.course.class_seen f.class_seen class
-  by_came (lost dc may same) = grind (arith, is_lost, may_strays Left w.tap.course.disconnects may)
+  by_came (only q c at class is) = not_zero w.judge.course.class_seen f.class_seen class
+  by_came (lost dc may same) = grind (arith, is_lost, may_strays Left w.judge.course.disconnects may)
 
-  pub comes_so : w.tap.course.right_erred ≡ false → AllAfter
+  pub comes_so : w.judge.course.right_erred ≡ false → AllAfter
   comes_so fine = search (arith, by_came, came_so, calm local w f apart named v ranges calm_after)

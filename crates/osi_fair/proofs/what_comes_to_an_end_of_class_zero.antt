@@ -1,4 +1,4 @@
--- A unit of the other side passes at the tap of a called end that has selected class 0: right has sent what it had.
+-- A unit of the other side passes at the judge of a called end that has selected class 0: right has sent what it had.
 -- For the law on a whole called end.
 use Rattle.osi_fair.proofs.Vocabulary.{[], ap, Bool, false, IfSome, if◌then◌else◌, inl, inr, List, None, Option, refl, set, Some, subst}
 use Rattle.osi_fair.proofs.Vocabulary.{suc, sym, true, zero, ℕ, ◌++◌, ◌+◌, ◌∙◌, ◌∷◌, ◌≡◌, ◌≤◌, ◌⊎◌, eqb-true, list_all, not, slice_get}
@@ -16,7 +16,7 @@ use Rattle.osi_fair.proofs.what_comes_to_a_called_end.{open_over}
 use Rattle.osi_fair.proofs.what_holds_of_a_line.{is_there}
 use Rattle.osi_fair.proofs.what_holds_of_one_item.{HoldsOfEach}
 use Rattle.osi_fair.proofs.what_keeps_names_apart.{AreApart}
-use Rattle.osi_fair.proofs.what_lasts_at_the_tap.{lasts_passing}
+use Rattle.osi_fair.proofs.what_lasts_at_the_judge.{lasts_passing}
 use Rattle.osi_fair.proofs.what_stays_of_each_connection.{left_judged, right_then}
 use Rattle.osi_fair.proofs.which_unit_comes_to_a_called_end.{Came, IsCalm, asks_so, calm_before, came_so, for_one, lost, only}
 use Rattle.osi_fair.proofs.while_no_class_is_selected.{after_change, set_there}
@@ -51,15 +51,15 @@ cr_by seen all ts e h = grind arith
 pub reached_seen : (r : Reach) (c : Course) → (reached Left r c).class_seen ≡ c.class_seen
 reached_seen r c = grind arith
 
-module _ (w : Whole) (apart : AreApart w.tap.connections) (judged : HoldsOfEach IsJudged w.tap.connections) (v : Value) where
+module _ (w : Whole) (apart : AreApart w.judge.connections) (judged : HoldsOfEach IsJudged w.judge.connections) (v : Value) where
   abbrev cs : List Connection
-  cs = w.tap.connections
+  cs = w.judge.connections
 
   abbrev after : Whole
-  after = record w { tap = (takes Left v w.tap).state; coming = w.coming ++ v ∷ [] }
+  after = record w { judge = (takes Left v w.judge).state; coming = w.coming ++ v ∷ [] }
 
-  calm : IsCalm (takes Left v w.tap).state.course → IsCalm w.tap.course
-  calm calm_after = calm_before w.tap.course (takes Left v w.tap).state.course (lasts_passing (passing Left v) w.tap) calm_after
+  calm : IsCalm (takes Left v w.judge).state.course → IsCalm w.judge.course
+  calm calm_after = calm_before w.judge.course (takes Left v w.judge).state.course (lasts_passing (passing Left v) w.judge) calm_after
 
   -- a connection that left has not refused, and right has neither, is not over for left
   not_over : (p : ℕ) (c : Connection) → slice_get cs p ≡ Some c → is_there c.left.phase ≡ true → is_open c.right.phase ≡ true →
@@ -70,29 +70,29 @@ module _ (w : Whole) (apart : AreApart w.tap.connections) (judged : HoldsOfEach 
       s.left_closed (and_second c.is_judged (is_over_by c.left c.seen_by_left) h)
 
   -- no other CR is right while one waits
-  cr_not : {A : Type 0} (x : Connect) → first_failed (request_tests w.tap x) ≡ Kept → w.tap.course.class_seen ≡ None →
+  cr_not : {A : Type 0} (x : Connect) → first_failed (request_tests w.judge x) ≡ Kept → w.judge.course.class_seen ≡ None →
       (p : ℕ) (c : Connection) →
       slice_get cs p ≡ Some c → (is_over Left c ≡ true → ⊥) → A
   cr_not x kept none p c at live = grind (arith, all_there, cr_by)
 
   -- a unit for one connection
-  module _ (q : ℕ) (e : Connection) (at : slice_get cs q ≡ Some e) (is : takes Left v w.tap ≡ one_told Left q e v w.tap) where
+  module _ (q : ℕ) (e : Connection) (at : slice_get cs q ≡ Some e) (is : takes Left v w.judge ≡ one_told Left q e v w.judge) where
     abbrev found_so : Finding
-    found_so = found_on Left w.tap e v
+    found_so = found_on Left w.judge e v
 
     abbrev far : Reach
-    far = reach_of w.tap.course.class_seen found_so
+    far = reach_of w.judge.course.class_seen found_so
 
     abbrev next : Connection
     next = connection_after Left v (is_applied found_so) far e
 
-    conns : (takes Left v w.tap).state.connections ≡ set cs q next
+    conns : (takes Left v w.judge).state.connections ≡ set cs q next
     conns = ap (λ (o : Outcome). o.state.connections) is
 
     next_right : next.right ≡ e.right
     next_right = right_then v (is_applied found_so) far e
 
-    item : (i : ℕ) (y : Connection) → slice_get (takes Left v w.tap).state.connections i ≡ Some y →
+    item : (i : ℕ) (y : Connection) → slice_get (takes Left v w.judge).state.connections i ≡ Some y →
         ((i ≡ q) × (y ≡ next)) ⊎ ((i ≡ q → ⊥) × (slice_get cs i ≡ Some y))
     item i y h = after_change cs q i next y (ap (λ (l : List Connection). slice_get l i) (sym conns) ∙ h)
 
@@ -115,7 +115,7 @@ module _ (w : Whole) (apart : AreApart w.tap.connections) (judged : HoldsOfEach 
       more = f.more;
       put = f.put;
       seen = f.seen;
-      class = left_class v w.tap ∙ f.class;
+      class = left_class v w.judge ∙ f.class;
       class_seen = (grind (arith, reached_seen)) ∙ f.class_seen;
       unused = λ i y there same.
           let (z, was, right) = was_right i y (item i y there) in f.unused i z was (ap (λ (h : Half). h.reference) (sym right) ∙ same);
@@ -126,7 +126,7 @@ module _ (w : Whole) (apart : AreApart w.tap.connections) (judged : HoldsOfEach 
     }
 
     -- the connection of class 0
-    one_there : (f : Selected w) (b : Bool) → (f.p == q) ≡ b → (y : Connection) × (slice_get (takes Left v w.tap).state.connections
+    one_there : (f : Selected w) (b : Bool) → (f.p == q) ≡ b → (y : Connection) × (slice_get (takes Left v w.judge).state.connections
         f.p ≡ Some y)
         × (y.right ≡ f.c.right) × (y.size ≡ f.c.size) × (is_there y.left.phase ≡ true)
     one_there f true h =
@@ -135,8 +135,8 @@ module _ (w : Whole) (apart : AreApart w.tap.connections) (judged : HoldsOfEach 
           next,
           ap (λ (l : List Connection). slice_get l f.p) conns ∙ ap (λ (j : ℕ). slice_get (set cs q next) j) same ∙ set_there cs q next e at,
           next_right ∙ ap (λ (z : Connection). z.right) c_is,
-          size_after w.tap e v (is_applied found_so) far refl ∙ ap (λ (z : Connection). z.size) c_is,
-          there_after w.tap e v (is_applied found_so) far refl (grind (arith, is_there)),
+          size_after w.judge e v (is_applied found_so) far refl ∙ ap (λ (z : Connection). z.size) c_is,
+          there_after w.judge e v (is_applied found_so) far refl (grind (arith, is_there)),
         )
     one_there f false h = search (arith, conns, set_other, unlike)
 
@@ -150,7 +150,7 @@ module _ (w : Whole) (apart : AreApart w.tap.connections) (judged : HoldsOfEach 
           at = there;
           up = ap (λ (h : Half). is_open h.phase) right ∙ f.up;
           there = left;
-          class = left_class v w.tap ∙ f.class;
+          class = left_class v w.judge ∙ f.class;
           class_seen = subst (λ (k : Option Class). (k ≡ None) ⊎ (k ≡ Some Zero)) (sym (grind (arith, reached_seen))) f.class_seen;
           fits = subst (λ (o : Option ℕ). IfSome o (λ most. f.limit + 3 ≤ most)) (sym size) f.fits;
           others = λ i z here not_p.
@@ -160,34 +160,34 @@ module _ (w : Whole) (apart : AreApart w.tap.connections) (judged : HoldsOfEach 
         }
 
   -- a unit that changes nothing
-  selecting_same : (local : Local) → (takes Left v w.tap).state ≡ w.tap → Selecting local w → Selecting local after
-  selecting_same local same f = subst (λ (s : Traffic). Selecting local (record w { tap = s; coming = w.coming ++ v ∷ [] })) (sym same)
+  selecting_same : (local : Local) → (takes Left v w.judge).state ≡ w.judge → Selecting local w → Selecting local after
+  selecting_same local same f = subst (λ (s : Traffic). Selecting local (record w { judge = s; coming = w.coming ++ v ∷ [] })) (sym same)
       (search arith)
 
-  selected_same : (takes Left v w.tap).state ≡ w.tap → Selected w → Selected after
-  selected_same same f = subst (λ (s : Traffic). Selected (record w { tap = s; coming = w.coming ++ v ∷ [] })) (sym same) (search arith)
+  selected_same : (takes Left v w.judge).state ≡ w.judge → Selected w → Selected after
+  selected_same same f = subst (λ (s : Traffic). Selected (record w { judge = s; coming = w.coming ++ v ∷ [] })) (sym same) (search arith)
 
-  selecting_by : (local : Local) (f : Selecting local w) → Came v w.tap (takes Left v w.tap) → Selecting local after
+  selecting_by : (local : Local) (f : Selecting local w) → Came v w.judge (takes Left v w.judge) → Selecting local after
   selecting_by local f (asks_so x e class kept is) = cr_not x kept f.class_seen f.p f.c f.at (grind (arith, differ, and_second))
   selecting_by local f (for_one n q e dest at named is) = selecting_one q e at is local f (grind (arith, item_is, named_not, differ))
   selecting_by local f (only q e at seen is) = grind arith
   selecting_by local f (lost dc may same) = selecting_same local same f
 
-  asks_zero : (f : Selected w) (x : Connect) → (w.tap.course.class_seen ≡ Some Zero → ⊥) →
-      first_failed (request_tests w.tap x) ≡ Kept → (w.tap.course.class_seen ≡ None) ⊎ (w.tap.course.class_seen ≡ Some Zero) →
+  asks_zero : (f : Selected w) (x : Connect) → (w.judge.course.class_seen ≡ Some Zero → ⊥) →
+      first_failed (request_tests w.judge x) ≡ Kept → (w.judge.course.class_seen ≡ None) ⊎ (w.judge.course.class_seen ≡ Some Zero) →
       Selected after
   asks_zero f x class kept (inl none) = cr_not x kept none f.p f.c f.at (not_over f.p f.c f.at f.there f.up)
   asks_zero f x class kept (inr seen) = absurd (class seen)
 
-  selected_by_came : (f : Selected w) → Came v w.tap (takes Left v w.tap) → Selected after
+  selected_by_came : (f : Selected w) → Came v w.judge (takes Left v w.judge) → Selected after
   selected_by_came f (asks_so x e class kept is) = asks_zero f x class kept f.class_seen
   selected_by_came f (for_one n q e dest at named is) = selected_one q e at is f
   selected_by_came f (only q e at seen is) = selected_one q e at is f
   selected_by_came f (lost dc may same) = selected_same same f
 
-  pub selecting_comes : w.tap.course.right_erred ≡ false → IsCalm (takes Left v w.tap).state.course → (local : Local) →
+  pub selecting_comes : w.judge.course.right_erred ≡ false → IsCalm (takes Left v w.judge).state.course → (local : Local) →
       Selecting local w → Selecting local after
   selecting_comes fine after_it local f = search (arith, selecting_by, came_so, calm after_it)
 
-  pub selected_comes : w.tap.course.right_erred ≡ false → IsCalm (takes Left v w.tap).state.course → Selected w → Selected after
+  pub selected_comes : w.judge.course.right_erred ≡ false → IsCalm (takes Left v w.judge).state.course → Selected w → Selected after
   selected_comes fine after_it f = search (arith, selected_by_came, came_so, calm after_it)

@@ -9,7 +9,7 @@ use Rattle.osi_fair.proofs.Vocabulary.{after_finding, finding_of, Line, passes_o
 use Rattle.osi_rules.specs.declared.findings.Reach.TheVariants as reach
 use Rattle.osi_rules.specs.declared.findings.Rule.TheVariants as rule
 use Rattle.osi_fair.proofs.small_facts_that_many_lemmas_use.{and_first, and_second}
-use Rattle.osi_fair.proofs.what_holds_of_a_line.{Tally, Ordered, PutsAt, TakesAt, Holds, is_there, tapped}
+use Rattle.osi_fair.proofs.what_holds_of_a_line.{Tally, Ordered, PutsAt, TakesAt, Holds, is_there, as_judged}
 use Rattle.osi_fair.proofs.what_passes_of_the_other_side.{Went, goes_same, data_goes, ack_goes, ends_goes}
 
 -- ---- what comes of a finding
@@ -89,55 +89,55 @@ never live h k = cc
 
 -- ---- each kind of unit
 
-module _ (r peer limit : ℕ) (x : Tally) (noted : ℕ) (tap : Connection) (put coming : List Value) (link : Option Standing)
-    (o : Ordered x noted) (t : tapped r peer limit x noted tap) (p : PutsAt r peer limit x tap.left tap.right put link)
-    (k : TakesAt limit x tap.right coming link) where
+module _ (r peer limit : ℕ) (x : Tally) (noted : ℕ) (judge : Connection) (put coming : List Value) (link : Option Standing)
+    (o : Ordered x noted) (t : as_judged r peer limit x noted judge) (p : PutsAt r peer limit x judge.left judge.right put link)
+    (k : TakesAt limit x judge.right coming link) where
   abbrev Goes : Value → Connection → Type 0
-  Goes unit after = Went r peer limit x noted tap after put (coming ++ unit ∷ []) link
+  Goes unit after = Went r peer limit x noted judge after put (coming ++ unit ∷ []) link
 
-  closed_goes : (unit : Value) (f : Finding) → is_open tap.right.phase ≡ false → Leaves f → Goes unit (after_finding Right f unit tap)
-  closed_goes unit f closed leaves = grind (arith, goes_same, never, left_after f unit tap leaves)
+  closed_goes : (unit : Value) (f : Finding) → is_open judge.right.phase ≡ false → Leaves f → Goes unit (after_finding Right f unit judge)
+  closed_goes unit f closed leaves = grind (arith, goes_same, never, left_after f unit judge leaves)
 
-  data_by : (destination number : ℕ) (end : Bool) (user : List ℕ) (f : Finding) → Fate (is_open tap.right.phase) (is_tellable Right tap) f →
-      reach_of (Some Two) f ≢ reach.Everything → (after_finding Right f (data2 destination number end user) tap).is_judged ≡ true →
-      Goes (data2 destination number end user) (after_finding Right f (data2 destination number end user) tap)
+  data_by : (destination number : ℕ) (end : Bool) (user : List ℕ) (f : Finding) → Fate (is_open judge.right.phase) (is_tellable Right judge) f →
+      reach_of (Some Two) f ≢ reach.Everything → (after_finding Right f (data2 destination number end user) judge).is_judged ≡ true →
+      Goes (data2 destination number end user) (after_finding Right f (data2 destination number end user) judge)
   data_by destination number end user f (inl e) some judged = absurd (some e)
   data_by destination number end user f (inr (inl (closed, leaves))) some judged = grind (arith, closed_goes)
   data_by destination number end user f (inr (inr (inl loses))) some judged = grind (arith, lost_after)
   data_by destination number end user f (inr (inr (inr (live, tells, applies)))) some judged =
       subst (λ (c : Connection). Goes (data2 destination number end user) c)
-      (applied_after f (data2 destination number end user) tap applies)
-      (data_goes r peer limit x noted tap put coming link o t p k destination number end user tells)
+      (applied_after f (data2 destination number end user) judge applies)
+      (data_goes r peer limit x noted judge put coming link o t p k destination number end user tells)
 
   ack_by : (credit destination number : ℕ) (f : Finding) → number < 128 → credit < 16 →
-      Fate (is_open tap.right.phase) (has_passed Right tap number && keeps_credit Right tap number credit) f →
-      reach_of (Some Two) f ≢ reach.Everything → (after_finding Right f (acknowledge credit destination number) tap).is_judged ≡ true →
-      Goes (acknowledge credit destination number) (after_finding Right f (acknowledge credit destination number) tap)
+      Fate (is_open judge.right.phase) (has_passed Right judge number && keeps_credit Right judge number credit) f →
+      reach_of (Some Two) f ≢ reach.Everything → (after_finding Right f (acknowledge credit destination number) judge).is_judged ≡ true →
+      Goes (acknowledge credit destination number) (after_finding Right f (acknowledge credit destination number) judge)
   ack_by credit destination number f small little (inl e) some judged = absurd (some e)
   ack_by credit destination number f small little (inr (inl (closed, leaves))) some judged = grind (arith, closed_goes)
   ack_by credit destination number f small little (inr (inr (inl loses))) some judged = grind (arith, lost_after)
   ack_by credit destination number f small little (inr (inr (inr (live, tells, applies)))) some judged =
       subst (λ (c : Connection). Goes (acknowledge credit destination number) c)
-      (applied_after f (acknowledge credit destination number) tap applies)
+      (applied_after f (acknowledge credit destination number) judge applies)
       (grind (arith, ack_goes, and_first, and_second))
 
   -- a DR
-  disconnect_goes : (destination source reason : ℕ) (user : List ℕ) → is_open tap.right.phase ≡ true → is_silent tap.right.phase ≡ false →
-      Goes (disconnect destination source reason user) (sent_on Right (disconnect destination source reason user) tap)
+  disconnect_goes : (destination source reason : ℕ) (user : List ℕ) → is_open judge.right.phase ≡ true → is_silent judge.right.phase ≡ false →
+      Goes (disconnect destination source reason user) (sent_on Right (disconnect destination source reason user) judge)
   disconnect_goes destination source reason user live silent = grind (arith, ends_goes)
 
   -- a DC
-  disconnected_by : (destination source : ℕ) (f : Finding) → (Leaves f) ⊎ (Loses f ⊎ ((is_due Right tap source ≡ true) × Applies f)) →
-      (after_finding Right f (disconnected destination source) tap).is_judged ≡ true →
-      Goes (disconnected destination source) (after_finding Right f (disconnected destination source) tap)
+  disconnected_by : (destination source : ℕ) (f : Finding) → (Leaves f) ⊎ (Loses f ⊎ ((is_due Right judge source ≡ true) × Applies f)) →
+      (after_finding Right f (disconnected destination source) judge).is_judged ≡ true →
+      Goes (disconnected destination source) (after_finding Right f (disconnected destination source) judge)
   disconnected_by destination source f (inl leaves) judged = grind (arith, left_after, goes_same)
-  disconnected_by destination source f (inr (inl loses)) judged = absurd (lost_after f (disconnected destination source) tap loses judged)
+  disconnected_by destination source f (inr (inl loses)) judged = absurd (lost_after f (disconnected destination source) judge loses judged)
   disconnected_by destination source f (inr (inr (due, applies))) judged = grind (arith, and_first, applied_after, ends_goes, not_closing)
 
   pub unit_goes : (course : Course) (in_use : Bool) (unit : Value) → HasFieldsInRange unit → destination_of unit ≡ Some r →
-      reach_of (Some Two) (found Right course in_use tap unit) ≢ reach.Everything →
-      (after_finding Right (found Right course in_use tap unit) unit tap).is_judged ≡ true →
-      Goes unit (after_finding Right (found Right course in_use tap unit) unit tap)
+      reach_of (Some Two) (found Right course in_use judge unit) ≢ reach.Everything →
+      (after_finding Right (found Right course in_use judge unit) unit judge).is_judged ≡ true →
+      Goes unit (after_finding Right (found Right course in_use judge unit) unit judge)
   unit_goes course in_use (confirm destination c) range named some judged =
       grind (arith, first_fails, there_not_silent, lost_after, loses_as)
   unit_goes course in_use (error destination cause) range named some judged =
@@ -150,21 +150,21 @@ module _ (r peer limit : ℕ) (x : Tally) (noted : ℕ) (tap : Connection) (put 
   unit_goes course in_use (acknowledge credit destination number) range named some judged = grind (arith, ack_by, ack_fate)
   unit_goes course in_use _ range named some judged = absurd (cc)
 
-judged_finding : (course : Course) (in_use : Bool) (tap : Connection) (unit : Value) → tap.is_judged ≡ true →
-    finding_of Right course in_use tap unit ≡ found Right course in_use tap unit
-judged_finding course in_use tap unit judged = ap (λ (b : Bool). if b then found Right course in_use tap unit else NotJudged) judged
+judged_finding : (course : Course) (in_use : Bool) (judge : Connection) (unit : Value) → judge.is_judged ≡ true →
+    finding_of Right course in_use judge unit ≡ found Right course in_use judge unit
+judged_finding course in_use judge unit judged = ap (λ (b : Bool). if b then found Right course in_use judge unit else NotJudged) judged
 
 pub passes_other_holds : (r peer : ℕ) (course : Course) (in_use : Bool) (unit : Value) (old new : Line) →
-    Acts Left r peer (passes_other course in_use unit) old new → old.tap.is_judged ≡ true → new.tap.is_judged ≡ true → Holds r peer old →
+    Acts Left r peer (passes_other course in_use unit) old new → old.judge.is_judged ≡ true → new.judge.is_judged ≡ true → Holds r peer old →
     Holds r peer new
 passes_other_holds r peer course in_use unit old new (range, named, some, new_is) was judged h =
-    let f = found Right course in_use old.tap unit in
-    let is = judged_finding course in_use old.tap unit was in
+    let f = found Right course in_use old.judge unit in
+    let is = judged_finding course in_use old.judge unit was in
     let stop : reach_of (Some Two) f ≢ reach.Everything = subst (λ (g : Finding). reach_of (Some Two) g ≢ reach.Everything) is some in
-    let after : new ≡ record old { tap = after_finding Right f unit old.tap; coming = old.coming ++ unit ∷ [] } = new_is
-    ∙ ap (λ (g : Finding). record old { tap = after_finding Right g unit old.tap; coming = old.coming ++ unit ∷ [] }) is in
-    let still : (after_finding Right f unit old.tap).is_judged ≡ true = sym (ap (λ (l : Line). l.tap.is_judged) after) ∙ judged in
-    let w = unit_goes r peer h.limit h.tally h.noted old.tap old.put old.coming old.link h.ordered h.taps h.puts h.takes course in_use unit
+    let after : new ≡ record old { judge = after_finding Right f unit old.judge; coming = old.coming ++ unit ∷ [] } = new_is
+    ∙ ap (λ (g : Finding). record old { judge = after_finding Right g unit old.judge; coming = old.coming ++ unit ∷ [] }) is in
+    let still : (after_finding Right f unit old.judge).is_judged ≡ true = sym (ap (λ (l : Line). l.judge.is_judged) after) ∙ judged in
+    let w = unit_goes r peer h.limit h.tally h.noted old.judge old.put old.coming old.link h.ordered h.judges h.puts h.takes course in_use unit
     range named stop still in
     subst (λ (l : Line). Holds r peer l) (sym after)
     (record {
@@ -172,7 +172,7 @@ passes_other_holds r peer course in_use unit old new (range, named, some, new_is
       tally = record h.tally { came = w.came; heard = w.heard; edge = w.edge };
       noted = h.noted;
       ordered = w.ordered;
-      taps = w.taps;
+      judges = w.judges;
       puts = w.puts;
       takes = w.takes;
       under_way = λ b. w.under_way (h.under_way b);

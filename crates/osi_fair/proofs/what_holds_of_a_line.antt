@@ -1,5 +1,5 @@
 -- What holds of a line all the time, as long as its connection is judged.
--- For the laws on a line. The end is left: right is the same with the sides of the tap exchanged.
+-- For the laws on a line. The end is left: right is the same with the sides of the judge exchanged.
 use Rattle.osi_fair.proofs.Vocabulary.{[], Bool, false, IfSome, List, None, Option, Some, true, ℕ, ◌%◌, ◌+◌, ◌∷◌, ◌≡◌, ◌≤◌, not, ◌&&◌}
 use Rattle.osi_fair.proofs.Vocabulary.{Value, Flow, Standing, is_closing, is_open, is_refused, is_silent, Connection, Left, Half, Phase}
 use Rattle.osi_fair.proofs.Vocabulary.{IsRightNow, Line}
@@ -23,8 +23,8 @@ pub record Tally : Type 0 where
 abbrev pub is_there : Phase → Bool
 is_there phase = not (is_silent phase) && not (is_refused phase)
 
--- The tap knows these numbers. `noted`: what this side had sent when the other's packet began.
-pub record Tapped (r peer limit passed shown came heard edge window noted : ℕ) (mine theirs known : Half) (size : Option ℕ) : Type 0 where
+-- The judge knows these numbers. `noted`: what this side had sent when the other's packet began.
+pub record AsJudged (r peer limit passed shown came heard edge window noted : ℕ) (mine theirs known : Half) (size : Option ℕ) : Type 0 where
   pub next : mine.next ≡ passed % 128
   pub awaited : mine.awaited ≡ shown % 128
   pub credit : mine.credit ≡ window
@@ -47,9 +47,9 @@ pub record Ordered (x : Tally) (noted : ℕ) : Type 0 where
   pub acked_came : x.acked ≤ x.came
   pub tellable : x.came ≤ x.shown + 127
 
-abbrev pub tapped : (r peer limit : ℕ) → Tally → (noted : ℕ) → Connection → Type 0
-tapped r peer limit x noted tap =
-    Tapped r peer limit x.passed x.shown x.came x.heard x.edge x.window noted tap.left tap.right tap.seen_by_right tap.size
+abbrev pub as_judged : (r peer limit : ℕ) → Tally → (noted : ℕ) → Connection → Type 0
+as_judged r peer limit x noted judge =
+    AsJudged r peer limit x.passed x.shown x.came x.heard x.edge x.window noted judge.left judge.right judge.seen_by_right judge.size
 
 abbrev pub bounds_of : (r peer limit : ℕ) → Tally → (closed : Bool) → (theirs : Half) → Bounds
 bounds_of r peer limit x closed theirs = record {
@@ -114,7 +114,7 @@ pub record Holds (r peer : ℕ) (line : Line) : Type 0 where
   pub tally : Tally
   pub noted : ℕ
   pub ordered : Ordered tally noted
-  pub taps : tapped r peer limit tally noted line.tap
-  pub puts : PutsAt r peer limit tally line.tap.left line.tap.right line.put line.link
-  pub takes : TakesAt limit tally line.tap.right line.coming line.link
-  pub under_way : line.begun ≡ true → IsRightNow Left line.tap line.put
+  pub judges : as_judged r peer limit tally noted line.judge
+  pub puts : PutsAt r peer limit tally line.judge.left line.judge.right line.put line.link
+  pub takes : TakesAt limit tally line.judge.right line.coming line.link
+  pub under_way : line.begun ≡ true → IsRightNow Left line.judge line.put

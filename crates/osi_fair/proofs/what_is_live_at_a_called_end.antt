@@ -37,7 +37,7 @@ abbrev pub IsKnown : ℕ → Value → Type 0
 IsKnown given v = (m : ℕ) → shuts_of v ≡ Some m → m ≤ given
 
 pub record Timely (end : State) (coming : List Value) (cs : List Connection) (put : List Value) : Type 0 where
-  pub taps : (p : ℕ) (c : Connection) → slice_get cs p ≡ Some c → c.is_judged ≡ true → is_open c.left.phase ≡ true →
+  pub judges : (p : ℕ) (c : Connection) → slice_get cs p ≡ Some c → c.is_judged ≡ true → is_open c.left.phase ≡ true →
       is_open c.right.phase ≡ true → IsHeld end coming c.right.reference
   pub answers : AllByRecursion (Answers (IsHeld end coming)) put
   pub firsts : Firsts (IsLive end) coming
@@ -120,7 +120,7 @@ pub timely_comes : (end : State) (coming : List Value) (cs after : List Connecti
     dr_for v ≡ None →
     ((p : ℕ) (c : Connection) → slice_get after p ≡ Some c → c.is_judged ≡ true → is_open c.left.phase ≡ true →
     is_open c.right.phase ≡ true → IsHeld end coming c.right.reference) → Timely end coming cs put → Timely end (coming ++ v ∷ []) after put
-timely_comes end coming cs after put v none no_dr taps h =
+timely_comes end coming cs after put v none no_dr judges h =
     let keeps : (m : ℕ) → IsHeld end coming m → IsHeld end (coming ++ v ∷ []) m = grind (arith, none_add) in
     grind (arith, answers_more, firsts_add, all_add)
 
@@ -132,11 +132,11 @@ pub timely_closes : (end : State) (coming : List Value) (cs after : List Connect
     is_open c.right.phase ≡ true → IsHeld end coming c.right.reference × (c.right.reference ≡ n → ⊥)) →
     AllByRecursion (Answers (λ m. m ≡ n → ⊥)) put →
     Timely end coming cs put → Timely end (coming ++ v ∷ []) after put
-timely_closes end coming cs after put v n shuts dr given taps others h =
+timely_closes end coming cs after put v n shuts dr given judges others h =
     let keeps : (m : ℕ) → IsHeld end coming m → (m ≡ n → ⊥) → IsHeld end (coming ++ v ∷ []) m = grind (arith, none_add) in
     record {
-      taps = λ p c at judged left right.
-          let (held, other) = taps p c at judged left right in keeps c.right.reference held other;
+      judges = λ p c at judged left right.
+          let (held, other) = judges p c at judged left right in keeps c.right.reference held other;
       answers = answers_both (IsHeld end coming) (λ m. m ≡ n → ⊥) (IsHeld end (coming ++ v ∷ [])) put keeps h.answers others;
       firsts = firsts_add (IsLive end) coming v h.firsts (λ m e. dr m e);
       known = grind (arith, all_add);

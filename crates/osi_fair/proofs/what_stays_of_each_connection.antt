@@ -1,4 +1,4 @@
--- What stays of each connection at the tap of a calling end as units pass: its reference, and that no other has it.
+-- What stays of each connection at the judge of a calling end as units pass: its reference, and that no other has it.
 -- For the law on DRs.
 use Rattle.osi_fair.proofs.Vocabulary.{arith, Bool, false, if◌then◌else◌, List, None, Option, refl, set, Some, true, ℕ, ◌<◌, ◌∙◌, ◌≡◌, ◌⊎◌}
 use Rattle.osi_fair.proofs.Vocabulary.{position, slice_get, ◌&&◌, ◌||◌, confirm, request, Value, is_applied, reach_of, is_live, is_named}

@@ -1,4 +1,4 @@
--- What the other side closes at the tap of a calling end: if a DR closed something, the end had the connection open there.
+-- What the other side closes at the judge of a calling end: if a DR closed something, the end had the connection open there.
 -- For the law on DRs.
 use Rattle.osi_fair.proofs.Vocabulary.{arith, ap, Bool, false, if◌then◌else◌, inl, inr, List, None, Option, refl, set, Some, subst, sym}
 use Rattle.osi_fair.proofs.Vocabulary.{true, ℕ, ◌≡◌, ◌⊎◌, eqb-true, not, position, slice_get, ◌&&◌, ◌==◌, ◌||◌, acknowledge, confirm}
@@ -17,7 +17,7 @@ use Rattle.osi_fair.proofs.what_keeps_names_apart.{AreApart, Sound}
 use Rattle.osi_fair.proofs.while_no_class_is_selected.{after_change, named_where}
 use Rattle.osi_fair.proofs.what_stays_of_each_connection.{AreDistinct, IsLively, IsStarted, is_there, left_then, right_judged, right_own}
 use Rattle.osi_fair.proofs.names_stay_apart_though_one_is_lost.{AreNamedApart, each_sound}
-use Rattle.osi_fair.proofs.what_lasts_at_the_tap.{IsCalm, calm_noted}
+use Rattle.osi_fair.proofs.what_lasts_at_the_judge.{IsCalm, calm_noted}
 pub use Rattle.osi_fair.proofs.small_facts_that_many_lemmas_use.{judged_same}
 
 -- both sides are judged, class 0 is not selected, and each DR has closed something
@@ -248,7 +248,7 @@ module _ (L : ℕ → Type 0) (s : State) (q : ℕ) (c : Connection) (at : slice
 
 -- ---- by the way that a unit takes
 
--- what holds at the tap
+-- what holds at the judge
 pub record IsSane (s : State) : Type 0 where
   pub apart : AreApart s.connections
   pub judged : AreJudged s

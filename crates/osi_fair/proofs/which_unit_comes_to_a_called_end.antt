@@ -1,4 +1,4 @@
--- Which unit of the other side passes at the tap of a called end, if both sides are still judged after it: a CR that is right, a unit
+-- Which unit of the other side passes at the judge of a called end, if both sides are still judged after it: a CR that is right, a unit
 -- for a connection, or a DC that answers nothing. For the law on a whole called end.
 use Rattle.osi_fair.proofs.Vocabulary.{arith, [], ap, Bool, false, if◌then◌else◌, inl, inr, None, Option, refl, Some, subst, sym, true, ℕ}
 use Rattle.osi_fair.proofs.Vocabulary.{◌∙◌, ◌∷◌, ◌≡◌, ◌⊎◌, position, slice_get, acknowledge, confirm, Connect, data0, data2, destination_of}
@@ -12,7 +12,7 @@ use Rattle.osi_rules.specs.declared.findings.Rule.TheVariants as rule
 use Rattle.osi_fair.proofs.small_facts_that_many_lemmas_use.{differ}
 use Rattle.osi_fair.proofs.each_connection_of_a_called_end.{IsDc}
 use Rattle.osi_fair.proofs.what_holds_of_one_item.{first_true}
-pub use Rattle.osi_fair.proofs.what_lasts_at_the_tap.{IsCalm, calm_before, calm_noted}
+pub use Rattle.osi_fair.proofs.what_lasts_at_the_judge.{IsCalm, calm_before, calm_noted}
 
 -- ---- what is wrong is not calm
 

@@ -177,6 +177,6 @@ pub last_ours : (r peer : ℕ) (xs ys : List Value) → AllOurs r peer (xs ++ ys
 last_ours r peer [] ys h = h
 last_ours r peer (x ∷ xs) ys (one, more) = last_ours r peer xs ys more
 
-pub close_waits : (r peer : ℕ) (line : Line) → Holds r peer line → line.link ≡ None → is_open line.tap.left.phase ≡ true →
+pub close_waits : (r peer : ℕ) (line : Line) → Holds r peer line → line.link ≡ None → is_open line.judge.left.phase ≡ true →
     line.put ≡ [] → ⊥
 close_waits r peer line h none live e = grind arith

@@ -59,8 +59,8 @@ calm drs = record {
   right_erred = false;
 }
 
-abbrev pub calm_tap : List Connection → Disconnects → State
-calm_tap cs drs = record { connections = cs; course = calm drs }
+abbrev pub calm_judge : List Connection → Disconnects → State
+calm_judge cs drs = record { connections = cs; course = calm drs }
 
 -- left is still judged
 abbrev pub GoesOn : State → Type 0
@@ -76,10 +76,10 @@ IsDc _ = ⊥
 
 -- a unit for no connection is a DC, and changes nothing
 abbrev pub OnlyDc : Value → List Connection → Disconnects → State → Type 0
-OnlyDc v cs drs s = IsDc v × (s ≡ calm_tap cs drs)
+OnlyDc v cs drs s = IsDc v × (s ≡ calm_judge cs drs)
 
-for_none : (cs : List Connection) (drs : Disconnects) (v : Value) → GoesOn (unnamed_told Right v (calm_tap cs drs)).state →
-    OnlyDc v cs drs (unnamed_told Right v (calm_tap cs drs)).state
+for_none : (cs : List Connection) (drs : Disconnects) (v : Value) → GoesOn (unnamed_told Right v (calm_judge cs drs)).state →
+    OnlyDc v cs drs (unnamed_told Right v (calm_judge cs drs)).state
 for_none cs drs v h = grind arith
 
 -- ---- none waits for an answer
@@ -93,7 +93,7 @@ none_by cs n o e h = grind (arith, named_where)
 
 module _ (cs : List Connection) (drs : Disconnects) where
   abbrev s : State
-  s = calm_tap cs drs
+  s = calm_judge cs drs
 
   -- if none waits, only a DC may come
   pub done_takes : (v : Value) → HoldsOfEach IsDone cs → GoesOn (takes Right v s).state → OnlyDc v cs drs (takes Right v s).state
@@ -136,8 +136,8 @@ IsRefusal r (error destination cause) = destination ≡ r
 IsRefusal r _ = ⊥
 
 -- after the CC for the connection at this place, which may break a rule: it may select a larger size
-abbrev pub confirmed_tap : (p destination : ℕ) → Connect → Connection → List Connection → (drs : Disconnects) (erred : Bool) → State
-confirmed_tap p destination x c cs drs erred = record {
+abbrev pub confirmed_judge : (p destination : ℕ) → Connect → Connection → List Connection → (drs : Disconnects) (erred : Bool) → State
+confirmed_judge p destination x c cs drs erred = record {
   connections = set cs p (sent_on Right (confirm destination x) c);
   course = record {
     class = Some (class_of x);
@@ -154,8 +154,8 @@ confirmed_tap p destination x c cs drs erred = record {
 -- a CC selects a class that is offered, a refusal leaves none that waits, and a DC changes nothing
 pub data Answer (r p : ℕ) (o : Offer) (cs : List Connection) (drs : Disconnects) (v : Value) (s : State) : Type 0 where
   confirms : (destination : ℕ) (x : Connect) → v ≡ confirm destination x → (c : Connection) → slice_get cs p ≡ Some c → (erred : Bool) →
-      s ≡ confirmed_tap p destination x c cs drs erred → is_offered o None x ≡ true → is_inside x ≡ true → Answer r p o cs drs v s
-  refuses : IsRefusal r v → (after : List Connection) (more : Disconnects) → s ≡ calm_tap after more → HoldsOfEach IsDone after →
+      s ≡ confirmed_judge p destination x c cs drs erred → is_offered o None x ≡ true → is_inside x ≡ true → Answer r p o cs drs v s
+  refuses : IsRefusal r v → (after : List Connection) (more : Disconnects) → s ≡ calm_judge after more → HoldsOfEach IsDone after →
       Answer r p o cs drs v s
   says_nothing : OnlyDc v cs drs s → Answer r p o cs drs v s
 
@@ -179,13 +179,13 @@ confirm_or a b i u loose l = grind arith
 confirmed_by : (p destination : ℕ) (x : Connect) (c : Connection) (cs : List Connection) (drs : Disconnects) (offered inside : Bool)
     (f : Finding) →
     Confirms offered inside f → GoesOn (by_finding p c cs drs (confirm destination x) f) →
-    (by_finding p c cs drs (confirm destination x) f ≡ confirmed_tap p destination x c cs drs (is_break f))
+    (by_finding p c cs drs (confirm destination x) f ≡ confirmed_judge p destination x c cs drs (is_break f))
     × (offered ≡ true) × (inside ≡ true)
 confirmed_by p destination x c cs drs offered inside f k h = grind (arith, differ)
 
 module _ (r p : ℕ) (o : Offer) (cs : List Connection) (drs : Disconnects) (w : Waits r p o cs) where
   abbrev t : State
-  t = calm_tap cs drs
+  t = calm_judge cs drs
 
   abbrev c : Connection
   c = w.c
@@ -219,7 +219,7 @@ module _ (r p : ℕ) (o : Offer) (cs : List Connection) (drs : Disconnects) (w :
   refused_all new h i e at = refused_one new e i h (after_change cs p i new e at)
 
   refusing : (v : Value) → IsRefusal r v → (f : Finding) → f ≡ Kept → (more : Disconnects) →
-      by_finding p c cs drs v Kept ≡ calm_tap (set cs p (connection_after Right v true reach.Nothing c)) more →
+      by_finding p c cs drs v Kept ≡ calm_judge (set cs p (connection_after Right v true reach.Nothing c)) more →
       IsDone (connection_after Right v true reach.Nothing c) → Answer r p o cs drs v (by_finding p c cs drs v f)
   refusing v is f kept more so done =
       refuses is (set cs p (connection_after Right v true reach.Nothing c)) more
@@ -336,12 +336,12 @@ placed_waits x cs (Some q) e done =
 -- a CR has passed, and waits for its answer
 pub record Asked (x : Connect) (drs : Disconnects) (s : State) : Type 0 where
   pub after : List Connection
-  pub is : s ≡ calm_tap after drs
+  pub is : s ≡ calm_judge after drs
   pub place : ℕ
   pub waits : Waits x.source place (offer_of x) after
 
 pub asks_passed : (x : Connect) (cs : List Connection) (drs : Disconnects) (f : Finding) → (f ≡ Kept) ⊎ (f ≡ TooMany) →
     HoldsOfEach IsDone cs →
-    GoesOn (asks_by Left f x (calm_tap cs drs)).state → Asked x drs (asks_by Left f x (calm_tap cs drs)).state
+    GoesOn (asks_by Left f x (calm_judge cs drs)).state → Asked x drs (asks_by Left f x (calm_judge cs drs)).state
 asks_passed x cs drs f (inl e) done h = grind (arith, placed_waits x cs (position is_free cs) refl done)
 asks_passed x cs drs f (inr e) done h = grind (arith, differ)

@@ -5,7 +5,7 @@ use Rattle.osi_class.specs.Link.{Standing}
 use Rattle.osi_class.specs.declared.terms.Class.TheVariants.{Two}
 use Rattle.osi_carrier.specs.Rows.{value_at}
 use Rattle.osi_carrier.specs.State.{Connection, State, asked, linked, closing, packets}
-use Rattle.osi_rules.specs.declared.connections.Connection.{Connection as Tapped}
+use Rattle.osi_rules.specs.declared.connections.Connection.{Connection as AsJudged}
 use Rattle.osi_rules.specs.declared.directions.Direction.{Direction}
 use Rattle.osi_rules.specs.Sides.{is_closing, is_named, is_open, own, theirs}
 use Rattle.osi_rules.specs.Traffic.{State as Traffic, class_for, is_stopped}
@@ -29,8 +29,8 @@ pub record Follows (r peer : ℕ) (taken units : List Value) (old new : State) :
 
 -- ---- the rules of transport
 
--- The tap judges this side in class 2, and the connection at this place is the first that this reference names.
-pub record IsAtPlace (d : Direction) (s : Traffic) (n place : ℕ) (c : Tapped) : Type 0 where
+-- The judge judges this side in class 2, and the connection at this place is the first that this reference names.
+pub record IsAtPlace (d : Direction) (s : Traffic) (n place : ℕ) (c : AsJudged) : Type 0 where
   pub judged : is_stopped d s.course ≡ false
   pub class : class_for d s.course ≡ Some Two
   pub first : position (is_named d n) s.connections ≡ Some place
@@ -39,7 +39,7 @@ pub record IsAtPlace (d : Direction) (s : Traffic) (n place : ℕ) (c : Tapped) 
 -- A DR with these references just closes an open connection that is judged: neither side has closed it before.
 pub record JustCloses (d : Direction) (s : Traffic) (destination source : ℕ) : Type 0 where
   pub place : ℕ
-  pub closed : Tapped
+  pub closed : AsJudged
   pub at : IsAtPlace d s destination place closed
   pub judged : closed.is_judged ≡ true
   pub opened : is_open (own d closed).phase ≡ true

@@ -1,4 +1,4 @@
--- One open connection of class 2 as an end has it, and as a tap sees it that is anywhere between the two ends.
+-- One open connection of class 2 as an end has it, and as a judge sees it that is anywhere between the two ends.
 use Rattle.std.specs.Prelude.{◌≡◌, ◌≢◌, ◌≤◌, ℕ, Bool, true, false, List, [], ◌∷◌, ◌++◌, length, Option, Some, None, IfSome, if◌then◌else◌}
 use Rattle.osi_tpdu.specs.Value.{Value, disconnect, disconnected, destination_of, HasFieldsInRange}
 use Rattle.osi_class.specs.Limits.{longest_tsdu}
@@ -17,18 +17,18 @@ use Rattle.osi_rules.specs.Reaches.{is_applied, reach_of}
 use Rattle.osi_rules.specs.Sides.{other, own, theirs, seen, begins, is_named}
 use Rattle.osi_rules.specs.Traffic.{connection_after, found}
 
--- ---- an end, the tap, and the units between them
+-- ---- an end, the judge, and the units between them
 
 pub record Line : Type 0 where
   -- the link of the end; none once the end has closed the connection
   pub link : Option Standing
-  -- the units that the end has put and that have not passed the tap, the oldest first; each goes in a packet of its own
+  -- the units that the end has put and that have not passed the judge, the oldest first; each goes in a packet of its own
   pub put : List Value
   -- the first of them has begun to pass
   pub begun : Bool
-  -- what the tap knows of the connection
-  pub tap : Connection
-  -- the units of the other side that have passed the tap and that the end has not taken, the oldest first
+  -- what the judge knows of the connection
+  pub judge : Connection
+  -- the units of the other side that have passed the judge and that the end has not taken, the oldest first
   pub coming : List Value
 
 -- ---- what happens
@@ -42,7 +42,7 @@ pub data Act : Type 0 where
   ignores : List Value → Act
   -- the end takes a DR, and answers it by a DC
   answers : Value → Act
-  -- the next unit of the end begins to pass, and passes; with what the tap knows apart from this connection
+  -- the next unit of the end begins to pass, and passes; with what the judge knows apart from this connection
   begins_own : Act
   passes_own : Course → Bool → Act
   -- a packet of the end begins to pass that is of another connection
@@ -93,16 +93,16 @@ Acts d r peer (closes reason units) old new = (link : Standing) × (old.link ≡
 Acts d r peer (ignores units) old new = (old.link ≡ None) × (old.coming ≡ units ++ new.coming) × (new ≡ record old { coming = new.coming })
 Acts d r peer (answers unit) old new = (link : Standing) × (old.link ≡ Some link) × IsDisconnect unit × (old.coming ≡ unit ∷ new.coming)
     × (new ≡ record old { link = None; put = old.put ++ disconnected peer r ∷ []; coming = new.coming })
-Acts d r peer begins_own old new = (old.put ≢ []) × (old.begun ≡ false) × (new ≡ record old { begun = true; tap = begins d old.tap })
+Acts d r peer begins_own old new = (old.put ≢ []) × (old.begun ≡ false) × (new ≡ record old { begun = true; judge = begins d old.judge })
 Acts d r peer (passes_own course in_use) old new = (unit : Value) × (old.put ≡ unit ∷ new.put) × (old.begun ≡ true)
-    × (new ≡ record old { put = new.put; begun = false; tap = after_finding d (finding_of d course in_use old.tap unit) unit old.tap })
-Acts d r peer begins_elsewhere old new = (old.begun ≡ false) × (new ≡ record old { tap = begins d old.tap })
-Acts d r peer begins_other old new = new ≡ record old { tap = begins (other d) old.tap }
+    × (new ≡ record old { put = new.put; begun = false; judge = after_finding d (finding_of d course in_use old.judge unit) unit old.judge })
+Acts d r peer begins_elsewhere old new = (old.begun ≡ false) × (new ≡ record old { judge = begins d old.judge })
+Acts d r peer begins_other old new = new ≡ record old { judge = begins (other d) old.judge }
 Acts d r peer (passes_other course in_use unit) old new = HasFieldsInRange unit × (destination_of unit ≡ Some r)
-    × (reach_of (Some Two) (finding_of (other d) course in_use old.tap unit) ≢ reach.Everything)
+    × (reach_of (Some Two) (finding_of (other d) course in_use old.judge unit) ≢ reach.Everything)
     × (new ≡ record old {
-      tap = after_finding (other d)
-          (finding_of (other d) course in_use old.tap unit) unit old.tap;
+      judge = after_finding (other d)
+          (finding_of (other d) course in_use old.judge unit) unit old.judge;
       coming = old.coming ++ unit ∷ [];
     })
 
@@ -116,7 +116,7 @@ ActsAlong d r peer old (act ∷ acts) new = (mid : Line) × Acts d r peer act ol
 abbrev pub opened_half : (reference credit : ℕ) → Half
 opened_half reference credit = record { phase = Open; reference = reference; next = 0; awaited = 0; credit = credit; begun = 0 }
 
--- The CC has passed the tap, and nothing after it. The link is that of an end which knows the CC, although a calling end may
+-- The CC has passed the judge, and nothing after it. The link is that of an end which knows the CC, although a calling end may
 -- take it later: until then the link does nothing. `size`: the most octets of a unit; `window`: the credit that the end
 -- gave the other side; `credit`: what it got.
 pub record IsOpened (d : Direction) (r peer : ℕ) (line : Line) : Type 0 where
@@ -127,11 +127,11 @@ pub record IsOpened (d : Direction) (r peer : ℕ) (line : Line) : Type 0 where
   pub put : line.put ≡ []
   pub begun : line.begun ≡ false
   pub coming : line.coming ≡ []
-  pub sent : own d line.tap ≡ opened_half r window
-  pub came : theirs d line.tap ≡ opened_half peer credit
-  -- the tap has seen no data when the other side's last packet began
-  pub noted : (seen (other d) line.tap).next ≡ 0
-  pub most : IfSome line.tap.size (λ most. size ≤ most)
+  pub sent : own d line.judge ≡ opened_half r window
+  pub came : theirs d line.judge ≡ opened_half peer credit
+  -- the judge has seen no data when the other side's last packet began
+  pub noted : (seen (other d) line.judge).next ≡ 0
+  pub most : IfSome line.judge.size (λ most. size ≤ most)
   pub least : 5 ≤ size
   pub some : credit ≤ 15
 
@@ -148,17 +148,17 @@ IsRightNow d c [] = ⊥
 IsRightNow d c (unit ∷ units) = IsRight d c unit
 
 abbrev pub IsFair : Direction → Line → Type 0
-IsFair d line = line.begun ≡ true → line.tap.is_judged ≡ true → IsRightNow d line.tap line.put
+IsFair d line = line.begun ≡ true → line.judge.is_judged ≡ true → IsRightNow d line.judge line.put
 
 -- the line of a connection whose CC has just passed
 abbrev pub opened_line : Standing → Connection → Line
-opened_line link tap = record { link = Some link; put = []; begun = false; tap = tap; coming = [] }
+opened_line link judge = record { link = Some link; put = []; begun = false; judge = judge; coming = [] }
 
 -- ---- before the CC has passed
 
 -- the line of a connection of which this end has put the CC, and nothing else
 abbrev pub answering_line : Standing → (cc : Value) → Connection → Line
-answering_line link cc tap = record { link = Some link; put = cc ∷ []; begun = false; tap = tap; coming = [] }
+answering_line link cc judge = record { link = Some link; put = cc ∷ []; begun = false; judge = judge; coming = [] }
 
 -- no unit passes whole
 abbrev pub PassesNone : Act → Type 0

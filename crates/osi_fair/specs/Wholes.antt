@@ -1,4 +1,4 @@
--- A whole end of a byte connection with a tap anywhere between it and the other side: its carrier, what the rules of transport
+-- A whole end of a byte connection with a judge anywhere between it and the other side: its carrier, what the rules of transport
 -- know, and the units between them. `Lines` has the same of one connection.
 use Rattle.std.specs.Prelude.{◌≡◌, ◌≢◌, ◌≤◌, Bool, true, false, List, [], ◌∷◌, ◌++◌, length, None}
 use Rattle.std.specs.List.{AllByRecursion}
@@ -17,13 +17,13 @@ use Rattle.osi_fair.specs.Putting.{put_by, put_for}
 pub record Whole : Type 0 where
   -- the carrier of the end
   pub end : State
-  -- the units that it has put and that have not passed the tap, the oldest first; each goes in a packet of its own
+  -- the units that it has put and that have not passed the judge, the oldest first; each goes in a packet of its own
   pub put : List Value
   -- the first of them has begun to pass
   pub begun : Bool
-  -- what the tap knows
-  pub tap : Traffic
-  -- the units of the other side that have passed the tap and that the end has not taken, the oldest first
+  -- what the judge knows
+  pub judge : Traffic
+  -- the units of the other side that have passed the judge and that the end has not taken, the oldest first
   pub coming : List Value
 
 pub data Event : Type 0 where
@@ -52,13 +52,13 @@ Happens d arrives old new = (unit : Value) × (old.coming ≡ unit ∷ new.comin
     × (new ≡ record old { end = react unit old.end; put = old.put ++ put_for unit old.end; coming = new.coming })
 Happens d (calls call) old new = MayCall call old.end
     × (new ≡ record old { end = user_does call old.end; put = old.put ++ put_by call old.end })
-Happens d begins_own old new = (old.put ≢ []) × (old.begun ≡ false) × (new ≡ record old { begun = true; tap = packet_begins d old.tap })
+Happens d begins_own old new = (old.put ≢ []) × (old.begun ≡ false) × (new ≡ record old { begun = true; judge = packet_begins d old.judge })
 Happens d passes_own old new = (unit : Value) × (old.put ≡ unit ∷ new.put) × (old.begun ≡ true)
-    × (new ≡ record old { put = new.put; begun = false; tap = (takes d unit old.tap).state })
-Happens d begins_other old new = new ≡ record old { tap = packet_begins (other d) old.tap }
+    × (new ≡ record old { put = new.put; begun = false; judge = (takes d unit old.judge).state })
+Happens d begins_other old new = new ≡ record old { judge = packet_begins (other d) old.judge }
 Happens d (passes_other unit) old new = HasFieldsInRange unit
-    × (new ≡ record old { tap = (takes (other d) unit old.tap).state; coming = old.coming ++ unit ∷ [] })
-Happens d passes_rubbish old new = new ≡ record old { tap = refused (other d) old.tap }
+    × (new ≡ record old { judge = (takes (other d) unit old.judge).state; coming = old.coming ++ unit ∷ [] })
+Happens d passes_rubbish old new = new ≡ record old { judge = refused (other d) old.judge }
 
 -- one after the other
 abbrev pub HappenAlong : Direction → Whole → List Event → Whole → Type 0
@@ -67,7 +67,7 @@ HappenAlong d old (event ∷ events) new = (mid : Whole) × Happens d event old 
 
 -- nothing has happened yet
 abbrev pub begin : (is_caller : Bool) → Local → Whole
-begin is_caller local = record { end = fresh_state is_caller local; put = []; begun = false; tap = fresh; coming = [] }
+begin is_caller local = record { end = fresh_state is_caller local; put = []; begun = false; judge = fresh; coming = [] }
 
 -- The end alone comes to this state: by these events it has put these units, and written them.
 pub record Becomes (d : Direction) (old : Whole) (new : State) : Type 0 where

@@ -58,30 +58,30 @@ pub fn what_was_right_stays_right()
 /// How a connection opens. The CC by which a called end accepts a CR is right, in both classes, if its reference is not in use
 /// (`two`, `zero`); and after a CC of class 2 the connection is open as [`an_open_end_is_fair`] takes it: at the called end
 /// that put the CC (`called`), and at the calling end that gets it, whatever size it selects (`calling`). `asked` says that
-/// the tap knows the CR of this end as `calling` takes it.
+/// the judge knows the CR of this end as `calling` takes it.
 pub fn a_connection_opens()
-    ensures two { (local : Local) (c : Connect) (size : Option ℕ) (r : ℕ) (tap : Connection) (course : Course) →
-        selected_by c local ≡ accept Two size → tap.offer ≡ offer_of c → tap.right ≡ silent_half →
-        found Direction.Right course false tap (confirm c.source (acceptance Two size c local r)) ≡ Finding.Kept }
-    ensures zero { (local : Local) (c : Connect) (size : Option ℕ) (r : ℕ) (tap : Connection) (course : Course) →
-        selected_by c local ≡ accept Zero size → tap.offer ≡ offer_of c → tap.right ≡ silent_half → course.class ≡ None →
-        found Direction.Right course false tap (confirm c.source (acceptance Zero size c local r)) ≡ Finding.Kept }
-    ensures called { (local : Local) (c : Connect) (size : Option ℕ) (r : ℕ) (tap : Connection) → IsConnect c →
-        selected_by c local ≡ accept Two size → tap.left ≡ opened_half c.source c.credit → tap.right ≡ silent_half →
-        tap.seen_by_left.next ≡ 0 →
+    ensures two { (local : Local) (c : Connect) (size : Option ℕ) (r : ℕ) (judge : Connection) (course : Course) →
+        selected_by c local ≡ accept Two size → judge.offer ≡ offer_of c → judge.right ≡ silent_half →
+        found Direction.Right course false judge (confirm c.source (acceptance Two size c local r)) ≡ Finding.Kept }
+    ensures zero { (local : Local) (c : Connect) (size : Option ℕ) (r : ℕ) (judge : Connection) (course : Course) →
+        selected_by c local ≡ accept Zero size → judge.offer ≡ offer_of c → judge.right ≡ silent_half → course.class ≡ None →
+        found Direction.Right course false judge (confirm c.source (acceptance Zero size c local r)) ≡ Finding.Kept }
+    ensures called { (local : Local) (c : Connect) (size : Option ℕ) (r : ℕ) (judge : Connection) → IsConnect c →
+        selected_by c local ≡ accept Two size → judge.left ≡ opened_half c.source c.credit → judge.right ≡ silent_half →
+        judge.seen_by_left.next ≡ 0 →
         IsOpened Direction.Right r c.source (opened_line (opened_link Two size local c.credit)
-        (sent_on Direction.Right (confirm c.source (acceptance Two size c local r)) tap)) }
+        (sent_on Direction.Right (confirm c.source (acceptance Two size c local r)) judge)) }
     ensures asked { (local : Local) (held : Option Class) (calling called : Option (List ℕ)) (r : ℕ) → local.class2 ≡ true →
         (asked_by (proposal local held calling called r)).left ≡ opened_half r (window_units local.window) }
-    ensures calling { (local : Local) (c : Connect) (r : ℕ) (tap : Connection) → IsConnect c →
-        tap.left ≡ opened_half r (window_units local.window) → tap.right ≡ silent_half → tap.seen_by_right.next ≡ 0 →
+    ensures calling { (local : Local) (c : Connect) (r : ℕ) (judge : Connection) → IsConnect c →
+        judge.left ≡ opened_half r (window_units local.window) → judge.right ≡ silent_half → judge.seen_by_right.next ≡ 0 →
         IsOpened Direction.Left r c.source (opened_line (opened_link Two (agreed_size c.parameters.size local) local c.credit)
-        (sent_on Direction.Right (confirm r c) tap)) }
+        (sent_on Direction.Right (confirm r c) judge)) }
 {}
 
 /// What an end puts on an open connection of class 2 is right. Take any list of what happens to the connection since its CC has
 /// passed: its user hands in TSDUs and closes it; its link gives units when it likes, and takes what has come when it likes;
-/// the tap sees packets begin and pass, of the end in their order, and of the other side whatever units that side sends for the
+/// the judge sees packets begin and pass, of the end in their order, and of the other side whatever units that side sends for the
 /// connection. Then each unit of the end that passes is for this connection and breaks no rule, as long as the other side
 /// has broken none for which the connection is not judged any more.
 pub fn an_open_end_is_fair()
@@ -89,24 +89,24 @@ pub fn an_open_end_is_fair()
         ActsAlong d r peer begin acts line → IsFair d line }
 {}
 
-/// An end closes a connection last: as long as a unit which it put there has not passed, the tap has seen no DR or DC of it
+/// An end closes a connection last: as long as a unit which it put there has not passed, the judge has seen no DR or DC of it
 /// (`waits`). So its units pass at the place of the connection, which [`a_connection_keeps_its_place`] speaks of. The other side
 /// keeps its reference (`peer`).
 pub fn an_end_closes_last()
     ensures waits { (d : Direction) (r peer : ℕ) (begin line : Line) (acts : List Act) → IsOpened d r peer begin →
-        ActsAlong d r peer begin acts line → line.tap.is_judged ≡ true → line.put ≢ [] → is_open (own d line.tap).phase ≡ true }
+        ActsAlong d r peer begin acts line → line.judge.is_judged ≡ true → line.put ≢ [] → is_open (own d line.judge).phase ≡ true }
     ensures peer { (d : Direction) (r peer : ℕ) (begin line : Line) (acts : List Act) → IsOpened d r peer begin →
-        ActsAlong d r peer begin acts line → line.tap.is_judged ≡ true → (theirs d line.tap).reference ≡ peer }
+        ActsAlong d r peer begin acts line → line.judge.is_judged ≡ true → (theirs d line.judge).reference ≡ peer }
 {}
 
 /// A called end may put units right after its CC. Until the CC has passed no unit of the other side names the connection. So once
 /// it has passed, the line is what the same acts make of a connection that is opened then: [`an_open_end_is_fair`] speaks of
 /// what was put before, too.
 pub fn what_is_put_before_the_cc_passes()
-    ensures { (d : Direction) (r peer : ℕ) (link : Standing) (answer : Value) (tap : Connection) (acts : List Act) (course : Course)
+    ensures { (d : Direction) (r peer : ℕ) (link : Standing) (answer : Value) (judge : Connection) (acts : List Act) (course : Course)
         (in_use : Bool) (line after : Line) → AllByRecursion PassesNone acts →
-        ActsAlong d r peer (answering_line link answer tap) acts line → Acts d r peer (passes_own course in_use) line after →
-        (later : List Act) × ActsAlong d r peer (opened_line link after.tap) later after }
+        ActsAlong d r peer (answering_line link answer judge) acts line → Acts d r peer (passes_own course in_use) line after →
+        (later : List Act) × ActsAlong d r peer (opened_line link after.judge) later after }
 {}
 
 /// What a carrier of class 2 does to one of its connections is acts of its line, and it writes the units that these put: as a
@@ -157,7 +157,7 @@ pub fn a_reference_names_one_connection()
 /// this side, whatever passes (`stays`); what this side has refused or closed there, it has closed until then (`closed`). As
 /// long as no connection has lost its judgement, because a side broke a rule, this is the place at which a unit with this
 /// reference is judged (`place`). The reference by which the other side's units name it is the one that this side gave it
-/// (`own`), so a tap and this end say of the same connection that a unit is for it.
+/// (`own`), so a judge and this end say of the same connection that a unit is for it.
 pub fn a_connection_keeps_its_place()
     ensures stays { (passings : List Passing) (passing : Passing) (d : Direction) (n place : ℕ) (c after : Connection) →
         slice_get (all_passed passings fresh).connections place ≡ Some c →
@@ -177,8 +177,8 @@ pub fn a_connection_keeps_its_place()
         is_named (other d) n c ≡ true → (own d c).reference ≡ n }
 {}
 
-/// The CRs of a calling end have new references. Take any run of its carrier, any calls and any octets, and a tap that its CRs
-/// pass in order. The next of them gives a reference that the end uses for no connection at the tap (`unused`), and that none
+/// The CRs of a calling end have new references. Take any run of its carrier, any calls and any octets, and a judge that its CRs
+/// pass in order. The next of them gives a reference that the end uses for no connection at the judge (`unused`), and that none
 /// has which is not judged any more (`judged`). So once class 2 is known to be the class, this CR is right, or there are more
 /// connections than the rules look at (`right`).
 pub fn a_new_reference_is_not_in_use()
@@ -247,11 +247,11 @@ pub fn what_belongs_to_no_open_connection()
 {}
 
 /// An end sends a DC only after it was sent a DR, which had passed when the packet of the DC began. Take any run of a whole end,
-/// calling or called: if a DC of the end is passing, the tap knows a DR of the other side, as long as that side is judged.
+/// calling or called: if a DC of the end is passing, the judge knows a DR of the other side, as long as that side is judged.
 pub fn a_dc_follows_a_dr()
     ensures { (d : Direction) (is_caller : Bool) (local : Local) (events : List Event) (w : Whole) (n source : ℕ) (rest : List Value) →
         HappenAlong d (begin is_caller local) events w → w.begun ≡ true → w.put ≡ disconnected n source ∷ rest →
-        is_stopped (other d) w.tap.course ≡ false → knows_disconnect d w.tap.course.disconnects ≡ true }
+        is_stopped (other d) w.judge.course ≡ false → knows_disconnect d w.judge.course.disconnects ≡ true }
 {}
 
 /// The units that a carrier puts (`specs/Putting`) are what it writes, each in a packet of its own: as it takes a unit
@@ -262,17 +262,17 @@ pub fn what_a_carrier_puts()
 {}
 
 /// No CR of a calling end is blamed. Take any run of a whole end from its beginning (`specs/Wholes`): any calls of its user,
-/// whatever units the other side sends, memory that runs out at any time, and a tap anywhere between the two ends. Then each of
+/// whatever units the other side sends, memory that runs out at any time, and a judge anywhere between the two ends. Then each of
 /// its CRs is right as it passes, or there are more connections than the rules look at, as long as this side is judged.
 pub fn no_request_is_blamed()
     ensures { (local : Local) (events : List Event) (w : Whole) (c : Connect) (rest : List Value) →
         HappenAlong Direction.Left (begin true local) events w → w.begun ≡ true → w.put ≡ request c ∷ rest →
-        is_stopped Direction.Left w.tap.course ≡ false →
-        ((takes Direction.Left (request c) w.tap).told.finding ≡ Finding.Kept)
-        ⊎ ((takes Direction.Left (request c) w.tap).told.finding ≡ Finding.TooMany) }
+        is_stopped Direction.Left w.judge.course ≡ false →
+        ((takes Direction.Left (request c) w.judge).told.finding ≡ Finding.Kept)
+        ⊎ ((takes Direction.Left (request c) w.judge).told.finding ≡ Finding.TooMany) }
 {}
 
-/// A DR that a calling end takes for a reference which is gone closed nothing at the tap. Take any run of a whole end that
+/// A DR that a calling end takes for a reference which is gone closed nothing at the judge. Take any run of a whole end that
 /// offers class 2 alone. If the next unit that it takes is a DR for a reference which is not live there, a DR that closed
 /// nothing has passed, as long as both sides are judged, however many connections have lost their judgement. So the DC with
 /// which it answers is not blamed: [`what_belongs_to_no_open_connection`], clauses `dc` and `lasts`.
@@ -280,12 +280,12 @@ pub fn a_dr_for_what_is_gone_closed_nothing()
     ensures { (local : Local) (events : List Event) (w : Whole) (n source reason : ℕ) (user : List ℕ) (more : List Value) →
         local.class0 ≡ false → local.class2 ≡ true → HappenAlong Direction.Left (begin true local) events w →
         w.coming ≡ disconnect n source reason user ∷ more → w.end.ended ≡ None → value_at n w.end.live ≡ None →
-        is_stopped Direction.Left w.tap.course ≡ false → is_stopped Direction.Right w.tap.course ≡ false →
-        w.tap.course.disconnects.strays ≡ true }
+        is_stopped Direction.Left w.judge.course ≡ false → is_stopped Direction.Right w.judge.course ≡ false →
+        w.judge.course.disconnects.strays ≡ true }
 {}
 
 /// A whole calling end is fair. Take any run of it, whatever classes it offers: any calls of its user, whatever units the other side
-/// sends, however many connections, memory that runs out at any time, and a tap anywhere between the two ends. Then each unit of
+/// sends, however many connections, memory that runs out at any time, and a judge anywhere between the two ends. Then each unit of
 /// the end that passes is right: a CR, and what it puts on an open connection of either class; or it is a CR and there are more
 /// connections than the rules look at; or it is not judged, since a DR has passed that closed nothing, or a connection has lost its
 /// judgement because the other side broke a rule. This holds as long as the other side is judged, however many connections have lost
@@ -294,19 +294,19 @@ pub fn a_dr_for_what_is_gone_closed_nothing()
 pub fn a_calling_end_is_fair()
     ensures judged { (local : Local) (events : List Event) (w : Whole) (unit : Value) (rest : List Value) →
         HappenAlong Direction.Left (begin true local) events w → w.begun ≡ true → w.put ≡ unit ∷ rest →
-        is_stopped Direction.Right w.tap.course ≡ false →
-        ((takes Direction.Left unit w.tap).told.finding ≡ Finding.Kept)
-        ⊎ (((takes Direction.Left unit w.tap).told.finding ≡ Finding.TooMany)
-        ⊎ (((takes Direction.Left unit w.tap).told.finding ≡ Finding.NotJudged)
-        × ((w.tap.course.disconnects.strays ≡ true) ⊎ (w.tap.course.loose ≡ true)))) }
+        is_stopped Direction.Right w.judge.course ≡ false →
+        ((takes Direction.Left unit w.judge).told.finding ≡ Finding.Kept)
+        ⊎ (((takes Direction.Left unit w.judge).told.finding ≡ Finding.TooMany)
+        ⊎ (((takes Direction.Left unit w.judge).told.finding ≡ Finding.NotJudged)
+        × ((w.judge.course.disconnects.strays ≡ true) ⊎ (w.judge.course.loose ≡ true)))) }
     ensures in_class_0 { (local : Local) (events : List Event) (w : Whole) (unit : Value) (rest : List Value) →
         HappenAlong Direction.Left (begin true local) events w → w.begun ≡ true → w.put ≡ unit ∷ rest →
-        is_stopped Direction.Left w.tap.course ≡ false → w.tap.course.class ≡ Some Zero →
-        (takes Direction.Left unit w.tap).told.finding ≡ Finding.Kept }
+        is_stopped Direction.Left w.judge.course ≡ false → w.judge.course.class ≡ Some Zero →
+        (takes Direction.Left unit w.judge).told.finding ≡ Finding.Kept }
 {}
 
 /// A whole called end is fair. Take any run of it, whatever classes it offers: any calls of its user, whatever units the other side
-/// sends, however many connections, memory that runs out at any time, and a tap anywhere between the two ends. Then each unit of
+/// sends, however many connections, memory that runs out at any time, and a judge anywhere between the two ends. Then each unit of
 /// the end that passes is right: a CC, a DR that refuses a CR, and what it puts on an open connection of either class; or it is not
 /// judged, since a DR has passed that closed nothing, or a connection has lost its judgement because the other side broke a rule.
 /// This holds as long as the other side is judged, however many connections have lost their judgement (`judged`). In class 0 each unit of
@@ -315,14 +315,14 @@ pub fn a_calling_end_is_fair()
 pub fn a_called_end_is_fair()
     ensures judged { (local : Local) (events : List Event) (w : Whole) (unit : Value) (rest : List Value) →
         HappenAlong Direction.Right (begin false local) events w → w.begun ≡ true → w.put ≡ unit ∷ rest →
-        is_stopped Direction.Left w.tap.course ≡ false →
-        ((takes Direction.Right unit w.tap).told.finding ≡ Finding.Kept)
-        ⊎ (((takes Direction.Right unit w.tap).told.finding ≡ Finding.NotJudged)
-        × ((w.tap.course.disconnects.strays ≡ true) ⊎ (w.tap.course.loose ≡ true))) }
+        is_stopped Direction.Left w.judge.course ≡ false →
+        ((takes Direction.Right unit w.judge).told.finding ≡ Finding.Kept)
+        ⊎ (((takes Direction.Right unit w.judge).told.finding ≡ Finding.NotJudged)
+        × ((w.judge.course.disconnects.strays ≡ true) ⊎ (w.judge.course.loose ≡ true))) }
     ensures in_class_0 { (local : Local) (events : List Event) (w : Whole) (unit : Value) (rest : List Value) →
         HappenAlong Direction.Right (begin false local) events w → w.begun ≡ true → w.put ≡ unit ∷ rest →
-        is_stopped Direction.Right w.tap.course ≡ false → w.tap.course.loose ≡ false → w.tap.course.class ≡ Some Zero →
-        (takes Direction.Right unit w.tap).told.finding ≡ Finding.Kept }
+        is_stopped Direction.Right w.judge.course ≡ false → w.judge.course.loose ≡ false → w.judge.course.class ≡ Some Zero →
+        (takes Direction.Right unit w.judge).told.finding ≡ Finding.Kept }
 {}
 
 /// What a carrier does with a packet, with or without enough memory, is events of its whole end: the units of the packet arrive
@@ -333,7 +333,7 @@ pub fn a_called_end_is_fair()
 /// is fed pieces of a stream, reports events, hands over octets to send, and its user makes calls (`run`, over `specs/Calls`). The
 /// units of the packets in the stream arrive, in order, and what the events put is all that the carrier writes in these calls. Its
 /// whole end keeps the events that were reported and the octets that were sent: no effect depends on these. So the laws on whole
-/// ends speak of every run of a carrier, with a tap at work between any two of its calls.
+/// ends speak of every run of a carrier, with a judge at work between any two of its calls.
 pub fn a_packet_is_events()
     ensures packet { (d : Direction) (octets : List ℕ) (units later : List Value) (w : Whole) (new : State) → Takes w.end octets new →
         units_of octets ≡ Ok units → w.coming ≡ units ++ later → Becomes d w new }

@@ -121,11 +121,11 @@ pub use Rattle.osi_stack.specs.Runs.Call.{carrying, feeding, telling}
 pub use Rattle.osi_stack.specs.State.{End, Holding, IsAttended, Line, fresh_end, fresh_line, joins, session_in, used_lines, waits}
 pub use Rattle.osi_stack.specs.Transport.{answers_by, sent_unless}
 pub use Rattle.osi_stack.specs.declared.connecting.Connect.{Connect as Request}
-pub use Rattle.osi_judge.proofs.honest.a_run_is_explained.{came_moves}
-pub use Rattle.osi_judge.proofs.honest.an_answer_says_itself.{SaysItself, came_itself}
-pub use Rattle.osi_judge.specs.Explaining.{IsExplained, Told}
-pub use Rattle.osi_judge.specs.Explaining.Explains.{done}
-pub use Rattle.osi_judge.specs.Running.{IsSentFrom, Pass, Runs, sends}
+pub use Rattle.osi_side.proofs.honest.a_run_is_explained.{came_moves}
+pub use Rattle.osi_side.proofs.honest.an_answer_says_itself.{SaysItself, came_itself}
+pub use Rattle.osi_side.specs.Explaining.{IsExplained, Told}
+pub use Rattle.osi_side.specs.Explaining.Explains.{done}
+pub use Rattle.osi_side.specs.Running.{IsSentFrom, Pass, Runs, sends}
 pub use Rattle.osi_honest.specs.Arriving.{Answers, AreApart, GivesTo, Lives, Opens, TakesAll, is_for}
 pub use Rattle.osi_honest.specs.Arriving.Begins.{is_shut}
 pub use Rattle.osi_honest.specs.Courses.{AreCalls, Continues, ContinuesAlong, Course, Deeds, Gone, IsFreshLink, IsNew, IsOpen, IsShut}

@@ -1,9 +1,9 @@
--- What a tap anywhere between the two ends shows of one of them, by the turns of this end.
+-- What a judge anywhere between the two ends shows of one of them, by the turns of this end.
 use Rattle.std.specs.Prelude.{◌≡◌, ◌<◌, ◌≤◌, ◌+◌, ℕ, Bool, List, [], ◌∷◌, ◌++◌, length}
 use Rattle.std.specs.List.{flat_map}
 use Rattle.osi_class.specs.declared.terms.Local.{Local}
-use Rattle.osi_judge.specs.declared.directions.Direction.{Direction}
-use Rattle.osi_judge.specs.Captures.{Capture, other, stream, passed_before}
+use Rattle.osi_side.specs.declared.directions.Direction.{Direction}
+use Rattle.osi_side.specs.Captures.{Capture, other, stream, passed_before}
 use Rattle.osi_stack.specs.State.{Holding, fresh_end}
 use Rattle.osi_honest.specs.Turns.{Turn}
 

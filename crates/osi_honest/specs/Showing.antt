@@ -1,6 +1,6 @@
 -- What a capture shows of the TSDUs that a session sent and took.
 use Rattle.std.specs.Prelude.{◌≡◌, ◌<◌, ◌≤◌, ℕ, List, [], ◌∷◌, length, get_or}
-use Rattle.osi_judge.specs.Explaining.{Told}
+use Rattle.osi_side.specs.Explaining.{Told}
 
 -- It shows these of all that were sent, the first of them first. By then at least as many TSDUs of the other side had
 -- passed as had been taken, and at most so many.

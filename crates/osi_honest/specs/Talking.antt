@@ -3,8 +3,8 @@ use Rattle.std.specs.Prelude.{◌≡◌, ◌+◌, ℕ, Bool, true, false, List, 
 use Rattle.osi_session.specs.Calls.{Call, HasSerial}
 use Rattle.osi_session.specs.Listening.{Listener, called, came, opened, refused, broken, react, after_input}
 use Rattle.osi_session.specs.Phases.{is_wait_transport}
-use Rattle.osi_judge.specs.Explaining.{Told}
-use Rattle.osi_judge.specs.Running.{sends}
+use Rattle.osi_side.specs.Explaining.{Told}
+use Rattle.osi_side.specs.Running.{sends}
 
 -- a TSDU that a session sent, and how many TSDUs it had taken by then
 pub record Said : Type 0 where

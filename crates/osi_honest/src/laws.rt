@@ -5,8 +5,8 @@ ghost use Rattle.osi_class.specs.Link.{unit_of};
 ghost use Rattle.osi_class.specs.Runs.{parts_in, parts_out, tsdus_in, tsdus_out};
 ghost use Rattle.osi_class.specs.Tsdus.{tsdus, uncut};
 ghost use Rattle.osi_class.specs.declared.terms.Local.{Local};
-ghost use Rattle.osi_judge.specs.Explaining.{IsExplained, Told};
-ghost use Rattle.osi_judge.specs.Running.{IsSentFrom};
+ghost use Rattle.osi_side.specs.Explaining.{IsExplained, Told};
+ghost use Rattle.osi_side.specs.Running.{IsSentFrom};
 ghost use Rattle.osi_session.specs.Listening.{Listener};
 ghost use Rattle.osi_session.specs.Sessions.{awaits, opens, refusal_of};
 ghost use Rattle.osi_session.specs.Standing.{seen_called, seen_calling};
@@ -18,8 +18,8 @@ ghost use Rattle.osi_honest.specs.Showing.{AreSame, Shows};
 ghost use Rattle.osi_honest.specs.Talking.{History, Said, told_of};
 ghost use Rattle.osi_honest.specs.Turns.{Run, Turn};
 
-use osi_judge::laws::an_honest_session_is_explained;
 use osi_session::laws::what_closes_sends_nothing;
+use osi_side::laws::an_honest_session_is_explained;
 use osi_spdu::laws::{few_octets_fit, serial_digits};
 
 /// What a session sent is explained by the TSDUs that it had taken by then, whatever it took and whatever its user
@@ -37,7 +37,7 @@ pub fn what_a_session_said_is_explained()
 /// passed before a TSDU than the session had taken when it sent it. What the capture shows is still a run of the session
 /// as the judge has it ([`IsSentFrom`]).
 ///
-/// [`IsSentFrom`]: ../../osi_judge/specs/Running.antt
+/// [`IsSentFrom`]: ../../osi_side/specs/Running.antt
 pub fn what_a_capture_shows_is_a_run()
     ensures { (begin : Listener) (took us : List (List ℕ)) (said : List Said) (told : List Told) (closed : Bool) (l : Listener) →
         History begin took said closed l → AreSame us took → Shows (length us) told (map told_of said) → IsSentFrom begin us told }

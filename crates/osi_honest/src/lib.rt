@@ -1,17 +1,17 @@
 //! What an end of this library puts on the byte connection and takes from it, connection by connection, in the words in
-//! which a judge reads a capture: the lemmas on an end that `osi_watched` stands on. The crate has definitions and laws;
+//! which a judge reads a capture: the lemmas on an end that `osi_blameless` stands on. The crate has definitions and laws;
 //! nothing here runs.
 //!
-//! Read `osi_watched` if you want to know why `osi judge` never blames an end of this library. This crate has the half of
-//! it that speaks of the end alone: `osi_stack` says what an end is after octets and calls, and `osi_judge` which runs of a
+//! Read `osi_blameless` if you want to know why `osi judge` never blames an end of this library. This crate has the half of
+//! it that speaks of the end alone: `osi_stack` says what an end is after octets and calls, and `osi_side` which runs of a
 //! session explain what a side sent.
 //!
 //! - A `Turn` (`specs/Turns.antt`) is one thing that the owner of an end does, with the octets that the end used and those
 //!   that it put. A `Run` is turns one after the other.
 //! - A `History` (`specs/Talking.antt`) is what a session took and sent, each TSDU with how many it had taken by then. It
-//!   is a run of the session as `osi_judge` has it, also if a capture shows less of it:
+//!   is a run of the session as `osi_side` has it, also if a capture shows less of it:
 //!   [`laws::what_a_session_said_is_explained`], [`laws::what_a_capture_shows_is_a_run`].
-//! - What a tap between the two ends shows of such an end is `IsSeen` (`specs/Seeing.antt`).
+//! - What a judge between the two ends shows of such an end is `IsSeen` (`specs/Seeing.antt`).
 //!
 //! In class 2 many connections share the byte connection, and an end keeps data back until it has credit. So what a session sends
 //! is counted at the link of its connection:

@@ -1,8 +1,24 @@
--- The proofs, in reading order.
 mod Vocabulary
-pub mod walked
-pub mod told
-pub mod outlined
-pub mod a_capture_goes_on
-pub mod honest
-pub mod kept
+pub mod what_is_kept_of_a_side_is_what_passed
+pub mod the_session_of_a_side_is_known
+pub mod what_is_told_of_a_connection
+pub mod each_connection_is_kept
+pub mod a_dt_is_judged_if_there_is_room
+pub mod each_session_has_heard_all
+pub mod a_unit_changes_one_finding
+pub mod octets_are_looked_at
+pub mod a_piece_comes_to_what_its_octets_do
+pub mod what_holds_of_a_result
+pub mod what_a_packet_still_owes
+pub mod what_is_taken_of_a_piece_passes
+pub mod a_judge_holds_what_passed
+pub mod the_first_break_is_kept
+pub mod who_is_to_blame
+pub mod no_break_was_before_the_first
+pub mod a_capture_has_one_first_break
+pub mod moments_pass_one_after_the_other
+pub mod no_more_is_kept_than_passed
+pub mod a_claim_on_connections_holds_of_captures
+pub mod what_is_kept_of_a_connection_is_bounded
+pub mod the_first_break_of_transport_is_told_of_its_side
+pub mod who_broke_first_stays_to_blame

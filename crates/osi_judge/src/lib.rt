@@ -1,54 +1,58 @@
-//! One side of one session (X.225), judged by what it sent: whether some session explains all of it, and if not, with
-//! which of its TSDUs the first break is. It only observes: it has no key, no clock and no end of its own.
+//! Which side of a byte connection broke the protocol first, and where: for both classes of transport (X.224 classes 0 and
+//! 2), and for any number of session connections on it.
 //!
-//! Two ends don't understand each other, and each vendor blames the other. A capture of their connection shows the TSDUs
-//! of both sides, but not when a side took what the other had sent. So a TSDU of the other side counts as taken or not,
-//! whichever helps the side that is judged; but only if it had passed before the first octet of the TSDU in question.
-//!
-//! A [`Side`] keeps the states of all sessions that still explain what the side sent. You give it the TSDUs of the other
-//! side and its own, in the order in which they passed:
+//! A [`Judge`] only observes. You feed it a capture, the octets of both directions in the order in which they passed. It
+//! reads packets and transport units, judges the transport of each side by `osi_rules`, joins the TSDUs of each connection,
+//! and gives them to the two sessions of that connection, which `osi_side` judges.
 //!
 //! ```text
-//! let mut side = Side::called(alloc)?;
-//! side.hear(connect)?;                  // a CN of the side that calls passes
-//! side.tell(accept, 1)?;                // an AC of this side, before which one TSDU of the other had passed
-//! match side.finding() {
-//!     Finding::Kept => {}               // a session explains what it sent so far: side.stands() has its state
-//!     Finding::Broke(at) => {}          // its TSDU `at` breaks the protocol: side.by() has the rule
-//!     Finding::Left(at) => {}           // X.225 allows it, and no session of this library sends it
-//!     Finding::TooMany => {}            // too many sessions explain it, so it is judged no further
+//! let mut judge = Judge::new(alloc);
+//! let mut rest = piece;                                // of left, the side that calls
+//! while !rest.is_empty() {
+//!     let used = judge.feed(Direction::Left, rest)?;     // up to the end of a header or a packet
+//!     rest = &rest[used..];
 //! }
+//! judge.settle()?;                                       // only if an allocation may have failed
+//! for number in 0..judge.count() {                       // the connections, in the order of their CRs
+//!     let outcome = match judge.connection(number)? {
+//!         Found::Placed(connection) => connection.outcome(Direction::Left)?,
+//!         Found::Replaced(past) => past.outcome(Direction::Left),
+//!     };
+//! }
+//! let broke = judge.broke(Direction::Left);              // where left's transport first broke a rule
+//! let first = judge.first();                             // whose break passed first, of session or of transport
 //! ```
 //!
-//! Of the TSDUs of the other side only outlines are kept: a TSDU without its user data. Equal ones in a row are kept once.
+//! A TSDU counts as known to the other side if its last octet had passed before the first octet of the packet in which the
+//! other side's TSDU begins. So for each connection and side the number of TSDUs is kept that had passed when the current
+//! packet of that side began.
 //!
-//! The laws ([`mod@laws`]) say that an honest session is always explained, so that an honest side is never blamed.
-//! What a side leaves to others: which TSDUs of a byte connection are of which session, and how many had passed
-//! (`osi_tap`), finding the byte connection in a network capture (`osi-capture`), and the text of the verdict
-//! (`osi_dispute`).
+//! **Memory.** The judge holds the octets of at most one packet of each direction. Of each connection it keeps the unfinished
+//! TSDU of each side, and what `osi_side` keeps of a session: outlines of the TSDUs that passed, and at most 4,096 sessions
+//! that explain them. A side that more sessions explain is not judged any further (`Finding::TooMany`). At most 128
+//! connections are looked at together: a CR for one more is told (`Cause::TooMany`), and nothing after it is judged. Once the
+//! place of a connection that is over is given to another, a record of what was found of it is left ([`Past`]): some hundred octets,
+//! and as much again for each side that broke the protocol. [`Judge::within`] bounds what is kept of each connection: data that follow one another have one outline, so an
+//! association that sends data both ways is judged however long it lasts. If an allocation fails, no octet is lost and none
+//! counts twice: make the same call again.
 #![tactic(auto)]
 
-mod directions;
-mod findings;
-mod first_places;
-mod heard;
+mod connections;
+mod judge;
 pub mod laws;
-mod members;
-mod outlines;
-mod profiles;
-mod readings;
-mod restarts;
-mod rules;
-mod sides;
-mod standings;
-mod straight;
-mod telling;
-mod walks;
+mod lines;
+mod marks;
+mod outcomes;
+mod pasts;
+mod proceedings;
+mod rooms;
+mod sessions;
+mod streams;
 
-pub use directions::Direction;
-pub use findings::Finding;
-pub use members::Member;
-pub use readings::Reading;
-pub use rules::{Break, Rule};
-pub use sides::{Side, TellError};
-pub use standings::Stands;
+pub use connections::Connection;
+pub use judge::Judge;
+pub use marks::{Cause, First, Layer, Mark, UnitKind};
+pub use osi_side::{Direction, Reading};
+pub use outcomes::{Outcome, SessionState, Violation};
+pub use pasts::Past;
+pub use sessions::Found;

@@ -25,7 +25,7 @@
 //! ```
 //!
 //! A listing never judges: it reads the grammar of units, but does not say whether a session may send them.
-//! `osi_tap` does that, and `osi_dispute` makes a text of what it found from pieces of lines that are public here
+//! `osi_judge` does that, and `osi_report` makes a text of what it found from pieces of lines that are public here
 //! ([`octets_of`], [`push_words`]).
 #![tactic(auto)]
 

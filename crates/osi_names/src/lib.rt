@@ -8,7 +8,7 @@
 //! ```
 //!
 //! Each value has its own name. What is made of them is left to the crates above: a transcript to `osi_script`, a verdict
-//! to `osi_dispute`. They need neither each other nor what the other is about.
+//! to `osi_report`. They need neither each other nor what the other is about.
 #![tactic(auto)]
 
 mod lines;

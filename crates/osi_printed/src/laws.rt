@@ -3,32 +3,32 @@
 ghost use Rattle.std.specs.Prelude.{◌<◌, ◌^◌, false, true, List, ℕ, length};
 ghost use Rattle.osi_class.specs.declared.terms.Local.{Local};
 ghost use Rattle.osi_stack.specs.State.{Holding};
-ghost use Rattle.osi_judge.specs.Captures.{Capture};
-ghost use Rattle.osi_judge.specs.declared.directions.Direction.{Direction};
+ghost use Rattle.osi_side.specs.Captures.{Capture};
+ghost use Rattle.osi_side.specs.declared.directions.Direction.{Direction};
 ghost use Rattle.osi_honest.specs.Seeing.{IsFresh, IsSeen};
 ghost use Rattle.osi_honest.specs.Turns.{Run, Turn};
-ghost use Rattle.osi_tap.specs.Tapping.{comes_to};
-ghost use Rattle.osi_watched.specs.Passing.{AreOctets};
-ghost use Rattle.osi_dispute.specs.Blaming.{BlameNowhere};
-ghost use Rattle.osi_dispute.specs.Disputes.{IsJudgement};
-ghost use Rattle.osi_dispute.specs.Rows.{IsCaptureOf};
+ghost use Rattle.osi_judge.specs.States.{comes_to};
+ghost use Rattle.osi_blameless.specs.Passing.{AreOctets};
+ghost use Rattle.osi_report.specs.Blaming.{BlameNowhere};
+ghost use Rattle.osi_report.specs.Disputes.{IsJudgement};
+ghost use Rattle.osi_report.specs.Rows.{IsCaptureOf};
 
-use osi_dispute::laws::{a_text_has_one_finding, what_is_printed_of_a_side_is_found};
-use osi_watched::laws::{
+use osi_blameless::laws::{
     no_session_of_an_end_is_to_blame_after_a_break, the_transport_of_an_end_is_blamed_nowhere,
 };
+use osi_report::laws::{a_text_has_one_finding, what_is_printed_of_a_side_is_found};
 
 /// Nothing that `osi judge` prints says of an end of this library that it broke the protocol or left the profile. Take any run of an
 /// end from its beginning: any pieces of whatever octets arrive, any calls of its user, any shortage of memory, any number of
-/// connections, in either class. Take any capture of it, at a tap anywhere between it and the other side ([`IsSeen`]), and any text of
+/// connections, in either class. Take any capture of it, at a judge anywhere between it and the other side ([`IsSeen`]), and any text of
 /// this capture, which says which side called: a called end is right (`called`), a calling one left (`calling`). Then no line of the
 /// judgement of this text blames the end: no line of a connection or of its transport, none that says after which packet a side is not
 /// judged, and not the last line ([`BlameNowhere`]).
 ///
-/// It is assumed that fewer than 2^64 units have passed: a tap counts no further.
+/// It is assumed that fewer than 2^64 units have passed: a judge counts no further.
 ///
 /// [`IsSeen`]: ../../osi_honest/specs/Seeing.antt
-/// [`BlameNowhere`]: ../../osi_dispute/specs/Blaming.antt
+/// [`BlameNowhere`]: ../../osi_report/specs/Blaming.antt
 pub fn nothing_printed_blames_an_end()
     ensures called { (local : Local) (begin end : Holding) (turns : List Turn) (capture : Capture) (text lines : List ℕ) (status : ℕ) →
         IsFresh false local begin → Run begin turns end → AreOctets capture → IsSeen Direction.Right turns capture →

@@ -30,7 +30,7 @@
 //! `osi_carrier` where these have one; a rule that the other end doesn't check comes after those that it does.
 //!
 //! It looks at 128 connections at once: 64 that are open at an end, and 64 that one side has closed and the other may not
-//! know to be closed. Packets and units are read by the caller, and sessions are judged by `osi_judge`.
+//! know to be closed. Packets and units are read by the caller, and sessions are judged by `osi_side`.
 #![tactic(auto)]
 
 mod connections;

@@ -4,9 +4,9 @@
 use bitflags::Flags;
 use osi_carrier::Ref;
 use osi_class::Local;
-use osi_dispute::{Judgement, judge_text};
 use osi_listing::CaptureFault;
 use osi_pair::{Entry, Event, Pair, PairError, Side};
+use osi_report::{Judgement, judge_text};
 use osi_session::{CallError, Indication, Request};
 use osi_stack::{Connect, ConnectError, Stack};
 use osi_tpkt::Fed;

@@ -1,11 +1,11 @@
-//! Captures of one connection of class 0, whose outcome was worked out by hand. Each is fed to a tap in the pieces given
+//! Captures of one connection of class 0, whose outcome was worked out by hand. Each is fed to a judge in the pieces given
 //! here, and octet by octet.
 
 use crate::checks::Checks;
+use crate::judges::{CC, CR, DT, MIP, taken};
 use crate::sessions::cut;
-use crate::taps::{CC, CR, DT, MIP, taken};
-use osi_judge::{Direction, Finding};
-use osi_tap::{Found, Tap};
+use osi_judge::{Found, Judge};
+use osi_side::{Direction, Finding};
 use std::alloc::Global;
 use std::test::Fail;
 
@@ -181,21 +181,21 @@ const TRANSPORT_CAPTURES: &[Capture] = &[
 ];
 
 /// Feeds octets, at most this many at once.
-fn feed(checks: &Checks, tap: &mut Tap, direction: Direction, octets: &[u8], most: usize) {
+fn feed(checks: &Checks, judge: &mut Judge, direction: Direction, octets: &[u8], most: usize) {
     let mut rest = octets;
     for _octet in octets {
         if rest.is_empty() {
             return;
         }
         let (piece, _) = cut(rest, most);
-        let (_, behind) = cut(rest, taken(checks, tap, direction, piece));
+        let (_, behind) = cut(rest, taken(checks, judge, direction, piece));
         rest = behind;
     }
 }
 
 /// Whether this is found of both sides of the connection.
-fn are_found(tap: &Tap, left: Finding, right: Finding) -> bool {
-    match tap.connection(0) {
+fn are_found(judge: &Judge, left: Finding, right: Finding) -> bool {
+    match judge.connection(0) {
         Some(Found::Placed(connection)) => {
             connection.finding(Left) == left && connection.finding(Right) == right
         }
@@ -203,48 +203,51 @@ fn are_found(tap: &Tap, left: Finding, right: Finding) -> bool {
     }
 }
 
-fn first_of(tap: &Tap) -> Option<Direction> {
-    match tap.first() {
+fn first_of(judge: &Judge) -> Option<Direction> {
+    match judge.first() {
         Some(first) => Some(first.direction),
         None => None,
     }
 }
 
-fn broke_at(tap: &Tap) -> Option<u64> {
-    match tap.broke(Left) {
+fn broke_at(judge: &Judge) -> Option<u64> {
+    match judge.broke(Left) {
         Some(mark) => Some(mark.offset),
         None => None,
     }
 }
 
-fn is_found(checks: &Checks, tap: &Tap, capture: &Capture) {
+fn is_found(checks: &Checks, judge: &Judge, capture: &Capture) {
     checks.that(
-        are_found(tap, capture.left, capture.right),
+        are_found(judge, capture.left, capture.right),
         "something else is found",
     );
-    checks.that(first_of(tap) == capture.first, "another break is the first");
     checks.that(
-        broke_at(tap) == capture.broke,
+        first_of(judge) == capture.first,
+        "another break is the first",
+    );
+    checks.that(
+        broke_at(judge) == capture.broke,
         "left's transport stands otherwise",
     );
 }
 
 /// Feeds pieces of both sides, one after the other, at most this many octets at once.
-fn feed_all(checks: &Checks, tap: &mut Tap, pieces: &[(Direction, &[u8])], most: usize) {
+fn feed_all(checks: &Checks, judge: &mut Judge, pieces: &[(Direction, &[u8])], most: usize) {
     for (direction, octets) in pieces {
-        feed(checks, tap, *direction, *octets, most);
+        feed(checks, judge, *direction, *octets, most);
     }
 }
 
 /// A capture is judged if at most this many octets are fed at once.
-fn is_judged_in(checks: &Checks, tap: &mut Tap, capture: &Capture, most: usize) {
-    feed_all(checks, tap, capture.pieces, most);
-    is_found(checks, tap, capture);
+fn is_judged_in(checks: &Checks, judge: &mut Judge, capture: &Capture, most: usize) {
+    feed_all(checks, judge, capture.pieces, most);
+    is_found(checks, judge, capture);
 }
 
 /// Left sends all these octets.
-fn feed_left(checks: &Checks, tap: &mut Tap, octets: &[u8]) {
-    feed(checks, tap, Left, octets, usize::MAX);
+fn feed_left(checks: &Checks, judge: &mut Judge, octets: &[u8]) {
+    feed(checks, judge, Left, octets, usize::MAX);
 }
 
 /// The header of a DT of 65,528 octets that does not end its TSDU.
@@ -255,33 +258,33 @@ const LAST_PART: &[u8] = &[0x03, 0x00, 0x00, 0x87, 0x02, 0xF0, 0x80];
 const DATA_FRONT: &[u8] = &[0x01, 0x00, 0x01, 0x00];
 
 /// Left sends a packet of a part, with these octets.
-fn feed_part(checks: &Checks, tap: &mut Tap, header: &[u8], front: &[u8], octets: &[u8]) {
-    feed_left(checks, tap, header);
-    feed_left(checks, tap, front);
-    feed_left(checks, tap, octets);
+fn feed_part(checks: &Checks, judge: &mut Judge, header: &[u8], front: &[u8], octets: &[u8]) {
+    feed_left(checks, judge, header);
+    feed_left(checks, judge, front);
+    feed_left(checks, judge, octets);
 }
 
 /// Left sends a Data of 1,048,572 octets in 17 packets. The octets are 65,528.
-fn feed_the_longest(checks: &Checks, tap: &mut Tap, octets: &[u8]) {
+fn feed_the_longest(checks: &Checks, judge: &mut Judge, octets: &[u8]) {
     let (front, behind) = cut(octets, 4);
     let (last, _) = cut(octets, 128);
-    feed_part(checks, tap, PART, DATA_FRONT, behind);
+    feed_part(checks, judge, PART, DATA_FRONT, behind);
     for _ in 0..15u8 {
-        feed_part(checks, tap, PART, front, behind);
+        feed_part(checks, judge, PART, front, behind);
     }
-    feed_part(checks, tap, LAST_PART, &[], last);
+    feed_part(checks, judge, LAST_PART, &[], last);
 }
 
 /// Left sends a thousand Data of four octets.
-fn feed_a_thousand(checks: &Checks, tap: &mut Tap) {
+fn feed_a_thousand(checks: &Checks, judge: &mut Judge) {
     for _ in 0..1000u16 {
-        feed_left(checks, tap, DT);
+        feed_left(checks, judge, DT);
     }
 }
 
 /// Whether left said this many TSDUs, and the session of right heard them.
-fn are_said(tap: &Tap, told: usize) -> bool {
-    match tap.connection(0) {
+fn are_said(judge: &Judge, told: usize) -> bool {
+    match judge.connection(0) {
         Some(Found::Placed(connection)) => {
             connection.side(Left).told() == told && connection.side(Right).heard() == told
         }
@@ -292,17 +295,17 @@ fn are_said(tap: &Tap, told: usize) -> bool {
 /// How a connection begins.
 const OPENING: &[(Direction, &[u8])] = &[(Left, CR), (Right, CC), (Left, CN), (Right, AC)];
 
-fn a_long_capture_goes_on(checks: &Checks, tap: &mut Tap, octets: &[u8]) {
-    feed_all(checks, tap, OPENING, usize::MAX);
-    feed_a_thousand(checks, tap);
-    feed_the_longest(checks, tap, octets);
+fn a_long_capture_goes_on(checks: &Checks, judge: &mut Judge, octets: &[u8]) {
+    feed_all(checks, judge, OPENING, usize::MAX);
+    feed_a_thousand(checks, judge);
+    feed_the_longest(checks, judge, octets);
     checks.that(
-        are_found(tap, KEPT, KEPT) && are_said(tap, 1002),
+        are_found(judge, KEPT, KEPT) && are_said(judge, 1002),
         "something else or another number of TSDUs is found",
     );
 }
 
-/// What a tap is fed.
+/// What a judge is fed.
 #[derive(Clone, Copy)]
 enum Fed<'a> {
     /// A capture, at most this many octets at once.
@@ -311,17 +314,17 @@ enum Fed<'a> {
     Long(&'a [u8]),
 }
 
-fn is_judged(checks: &Checks, tap: &mut Tap, fed: Fed) {
+fn is_judged(checks: &Checks, judge: &mut Judge, fed: Fed) {
     match fed {
-        Fed::Capture(capture, most) => is_judged_in(checks, tap, capture, most),
-        Fed::Long(octets) => a_long_capture_goes_on(checks, tap, octets),
+        Fed::Capture(capture, most) => is_judged_in(checks, judge, capture, most),
+        Fed::Long(octets) => a_long_capture_goes_on(checks, judge, octets),
     }
 }
 
-/// What a fresh tap finds. This function owns it.
+/// What a fresh judge finds. This function owns it.
 fn judged(checks: &Checks, alloc: Global, fed: Fed) {
-    let mut tap = Tap::new(alloc);
-    is_judged(checks, &mut tap, fed);
+    let mut judge = Judge::new(alloc);
+    is_judged(checks, &mut judge, fed);
 }
 
 /// Each is fed in the pieces given, and octet by octet.

@@ -2,7 +2,7 @@
 //! TSDU arrives before the next is sent.
 
 use crate::checks::{Checks, OUT_OF_MEMORY};
-use osi_judge::{Finding, Side, TellError};
+use osi_side::{Finding, Side, TellError};
 use std::alloc::Global;
 use std::test::Fail;
 

@@ -29,10 +29,10 @@ pub fn do_job<R: Read, W: Write>(
     ensures long { IfSome (longest job) (λ most. IfSome (R.remaining reader.old) (λ text. most < length text →
         IsErrAnd result (λ f. (f.fault ≡ ToolFault.Input) ⊎ (f.fault ≡ ToolFault.OutOfMemory)))) }
     ensures input { IfErr result (λ f. f.fault ≡ ToolFault.Input →
-        FailsToTake job f.watch.read_failed (R.remaining reader.old) × (is_live job ≡ false → writer.new ≡ writer.old)) }
+        FailsToTake job f.calls.read_failed (R.remaining reader.old) × (is_live job ≡ false → writer.new ≡ writer.old)) }
     ensures bad_hex { IfErr result (λ f. f.fault ≡ ToolFault.BadHex →
         IfSome (R.remaining reader.old) (IsUnreadable job) × (is_live job ≡ false → writer.new ≡ writer.old)) }
-    ensures write { IfErr result (λ f. f.fault ≡ ToolFault.Write → (f.watch.write_failed ≡ true)
+    ensures write { IfErr result (λ f. f.fault ≡ ToolFault.Write → (f.calls.write_failed ≡ true)
         × IfSome (R.remaining reader.old) (λ text. BeginsToDo job text (W.contents writer.old) (W.contents writer.new))) }
     ensures memory { IfErr result (λ f. f.fault ≡ ToolFault.OutOfMemory → is_live job ≡ false → writer.new ≡ writer.old) }
     ensures live { IfErr result (λ f. (f.fault ≡ ToolFault.Write → ⊥) → is_live job ≡ true → IfSome (R.remaining reader.old) (λ text.

@@ -37,7 +37,7 @@ ghost use Rattle.std.specs.Prelude.{◌<◌, IfOk};
 pub use doing::do_job;
 use endings::ending_of;
 use faults::ProgramFault;
-pub use osi_commands::{Failure, ToolFault, Watch, judge, judge_live, pair, show};
+pub use osi_commands::{Calls, Failure, ToolFault, judge, judge_live, pair, show};
 use osi_words::job_of_words;
 pub use osi_words::{Job, job};
 use std::io;

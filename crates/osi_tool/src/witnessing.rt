@@ -5,7 +5,7 @@ ghost use Rattle.osi_listing.specs.Capture.{IsNoCapture};
 ghost use Rattle.osi_tool.specs.Witnessing.{Scripts, Tells, TellsPart};
 ghost use Rattle.osi_commands.specs.Show.{FailsToRead, TakesAtMost};
 
-use osi_commands::{Failure, LONGEST_INPUT, ToolFault, Watch, read_input};
+use osi_commands::{Calls, Failure, LONGEST_INPUT, ToolFault, read_input};
 use osi_listing::CaptureFault;
 use osi_witness::{Witness, witness_of};
 use std::alloc::Global;
@@ -36,9 +36,9 @@ fn script_of(alloc: Global, text: &[u8]) -> Result<Witness, ToolFault>
 }
 
 /// Finds the script of what a reader gives, and remembers which call failed.
-fn witness_watched<R: Read, W: Write>(
+fn witness_by<R: Read, W: Write>(
     alloc: Global,
-    watch: &mut Watch,
+    calls: &mut Calls,
     reader: &mut R,
     writer: &mut W,
 ) -> Result<u8, ToolFault>
@@ -49,16 +49,16 @@ fn witness_watched<R: Read, W: Write>(
     ensures long { IfSome (R.remaining reader.old) (λ text. 16777216 < length text →
         IsErrAnd result (λ fault. (fault ≡ ToolFault.Input) ⊎ (fault ≡ ToolFault.OutOfMemory))) }
     ensures input { IfErr result (λ fault. fault ≡ ToolFault.Input →
-        FailsToRead watch.new.read_failed (R.remaining reader.old) × (writer.new ≡ writer.old)) }
+        FailsToRead calls.new.read_failed (R.remaining reader.old) × (writer.new ≡ writer.old)) }
     ensures bad_hex { IfErr result (λ fault. fault ≡ ToolFault.BadHex →
         IfSome (R.remaining reader.old) IsNoCapture × (writer.new ≡ writer.old)) }
-    ensures write { IfErr result (λ fault. fault ≡ ToolFault.Write → (watch.new.write_failed ≡ true)
+    ensures write { IfErr result (λ fault. fault ≡ ToolFault.Write → (calls.new.write_failed ≡ true)
         × IfSome (R.remaining reader.old) (λ text. TellsPart text (W.contents writer.old) (W.contents writer.new))) }
     ensures memory { IfErr result (λ fault. fault ≡ ToolFault.OutOfMemory → writer.new ≡ writer.old) }
 {
-    let input = read_input(alloc, watch, reader)?;
+    let input = read_input(alloc, calls, reader)?;
     let witness = script_of(alloc, input.as_slice())?;
-    watch.write_text(writer, witness.script.as_slice())?;
+    calls.write_text(writer, witness.script.as_slice())?;
     Ok(witness.status)
 }
 
@@ -79,16 +79,16 @@ pub fn witness<R: Read, W: Write>(
     ensures long { IfSome (R.remaining reader.old) (λ text. 16777216 < length text →
         IsErrAnd result (λ f. (f.fault ≡ ToolFault.Input) ⊎ (f.fault ≡ ToolFault.OutOfMemory))) }
     ensures input { IfErr result (λ f. f.fault ≡ ToolFault.Input →
-        FailsToRead f.watch.read_failed (R.remaining reader.old) × (writer.new ≡ writer.old)) }
+        FailsToRead f.calls.read_failed (R.remaining reader.old) × (writer.new ≡ writer.old)) }
     ensures bad_hex { IfErr result (λ f. f.fault ≡ ToolFault.BadHex →
         IfSome (R.remaining reader.old) IsNoCapture × (writer.new ≡ writer.old)) }
-    ensures write { IfErr result (λ f. f.fault ≡ ToolFault.Write → (f.watch.write_failed ≡ true)
+    ensures write { IfErr result (λ f. f.fault ≡ ToolFault.Write → (f.calls.write_failed ≡ true)
         × IfSome (R.remaining reader.old) (λ text. TellsPart text (W.contents writer.old) (W.contents writer.new))) }
     ensures memory { IfErr result (λ f. f.fault ≡ ToolFault.OutOfMemory → writer.new ≡ writer.old) }
 {
-    let mut watch = Watch::new();
-    match witness_watched(alloc, &mut watch, reader, writer) {
+    let mut calls = Calls::new();
+    match witness_by(alloc, &mut calls, reader, writer) {
         Ok(status) => Ok(status),
-        Err(fault) => Err(Failure { fault, watch }),
+        Err(fault) => Err(Failure { fault, calls }),
     }
 }

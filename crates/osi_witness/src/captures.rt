@@ -1,7 +1,7 @@
 //! Reading both directions of a capture from its text.
 
-use osi_dispute::Pieces;
 use osi_explain::Capture;
+use osi_report::Pieces;
 use osi_script::Side;
 use std::alloc::{AllocError, Global};
 

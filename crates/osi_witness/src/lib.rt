@@ -1,6 +1,6 @@
 //! The witness of a judgement: a script that two ends play, and that tells what both sides of a capture did.
 //!
-//! Whoever doubts a judgement of `osi_judge` that a side kept the protocol needs to trust no judge. For each side of each connection
+//! Whoever doubts a judgement of `osi_side` that a side kept the protocol needs to trust no judge. For each side of each connection
 //! [`witness_of`] takes a run of a session that sends what this side sent, and writes all of them as one script of `osi pair`: the
 //! calls of both users, and how many octets are carried between them. Play it, and compare what the two ends send with the
 //! capture.
@@ -19,7 +19,7 @@
 //! done. It stops before the first TSDU that no session sends, or that no call of a script sends; its last line is a
 //! comment then, which names the packet.
 //!
-//! What it leaves to others: the text of a capture (`osi_dispute`), the runs and the lines of the script (`osi_explain`),
+//! What it leaves to others: the text of a capture (`osi_report`), the runs and the lines of the script (`osi_explain`),
 //! and the two ends (`osi_transcript`, `osi_pair`).
 #![tactic(auto)]
 

@@ -3,11 +3,11 @@
 ghost use Rattle.std.specs.Prelude.{Option};
 ghost use Rattle.std.specs.Coded.{coded_option};
 ghost use Rattle.osi_c.specs.contracts.judges.Judge.{the_row};
-ghost use Rattle.osi_c.specs.declared.judges.Judge.{Judge};
+ghost use Rattle.osi_c.specs.declared.judges.HeldJudge.{HeldJudge};
 
 use crate::handles::loose::Loose;
 use crate::judge_slots::OsiJudge;
-use crate::judges::Judge;
+use crate::judges::HeldJudge;
 use std::alloc::Global;
 use std::marker::Model;
 use std::ptr::null_mut;
@@ -16,7 +16,7 @@ use std::ptr::null_mut;
 #[repr(C)]
 pub struct JudgeHandle {
     at: *mut u8,
-    pub ghost value: { Option Judge } by { coded_option the_row.coded },
+    pub ghost value: { Option HeldJudge } by { coded_option the_row.coded },
 }
 
 impl Model for JudgeHandle {
@@ -37,7 +37,7 @@ impl JudgeHandle {
     }
 
     /// The box of these parts.
-    pub(crate) fn of_loose(loose: Loose<Judge, Global>) -> JudgeHandle
+    pub(crate) fn of_loose(loose: Loose<HeldJudge, Global>) -> JudgeHandle
         ensures { result.value ≡ Some loose.value }
     {
         let Loose { at, alloc: _ } = loose;
@@ -45,7 +45,7 @@ impl JudgeHandle {
     }
 
     /// The parts of the box.
-    pub(crate) fn into_loose(self, alloc: Global) -> Loose<Judge, Global>
+    pub(crate) fn into_loose(self, alloc: Global) -> Loose<HeldJudge, Global>
         requires { IsSome self.value }
         ensures { Some result.value ≡ self.value }
     {
@@ -70,7 +70,7 @@ impl OsiJudge {
     ghost use Rattle.osi_c.specs.LentJudge.{LendsSlot};
 
     /// What a full slot holds.
-    pub(crate) fn get_mut(&mut self) -> &mut Judge
+    pub(crate) fn get_mut(&mut self) -> &mut HeldJudge
         requires { IsSome self.old.inner.value }
         ensures* writes_back { sem 𝓛 (LendsSlot self.entry result) }
         ensures value { self.old.inner.value ≡ Some result.now }

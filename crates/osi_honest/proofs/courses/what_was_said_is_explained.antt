@@ -8,7 +8,7 @@ use Rattle.osi_honest.proofs.Vocabulary.{Told, done, IsSentFrom, AreCalls, Cours
 use Rattle.osi_honest.proofs.Vocabulary.{units_given, is_gone, is_open, closed, never, AreSame, Shows, Said, awaited, unknown, arith, over}
 use Rattle.osi_honest.proofs.Vocabulary.{told_of}
 use Rattle.osi_session.specs.Sessions.{opens}
-use Rattle.osi_judge.specs.Running as running
+use Rattle.osi_side.specs.Running as running
 use Rattle.osi_honest.proofs.courses.what_calls_of_a_link_say.{fresh_of, none_said, out_more, said_more}
 use Rattle.osi_honest.proofs.courses.what_units_do_to_a_course.{no_calls}
 use Rattle.osi_honest.proofs.sessions.the_session_of_a_request_is_a_caller.{opens_so}

@@ -5,7 +5,7 @@ use Rattle.osi_honest.proofs.Vocabulary.{◌+◌, ◌∙◌, ◌∷◌, ◌≡�
 use Rattle.osi_honest.proofs.Vocabulary.{linked_up as opened, session_react as react, Told, IsSentFrom, Pass, Runs, sends, History, Said}
 use Rattle.osi_honest.proofs.Vocabulary.{said_after, told_of}
 use Rattle.std.proofs.Common.{length-append}
-use Rattle.osi_judge.specs.Running as running
+use Rattle.osi_side.specs.Running as running
 use Rattle.osi_honest.specs.Talking as history
 
 at_place : (took rest : List (List ℕ)) (tsdu : List ℕ) → get_or (took ++ tsdu ∷ rest) (length took) [] ≡ tsdu

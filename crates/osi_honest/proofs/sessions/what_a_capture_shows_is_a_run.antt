@@ -3,7 +3,7 @@
 -- For the laws of an end and its connections.
 use Rattle.osi_honest.proofs.Vocabulary.{[], ap, arith, Bool, false, get_or, length, List, refl, ℕ, ◌++◌, ◌+◌, ◌<◌, ◌∷◌, ◌≡◌, ◌≤◌, came}
 use Rattle.osi_honest.proofs.Vocabulary.{Listener, Told, IsSentFrom, Pass, Runs, sends, AreSame, Shows}
-use Rattle.osi_judge.specs.Running as running
+use Rattle.osi_side.specs.Running as running
 
 -- ---- how many had been taken
 

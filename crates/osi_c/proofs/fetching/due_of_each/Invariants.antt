@@ -4,7 +4,7 @@ use Rattle.osi_c.proofs.each_connection_is_looked_at.{EachBefore}
 use Rattle.osi_c.proofs.fetching.due_of_each.Given as goal
 
 abbrev pub invariant-connections : goal.invariant-connections
-invariant-connections l = EachBefore (HasNoneBy l.fn.judge l.fn.judge.told.items) l.fn.joints l.place
+invariant-connections l = EachBefore (HasNoneBy l.fn.held l.fn.held.told.items) l.fn.joints l.place
 
 abbrev pub decreases-connections : goal.decreases-connections
 decreases-connections l = length l.fn.joints - l.place

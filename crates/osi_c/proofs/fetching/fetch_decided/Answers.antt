@@ -4,10 +4,10 @@ use Rattle.osi_c.proofs.fetching.fetch_decided.Goals as goal
 
 pub returns-then-is_undecided : goal.returns-then-is_undecided
 returns-then-is_undecided c = λ settled. record {
-  settles = record { keeps = same_kept c.args.judge.now c.args.judge.now (record { tap = refl; opening = refl; text = refl }) refl; settled = settled };
-  none = inl (late_is c.is_undecided.result true c.args.judge.now c.is_undecided.ensures c.if-is_undecided.true);
+  settles = record { keeps = same_kept c.args.held.now c.args.held.now (record { judge = refl; opening = refl; text = refl }) refl; settled = settled };
+  none = inl (late_is c.is_undecided.result true c.args.held.now c.is_undecided.ensures c.if-is_undecided.true);
 }
 
 pub returns : goal.returns
 returns c = λ settled.
-    c.fetch_due.ensures settled (late_is c.is_undecided.result false c.args.judge.now c.is_undecided.ensures c.if-is_undecided.false)
+    c.fetch_due.ensures settled (late_is c.is_undecided.result false c.args.held.now c.is_undecided.ensures c.if-is_undecided.false)

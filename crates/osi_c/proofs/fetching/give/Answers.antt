@@ -4,9 +4,9 @@ use Rattle.osi_c.proofs.fetching.give.Goals as goal
 
 pub returns-in-Ok : goal.returns-in-Ok
 returns-in-Ok c = λ settled decided turn due.
-    given c.args.judge.now _ c.args.due.subject c.args.due.note c.shown-verdict.result settled decided turn due c.shown-verdict.ensures
-    (record { tap = refl; opening = refl; text = refl }) (grind arith)
+    given c.args.held.now _ c.args.due.subject c.args.due.note c.shown-verdict.result settled decided turn due c.shown-verdict.ensures
+    (record { judge = refl; opening = refl; text = refl }) (grind arith)
 
 pub returns-in-Err : goal.returns-in-Err
 returns-in-Err c = λ settled decided turn due.
-    same_kept c.args.judge.now _ (record { tap = refl; opening = refl; text = refl }) c.in-Err.ensures.items
+    same_kept c.args.held.now _ (record { judge = refl; opening = refl; text = refl }) c.in-Err.ensures.items

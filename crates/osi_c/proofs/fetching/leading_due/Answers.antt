@@ -1,6 +1,6 @@
 use Rattle.std.proofs.Common.{arith}
 use Rattle.std.proofs.Common.{◌≡◌, ◌∙◌, sym, ap, Some}
-use Rattle.osi_tap.specs.Standing.{first_in}
+use Rattle.osi_judge.specs.Standing.{first_in}
 use Rattle.osi_c.specs.Subjects.{leading}
 use Rattle.osi_c.specs.Fetching.{IsDue}
 use Rattle.osi_c.specs.declared.subjects.Subject.{Subject}
@@ -14,10 +14,10 @@ returns-in-None-clause-none c = grind (arith, no_leading)
 pub returns-in-Some-clause-some : goal.returns-in-Some-clause-some
 returns-in-Some-clause-some c =
     let leads = sym (c.in-Some.ensures ∙ ap leading c.first.ensures.value) in
-    both_some c.due_of.result (λ (d : Due). leading (first_in c.args.judge.now.tap) ≡ Some d.subject)
-    (λ (d : Due). IsDue c.args.judge.now c.args.judge.now.told.items d.subject d.note)
+    both_some c.due_of.result (λ (d : Due). leading (first_in c.args.held.now.judge) ≡ Some d.subject)
+    (λ (d : Due). IsDue c.args.held.now c.args.held.now.told.items d.subject d.note)
     (some_as c.due_of.result (λ (d : Due). d.subject ≡ c.in-Some.subject)
-    (λ (d : Due). leading (first_in c.args.judge.now.tap) ≡ Some d.subject)
+    (λ (d : Due). leading (first_in c.args.held.now.judge) ≡ Some d.subject)
     (λ d e. leads ∙ ap (λ (k : Subject). Some k) (sym e)) c.due_of.ensures.of_it)
     c.due_of.ensures.some
 

@@ -4,7 +4,7 @@ use Rattle.osi_c.proofs.judges.take_piece.Goals as goal
 
 pub returns-in_default : goal.returns-in_default
 returns-in_default c =
-    refused c.args.side c.args.piece.now c.rest.rest.now c.args.judge.now c.rest.judge c.pass.new.judge _ refl c.rest.invariant
+    refused c.args.side c.args.piece.now c.rest.rest.now c.args.held.now c.rest.held c.pass.new.held _ refl c.rest.invariant
     c.in_default.ensures.err
 
 pub rest-preserved : goal.rest-preserved
@@ -14,4 +14,4 @@ pub returns : goal.returns
 returns c = search (arith, empty_yes, all_passed)
 
 pub rest-init : goal.rest-init
-rest-init c = nothing_passed c.args.side c.args.piece.now c.args.judge.now
+rest-init c = nothing_passed c.args.side c.args.piece.now c.args.held.now

@@ -1,6 +1,6 @@
 use Rattle.std.proofs.Common.{◌∙◌, ap}
-use Rattle.osi_judge.specs.declared.directions.Direction.{Direction}
-use Rattle.osi_tap.specs.Holding.{line_in}
+use Rattle.osi_side.specs.declared.directions.Direction.{Direction}
+use Rattle.osi_judge.specs.Holding.{line_in}
 use Rattle.osi_c.proofs.a_note_is_of_what_passed.{note_is}
 use Rattle.osi_c.proofs.notes.note_of_joint.Goals as goal
 

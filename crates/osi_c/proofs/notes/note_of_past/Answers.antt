@@ -1,6 +1,6 @@
 use Rattle.std.proofs.Common.{subst}
-use Rattle.osi_judge.specs.declared.directions.Direction.{Direction}
-use Rattle.osi_tap.specs.Outcomes.{IsOutcomeOf}
+use Rattle.osi_side.specs.declared.directions.Direction.{Direction}
+use Rattle.osi_judge.specs.Outcomes.{IsOutcomeOf}
 use Rattle.osi_c.proofs.a_note_is_of_what_passed.{past_note}
 use Rattle.osi_c.proofs.notes.note_of_past.Goals as goal
 

@@ -1,5 +1,5 @@
 use Rattle.std.proofs.Common.{arith}
-use Rattle.osi_tap.specs.Connections.{numbered}
+use Rattle.osi_judge.specs.Connections.{numbered}
 use Rattle.osi_c.proofs.a_note_is_of_what_passed.{names_held, names_missing}
 use Rattle.osi_c.proofs.verdicts.references_at.Goals as goal
 

@@ -1,6 +1,6 @@
 use Rattle.std.proofs.Common.{List, ℕ, ◌++◌, take, subst, arith}
 use Rattle.std.proofs.lemmas.Grind.{common_steps}
-use Rattle.osi_dispute.specs.Hearing.{IsHeard}
+use Rattle.osi_report.specs.Hearing.{IsHeard}
 use Rattle.osi_commands.proofs.what_is_read_is_heard.{heard_piece, reading_more}
 use Rattle.osi_commands.proofs.judging.hear_all.Goals as goal
 

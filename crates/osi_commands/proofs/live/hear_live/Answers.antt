@@ -1,6 +1,6 @@
 use Rattle.std.proofs.Common.{List, ℕ, ◌++◌, take, subst, arith}
 use Rattle.std.proofs.lemmas.Grind.{common_steps}
-use Rattle.osi_dispute.specs.Hearing.{IsHeard}
+use Rattle.osi_report.specs.Hearing.{IsHeard}
 use Rattle.osi_commands.proofs.what_is_read_is_heard.{heard_piece, reading_more}
 use Rattle.osi_commands.proofs.what_is_certain_is_written.{heard_on, if_write_fails, part_so_far, told_more}
 use Rattle.osi_commands.proofs.live.hear_live.Goals as goal

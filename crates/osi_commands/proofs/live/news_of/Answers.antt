@@ -1,4 +1,4 @@
-use Rattle.osi_dispute.proofs.what_is_told_is_of_the_report.{told_of}
+use Rattle.osi_report.proofs.what_is_told_is_of_the_report.{told_of}
 use Rattle.osi_commands.proofs.what_is_certain_is_written.{not_failed}
 use Rattle.osi_listing.specs.declared.capture.CaptureFault.TheVariants as fault
 use Rattle.osi_commands.proofs.live.news_of.Goals as goal

@@ -1,11 +1,11 @@
 use Rattle.std.proofs.Common.{◌≡◌, List, subst, ℕ}
-use Rattle.osi_judge.specs.Captures.{Capture}
-use Rattle.osi_judge.specs.declared.directions.Direction.{Direction}
-use Rattle.osi_judge.specs.declared.directions.Direction.TheVariants.{Left, Right}
-use Rattle.osi_tap.specs.Tapping.{comes_to}
-use Rattle.osi_dispute.specs.Blaming.{BlameNowhere, IsBlameless}
-use Rattle.osi_dispute.specs.Disputes.{IsJudgement}
-use Rattle.osi_dispute.specs.Rows.{IsCaptureOf}
+use Rattle.osi_side.specs.Captures.{Capture}
+use Rattle.osi_side.specs.declared.directions.Direction.{Direction}
+use Rattle.osi_side.specs.declared.directions.Direction.TheVariants.{Left, Right}
+use Rattle.osi_judge.specs.States.{comes_to}
+use Rattle.osi_report.specs.Blaming.{BlameNowhere, IsBlameless}
+use Rattle.osi_report.specs.Disputes.{IsJudgement}
+use Rattle.osi_report.specs.Rows.{IsCaptureOf}
 use Rattle.osi_printed.proofs.laws.nothing_printed_blames_an_end.Goals as goal
 
 abbrev Printed : Type 0

@@ -1,5 +1,5 @@
 use Rattle.std.proofs.Common.{length}
-use Rattle.osi_dispute.specs.Reading.{rows_left}
+use Rattle.osi_report.specs.Reading.{rows_left}
 use Rattle.osi_witness.proofs.captures.capture_of.Given as goal
 
 abbrev pub decreases-pieces : goal.decreases-pieces

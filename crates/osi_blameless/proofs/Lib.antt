@@ -1,0 +1,35 @@
+-- The map of these proofs, in reading order. `Vocabulary` has the names that come from elsewhere.
+mod Vocabulary
+pub mod small_facts_that_many_lemmas_use
+-- a capture is steps
+pub mod what_the_first_octets_are
+pub mod turns_are_taken_late
+pub mod what_the_turns_among_steps_do
+pub mod what_an_octet_does
+pub mod how_an_end_stands_to_what_has_passed
+pub mod what_follows_what_cannot_be_read
+pub mod a_capture_is_steps
+-- the first break of transport at a judge
+pub mod what_a_unit_leaves_at_a_judge
+pub mod what_passes_keeps_a_claim
+pub mod what_passes_keeps_a_claim_on_two_courses
+-- steps are events of a whole end
+pub mod what_waits_changes_nothing
+pub mod what_a_carrier_puts_can_be_written
+pub mod what_packets_and_short_tsdus_keep_a_turn_keeps
+pub mod a_carrier_does_events
+pub mod what_is_put_is_what_is_written
+pub mod steps_are_events
+-- so the end has not broken a rule first
+pub mod the_first_break_is_not_of_an_end
+pub mod no_unit_of_a_whole_end_is_a_break
+pub mod what_a_taker_passes_over
+pub mod sessions
+-- nor any rule later, whatever the other side breaks
+pub mod a_break_ends_no_judging_or_all
+pub mod what_is_halted_stays_halted
+pub mod later_steps_are_events
+pub mod in_class_0_one_side_alone_is_judged
+pub mod an_end_that_is_judged_alone_stays_so
+pub mod what_is_judged_beside_a_halted_side
+pub mod no_unit_of_an_end_breaks_a_rule

@@ -1,0 +1,254 @@
+-- What the proofs of this crate take from the library, from the crates below and from its own definitions.
+pub use Rattle.std.proofs.Common.{Bool, Err, IfSome, IsSome, List, None, Ok, Option, Result, Some, [], ap, append_assoc, arith, drop, false}
+pub use Rattle.std.proofs.Common.{if◌then◌else◌, inl, inr, is_some, leb, length, map, nat_le, nat_lt, not, option_map, position, refl, set}
+pub use Rattle.std.proofs.Common.{slice_get, slice_set, subst, suc, sym, take, true, zero, ℕ, ◌&&◌, ◌*◌, ◌++◌, ◌+◌, ◌-◌, ◌/◌, ◌<◌, ◌==◌}
+pub use Rattle.std.proofs.Common.{◌^◌, ◌||◌, ◌∙◌, ◌∷◌, ◌≡◌, ◌≢◌, ◌≤◌, ◌⊎◌}
+pub use Rattle.std.proofs.Math.Seq.{take-append_seam}
+pub use Rattle.std.proofs.lemmas.Bool.{eq-eqb, eqb-true, le-leb, le-ltb, leb-false, leb-true, lt-ltb, ltb-false, ltb-true}
+pub use Rattle.std.proofs.lemmas.Bool.Decides.{leb_tells, nat_tests}
+pub use Rattle.std.proofs.lemmas.Grind.{flat_map-append}
+pub use Rattle.std.proofs.lemmas.List.{append-nil, append_cancel_left, length-append, length-map, map-append, take-append-drop, take_all}
+pub use Rattle.std.proofs.lemmas.List.{take_at}
+pub use Rattle.std.proofs.lemmas.Option.{slice_get-map, slice_get_past, slice_get_within}
+pub use Rattle.std.specs.List.{AllByRecursion, list_all, list_any}
+pub use Rattle.osi_tpkt.proofs.a_prefix_of_a_packet.{empty_partial}
+pub use Rattle.osi_tpkt.proofs.a_stream_is_cut_in_one_way.{end_no_packet, some_cut}
+pub use Rattle.osi_unit.proofs.lists_of_octets_stay_octets.{octets_append, octets_cons, octets_left, octets_nil, octets_right}
+pub use Rattle.osi_unit.specs.Octets.{IsOctets}
+pub use Rattle.osi_tpkt.specs.Packet.{IsPacket, packet_of}
+pub use Rattle.osi_tpkt.specs.Stream.{ArePackets, Ending, EndsAt, offset_of}
+pub use Rattle.osi_tpkt.specs.declared.cutting.Fed.{Fed}
+pub use Rattle.osi_tpkt.specs.declared.faults.TpktFault.{TpktFault}
+pub use Rattle.osi_tpdu.proofs.the_units_of_a_packet.{units_fit, units_found, units_only}
+pub use Rattle.osi_tpdu.proofs.the_written_form_spells_its_value.{written_spells}
+pub use Rattle.osi_tpdu.specs.Limits.{tsap_octets}
+pub use Rattle.osi_tpdu.specs.Packet.{AreUnits, units_of}
+pub use Rattle.osi_tpdu.specs.Value.{Connect, HasFieldsInRange, IsConnect, Value, acknowledge, confirm, data0, data2, destination_of}
+pub use Rattle.osi_tpdu.specs.Value.{disconnect, disconnected, error, may_be_followed, request}
+pub use Rattle.osi_tpdu.specs.Writing.{Fits, written}
+pub use Rattle.osi_tpdu.specs.declared.faults.TpduFault.{TpduFault}
+pub use Rattle.osi_tpdu.specs.declared.tsaps.Tsap.{Tsap}
+pub use Rattle.osi_class.proofs.between.parts_stay_in_order.{at_some}
+pub use Rattle.osi_class.proofs.bounds.what_a_call_preserves.{move_keeps, takes_run}
+pub use Rattle.osi_class.proofs.giving.what_calls_send.{all}
+pub use Rattle.osi_class.specs.Ends.{Ends}
+pub use Rattle.osi_class.specs.Flow.{Flow}
+pub use Rattle.osi_class.specs.Giving.{all_given}
+pub use Rattle.osi_class.specs.Limits.{longest_tsdu}
+pub use Rattle.osi_class.specs.Link.{Given, Standing, ack, part0, part2, unit_of, with_tsdu}
+pub use Rattle.osi_class.specs.Negotiation.{Selection, accept, refuse, selected_by}
+pub use Rattle.osi_class.specs.Runs.{Move, Moves, MovesAlong, give_out, given_parts, hand_in, hand_out, part_out, parts_in, parts_out}
+pub use Rattle.osi_class.specs.Runs.{take_in, tsdus_in, tsdus_out, unit_parts}
+pub use Rattle.osi_class.specs.Tsdus.{Part, tsdus, tsdus_after, uncut}
+pub use Rattle.osi_class.specs.declared.faults.LinkFault.{LinkFault}
+pub use Rattle.osi_class.specs.declared.terms.Class.{Class}
+pub use Rattle.osi_class.specs.declared.terms.Class.TheVariants.{Two, Zero}
+pub use Rattle.osi_class.specs.declared.terms.Local.{Local}
+pub use Rattle.osi_carrier.proofs.effects.what_is_in_front_changes_nothing.{apart_all}
+pub use Rattle.osi_carrier.proofs.stream.a_piece_is_read_packet_by_packet.{acts_cases}
+pub use Rattle.osi_carrier.specs.Calls.{asks, closed_on, closed_with, ended_by, link_of, may_connect, open_link, send_all_error, sent}
+pub use Rattle.osi_carrier.specs.Calls.{sent_all}
+pub use Rattle.osi_carrier.specs.Fetching.{IsNoFront}
+pub use Rattle.osi_carrier.specs.Happenings.{Happening}
+pub use Rattle.osi_carrier.specs.Negotiation.{acceptance, opened_link, unit_octets}
+pub use Rattle.osi_carrier.specs.Orderly.{RiseFrom, connection_by}
+pub use Rattle.osi_carrier.specs.Pump.{written_by}
+pub use Rattle.osi_carrier.specs.React.{answers, before_class, denies, handed_out, has_peer, in_class, in_two, in_zero, is_full, pumps}
+pub use Rattle.osi_carrier.specs.React.{react, react_by, reacts, taking, to_connection, to_linked, to_only, to_reference}
+pub use Rattle.osi_carrier.specs.Rows.{Rows, value_at}
+pub use Rattle.osi_carrier.specs.Runs.{UserCall, breaks, closes, connects, put_back, sends, sends_all, user, user_does}
+pub use Rattle.osi_carrier.specs.State.{State as Carrier, Connection as Live, closing, ends, linked, packets}
+pub use Rattle.osi_carrier.specs.declared.ends.EndReason.{EndReason}
+pub use Rattle.osi_carrier.specs.declared.ends.EndReason.TheVariants.{NoMemory}
+pub use Rattle.osi_carrier.specs.declared.faults.OpenError.{OpenError}
+pub use Rattle.osi_carrier.specs.declared.faults.OpenError.TheVariants.{Ended, NotCaller}
+pub use Rattle.osi_session.proofs.tsdu.what_is_sent_is_taken_as_meant.{said_again}
+pub use Rattle.osi_session.specs.Listening.{Input, Listener, called}
+pub use Rattle.osi_session.specs.Standing.{Seen}
+pub use Rattle.osi_stack.proofs.called.what_is_sent_is_short.{SpduLaws}
+pub use Rattle.osi_stack.proofs.carried.events_one_after_the_other.{concluded_carrier}
+pub use Rattle.osi_stack.proofs.carried.packets_without_events.{lasting_of, packet_is, quiet_stops}
+pub use Rattle.osi_stack.proofs.carried.what_each_step_preserves.{events_heard}
+pub use Rattle.osi_stack.proofs.given_up.the_invariant_stays.{disconnect_carrier}
+pub use Rattle.osi_stack.proofs.stream.an_end_is_what_its_packets_make.{none_ended}
+pub use Rattle.osi_stack.proofs.stream.the_room_for_a_packet.{found_how}
+pub use Rattle.osi_stack.specs.Calls.{after_open, has_given}
+pub use Rattle.osi_stack.specs.Feeding.{Feeds, Goes, TakesPackets, uses_all}
+pub use Rattle.osi_stack.specs.Hearing.{RunsOut, Starves, after_packet, hears_times, with_carrier, with_events}
+pub use Rattle.osi_stack.specs.Messages.{AreShort}
+pub use Rattle.osi_stack.specs.Moving.{carrier_by, to_session}
+pub use Rattle.osi_stack.specs.Rounds.UserCall.{calling}
+pub use Rattle.osi_stack.specs.Runs.{Call, Calls, carried_in, used_in}
+pub use Rattle.osi_stack.specs.State.{End, Holding}
+pub use Rattle.osi_stack.specs.declared.connecting.ConnectError.{ConnectError}
+pub use Rattle.osi_rules.proofs.a_stop_is_said.{stops_are_said, stops_last}
+pub use Rattle.osi_rules.specs.Reaches.{is_applied, reach_of}
+pub use Rattle.osi_rules.specs.Rows.{Test, acknowledge_tests, confirm_tests, data0_tests, first_failed, given_again}
+pub use Rattle.osi_rules.specs.Sides.{begins, is_closed, is_closing, is_free, is_live, is_named, is_open, is_over, is_over_by, is_refused}
+pub use Rattle.osi_rules.specs.Sides.{is_silent, own, seen, uses}
+pub use Rattle.osi_rules.specs.Traffic.{Outcome, State, State as Traffic, asked_by, asks_by, asks_kept, asks_of, at_found, at_place}
+pub use Rattle.osi_rules.specs.Traffic.{begun_after, class_for, class_of, closing_phase, connection_after, course_after, course_after_none}
+pub use Rattle.osi_rules.specs.Traffic.{found, found_on, fresh, half_after, has_broken, in_doubt, is_report, is_stopped, judged_on}
+pub use Rattle.osi_rules.specs.Traffic.{meaning_if, meant, none_told, noted, one_told, request_tests, route, route_in, route_zero, routed}
+pub use Rattle.osi_rules.specs.Traffic.{sent_on, silent_half, stops, stops_by, takes, unnamed, unnamed_by, unnamed_told, uses_source}
+pub use Rattle.osi_rules.specs.declared.connections.Connection.{Connection}
+pub use Rattle.osi_rules.specs.declared.connections.Offer.{Offer}
+pub use Rattle.osi_rules.specs.declared.courses.Course.{Course as Rules}
+pub use Rattle.osi_rules.specs.declared.directions.Direction.{Direction as Way}
+pub use Rattle.osi_rules.specs.declared.findings.Finding.{Finding}
+pub use Rattle.osi_rules.specs.declared.findings.Finding.TheVariants.{Broke, Kept, NotJudged, Outside, TooMany}
+pub use Rattle.osi_rules.specs.declared.findings.Meaning.{Meaning}
+pub use Rattle.osi_rules.specs.declared.findings.Meaning.TheVariants.{Adds}
+pub use Rattle.osi_rules.specs.declared.findings.Reach.{Reach}
+pub use Rattle.osi_rules.specs.declared.findings.Rule.{Rule}
+pub use Rattle.osi_rules.specs.declared.findings.Told.{Told}
+pub use Rattle.osi_rules.specs.declared.halves.Half.{Half}
+pub use Rattle.osi_rules.specs.declared.halves.Phase.{Phase}
+pub use Rattle.osi_rules.specs.declared.routes.Route.{Route}
+pub use Rattle.osi_rules.specs.declared.routes.Route.TheVariants.{Asks, Named, Only, Unnamed}
+pub use Rattle.osi_side.proofs.honest.a_call_is_explained.{AsSent}
+pub use Rattle.osi_side.proofs.honest.a_caller_is_explained.{front_told}
+pub use Rattle.osi_side.proofs.honest.a_cn_is_answered_within_its_units.{first_asked}
+pub use Rattle.osi_side.proofs.honest.an_honest_run_stays_in_the_profile.{AllInside, AsParts, front_inside, honest_inside}
+pub use Rattle.osi_side.proofs.honest.an_honest_side_is_kept.{CalledLaw, CallerLaw}
+pub use Rattle.osi_side.specs.Captures.{Capture, Passed, of, other, passed_before, stream}
+pub use Rattle.osi_side.specs.Explaining.{IsExplained}
+pub use Rattle.osi_side.specs.Judging.{IsFound}
+pub use Rattle.osi_side.specs.Profiles.{selects_outside}
+pub use Rattle.osi_side.specs.Running.{IsHonest, IsSentFrom}
+pub use Rattle.osi_side.specs.Findings.{broke_session}
+pub use Rattle.osi_side.specs.Sides.{begin_of}
+pub use Rattle.osi_side.specs.declared.directions.Direction.{Direction}
+pub use Rattle.osi_side.specs.declared.directions.Direction.TheVariants.{Left, Right}
+pub use Rattle.osi_honest.proofs.ends.an_end_that_is_over_does_nothing.{over_acts, never_lasts}
+pub use Rattle.osi_honest.proofs.ends.what_a_session_sends_fits.{AllProper}
+pub use Rattle.osi_honest.proofs.ends.what_a_session_answers_fits.{all_proper}
+pub use Rattle.osi_honest.proofs.reading.how_much_of_a_piece_is_used.{all_octets, more_used, stopped_within}
+pub use Rattle.osi_honest.proofs.ends.what_class_0_does_not_take_ends_the_end.{AreHard, IsHard, IsHardPacket, IsLast, IsZeroAt, hard_ends}
+pub use Rattle.osi_honest.proofs.reading.what_is_written_is_read_again.{packets_joined, CanBeWritten, read_again}
+pub use Rattle.osi_honest.proofs.courses.an_end_is_sound_between_turns.{IsSane, fresh_sane, leads_to, turn_sane}
+pub use Rattle.osi_honest.proofs.courses.an_end_takes_packets_up_to_its_last.{Stopped, TakesFirst, none_held, prefix_or, stopped_there}
+pub use Rattle.osi_honest.proofs.courses.how_long_a_connection_is_open.{BeforeOpen, HasNoDr, Life, Stage as Time, WhenPast, WhileOpen, amid}
+pub use Rattle.osi_honest.proofs.courses.how_long_a_connection_is_open.{early, is_dr, opens_by, past, stage_at, stage_by, stage_is}
+pub use Rattle.osi_honest.proofs.courses.how_long_a_connection_is_open.{stage_over, stage_there, stays}
+pub use Rattle.osi_honest.proofs.courses.the_first_cc_opens_a_connection.{Awaiting, FirstOf, HasNoCc, asked_so, goes}
+pub use Rattle.osi_honest.proofs.courses.units_of_each_connection.{all_units_more, none_mark, units_more}
+pub use Rattle.osi_honest.proofs.courses.what_a_run_does_to_it.{TurnOf, TurnsOf, fresh_course, fresh_turns, turn_continues}
+pub use Rattle.osi_honest.proofs.courses.what_calls_of_a_link_say.{fresh_of, none_said, out_more, said_more, taken_more}
+pub use Rattle.osi_honest.proofs.courses.what_sessions_hear_of_it.{Known}
+pub use Rattle.osi_honest.proofs.courses.what_units_do_to_a_course.{no_calls}
+pub use Rattle.osi_honest.proofs.courses.what_was_said_is_explained.{IsSaid, nothing, shown_said, something, units_came}
+pub use Rattle.osi_honest.proofs.keeping.what_holds_of_each_connection_stays.{row_at, row_more, row_put, row_without}
+pub use Rattle.osi_honest.proofs.sessions.the_session_of_a_request_is_a_caller.{opens_so}
+pub use Rattle.osi_honest.proofs.ends.the_cn_of_a_request_fits.{can_begin}
+pub use Rattle.osi_honest.proofs.reading.a_cr_and_a_cc_can_be_written.{cc_plain, cr_by, size_in_range}
+pub use Rattle.osi_honest.proofs.reading.what_a_link_gives_can_be_written.{AreNumbered, IsNumbered, gives_written, link_opens}
+pub use Rattle.osi_honest.proofs.reading.what_a_link_gives_can_be_written.{taken_numbered}
+pub use Rattle.osi_honest.proofs.reading.two_readings_of_a_stream_agree.{GoesBeyond, first, packets_on, packets_then, second, two_readings}
+pub use Rattle.osi_honest.proofs.reading.two_readings_of_a_stream_agree.{front_of as part_of}
+pub use Rattle.osi_honest.proofs.sessions.a_history_is_a_run.{history_runs}
+pub use Rattle.osi_honest.specs.Arriving.{Answers, AreApart, Begins, GivesTo, Lives, Opens, Parts, TakesAll, is_shut, opens}
+pub use Rattle.osi_honest.specs.Courses.{AreCalls, Continues, Deeds, Gone, IsFreshLink, IsShut, Speaks, all_did, no_deeds, said_in}
+pub use Rattle.osi_honest.specs.Courses.{then_did, units_given, units_in, units_read, units_taken}
+pub use Rattle.osi_honest.specs.Courses.Course.{awaited, is_gone, unknown}
+pub use Rattle.osi_honest.specs.Courses.Gone.{closed, never}
+pub use Rattle.osi_honest.specs.Marked.{Marked, all_units, is_of_link, units_at}
+pub use Rattle.osi_honest.specs.Parts.{ends_whole}
+pub use Rattle.osi_honest.specs.Seeing.{IsFresh, IsPrefix, IsSeen, PassAfter, put_along, used_along}
+pub use Rattle.osi_honest.specs.Showing.{Shows}
+pub use Rattle.osi_honest.specs.Talking.{Said, octets_said, told_of}
+pub use Rattle.osi_honest.specs.Turns.{Run, Takes, Turn, carried_by, used_by}
+pub use Rattle.osi_honest.specs.Turns.Act.{serving, using}
+pub use Rattle.osi_judge.proofs.a_capture_has_one_first_break.{first_held}
+pub use Rattle.osi_judge.proofs.a_piece_comes_to_what_its_octets_do.{after_more, going, looks}
+pub use Rattle.osi_judge.proofs.no_break_was_before_the_first.{marked_past, noted_past}
+pub use Rattle.osi_judge.proofs.octets_are_looked_at.{packet_front}
+pub use Rattle.osi_judge.specs.Blaming.{AreSpotless, BreaksFirst, IsBreakOf, IsFirstOf, IsQuiet, IsToBlame, of_session, of_transport}
+pub use Rattle.osi_judge.specs.Connections.{Joined, Sessions, adds, adds_all, adds_if, all_begin, asked, changed, count, kept_on, none}
+pub use Rattle.osi_judge.specs.Connections.{opened}
+pub use Rattle.osi_judge.specs.Connections.{placed, reference_of, shut, spoken, taken, taken_at, user_of}
+pub use Rattle.osi_judge.specs.Courses.{Course, Moment, cause_of, changes, earlier, first_by, first_marked, first_of, fresh_within, is_break}
+pub use Rattle.osi_judge.specs.Courses.{kind_of, mark_by, marked, marks_of, moment_of, moved, noted_by, number_at, number_of, packet_begins}
+pub use Rattle.osi_judge.specs.Courses.{packet_by, packet_passes, reached, unit_passes, units_pass, unread, unread_mark, unread_moment}
+pub use Rattle.osi_judge.specs.Courses.{way_of}
+pub use Rattle.osi_judge.specs.Lines.{Begun, Spoken, added, begun_before, begun_octets, heard, octets_of, told}
+pub use Rattle.osi_judge.specs.Rooms.{fits}
+pub use Rattle.osi_judge.specs.Standing.{HoldsState, IsFed, IsJudged, first_in}
+pub use Rattle.osi_judge.specs.Streams.{Front, Streamed, advanced, by_version, counted, faulty, front_of, gathered, partial, sized, whole}
+pub use Rattle.osi_judge.specs.States.{after, begin_within, begun, comes_to, looked_at, octet_passes, stream_of, with_stream}
+pub use Rattle.osi_judge.specs.declared.marks.Cause.{Cause}
+pub use Rattle.osi_judge.specs.declared.marks.Cause.TheVariants.{BadPacket, BadUnit}
+pub use Rattle.osi_judge.specs.declared.marks.First.{First}
+pub use Rattle.osi_judge.specs.declared.marks.Mark.{Mark}
+pub use Rattle.osi_judge.specs.declared.marks.Marks.{Marks}
+pub use Rattle.osi_judge.specs.declared.rooms.Room.{Room}
+pub use Rattle.osi_judge.specs.declared.rooms.Room.TheVariants.{All, Octets, Over}
+pub use Rattle.osi_judge.specs.declared.judge.Judge.{Judge}
+pub use Rattle.osi_fair.proofs.a_called_end_is_fair.{Stage, all_joined, called_fair, lines, selected, selecting}
+pub use Rattle.osi_fair.proofs.a_called_end_is_fair_in_class_0.{called_fair_in_class_0}
+pub use Rattle.osi_fair.proofs.a_called_end_selects_class_zero.{Selecting}
+pub use Rattle.osi_fair.proofs.a_calling_end_is_fair.{calling_fair, calling_fair_in_class_0}
+pub use Rattle.osi_fair.proofs.a_calling_end_is_fair_in_class_2.{Joined as Follows, first_joined, next_joined}
+pub use Rattle.osi_fair.proofs.a_connection_is_lost_in_class_2_alone.{IsOfTwo, firm_unless_two, still_two}
+pub use Rattle.osi_fair.proofs.a_dr_for_what_is_gone.{before_going}
+pub use Rattle.osi_fair.proofs.a_dt_of_class_zero_passes.{only_first, unlike}
+pub use Rattle.osi_fair.proofs.a_reference_names_one_connection.{applied_found, applied_judged, fresh_apart, no_item, not_first, not_true}
+pub use Rattle.osi_fair.proofs.a_reference_names_one_connection.{passes_apart}
+pub use Rattle.osi_fair.proofs.a_request_of_a_whole_end_is_new.{unit_gives}
+pub use Rattle.osi_fair.proofs.a_right_unit_is_not_blamed.{first_there}
+pub use Rattle.osi_fair.proofs.a_unit_of_an_end_of_class_zero_passes.{selecting_passes}
+pub use Rattle.osi_fair.proofs.all_are_judged_unless_one_broke.{AreJudged, still_judged}
+pub use Rattle.osi_fair.proofs.class_0_stays_selected.{zero_stays}
+pub use Rattle.osi_fair.proofs.each_connection_has_its_line.{AreGiven, Followed, IsAnswer, IsAsking, IsNoCc, IsOwned, Row, Tracked, all_so}
+pub use Rattle.osi_fair.proofs.each_connection_has_its_line.{asking, is_tracked, stray}
+pub use Rattle.osi_fair.proofs.each_connection_of_a_called_end.{Answering, AreAbove, AreStrays, Asked, Called, Stand, StrayIf, Untagged}
+pub use Rattle.osi_fair.proofs.each_connection_of_a_called_end.{answers as answering, comes, line_of, refuses, runs}
+pub use Rattle.osi_fair.proofs.how_a_calling_end_asks.{IsOver, one}
+pub use Rattle.osi_fair.proofs.how_requests_go_on.{Calling, answered, ended, known, quiet, refused, waits}
+pub use Rattle.osi_fair.proofs.left_selects_no_class.{left_class}
+pub use Rattle.osi_fair.proofs.names_stay_apart_though_one_is_lost.{AreNamedApart, OnlyOne, each_sound}
+pub use Rattle.osi_fair.proofs.no_request_is_blamed.{Holds, holds_first, holds_next}
+pub use Rattle.osi_fair.proofs.no_two_open_connections_have_one_peer.{both, left_open}
+pub use Rattle.osi_fair.proofs.one_request_waits.{begun_live, reached_class}
+pub use Rattle.osi_fair.proofs.references_of_requests_rise.{Rise, all_gives, closed_gives, ended_gives, not_less, rise_from, sent_gives}
+pub use Rattle.osi_fair.proofs.small_facts_that_many_lemmas_use.{begins_judged, begun_left, begun_right, closing_same, differ, first_is}
+pub use Rattle.osi_fair.proofs.small_facts_that_many_lemmas_use.{is_false, judged_same, none_of, number_is, some_same, unequal}
+pub use Rattle.osi_fair.proofs.the_end_is_judged_as_the_other_side_is.{side_zero}
+pub use Rattle.osi_fair.proofs.units_by_their_place.{Placed, at_first, at_join, first_at, values}
+pub use Rattle.osi_fair.proofs.what_a_called_end_does_to_its_lines.{above_more}
+pub use Rattle.osi_fair.proofs.what_a_carrier_puts.{call_writes, unit_writes}
+pub use Rattle.osi_fair.proofs.what_a_link_does.{begun_by, gives_so, takes_so}
+pub use Rattle.osi_fair.proofs.what_an_end_does_in_class_zero.{IsInZero, anyhow, over, zero_puts}
+pub use Rattle.osi_fair.proofs.what_an_end_puts_in_class_zero.{PutsData}
+pub use Rattle.osi_fair.proofs.what_becomes_of_a_called_end.{IsCalled, above_up, units_no_cc}
+pub use Rattle.osi_fair.proofs.what_becomes_of_a_connection.{IsIdle, comes_for}
+pub use Rattle.osi_fair.proofs.what_holds_of_one_item.{HoldsOfEach, after_add, after_map, after_set, each_add, each_map, each_set}
+pub use Rattle.osi_fair.proofs.what_holds_of_one_item.{first_true, none_true, one_added, one_changed, one_mapped, one_put}
+pub use Rattle.osi_fair.proofs.what_is_right_passes_each_test.{passes_each}
+pub use Rattle.osi_fair.proofs.what_keeps_names_apart.{AreApart as NamesApart, Sound}
+pub use Rattle.osi_fair.proofs.what_lasts_at_the_judge.{lasts_passing}
+pub use Rattle.osi_fair.proofs.what_stays_of_each_connection.{left_then, own_stays, right_passes}
+pub use Rattle.osi_fair.proofs.what_the_other_side_closes.{IsClear, IsFirm, IsOngoing, going_on, is_name}
+pub use Rattle.osi_fair.proofs.which_requests_are_put.{asked_among, call_asks, unit_asks}
+pub use Rattle.osi_fair.proofs.which_unit_comes_to_a_called_end.{IsCalm}
+pub use Rattle.osi_fair.proofs.which_units_are_for_a_connection.{IsDc, each_picked, first_kept, first_left, names_in as is_at, is_dc, keep}
+pub use Rattle.osi_fair.proofs.which_units_are_for_a_connection.{leads, names, picked, picked_first, picked_join, picked_other, picked_rest}
+pub use Rattle.osi_fair.proofs.which_units_are_for_a_connection.{those, those_join}
+pub use Rattle.osi_fair.proofs.while_no_class_is_selected.{GoesOn, Waits, after_change, calm_judge, done_takes, set_same, set_there}
+pub use Rattle.osi_fair.specs.Asking.{asked_in}
+pub use Rattle.osi_fair.specs.Lines.{Act, Acts, ActsAlong, Line, begins_elsewhere, ignores, moves, opened_line, units_put}
+pub use Rattle.osi_fair.specs.Naming.{HoldsOfOne, Passing, packet, passes, rubbish, unit}
+pub use Rattle.osi_fair.specs.Pieces.{units_by}
+pub use Rattle.osi_fair.specs.Putting.{put_at, put_before, put_by, put_closing, put_for, put_for_selection, put_in, put_in_two, put_in_zero}
+pub use Rattle.osi_fair.specs.Putting.{put_linked, put_only, put_sent, put_taking, put_to, put_together, refusal}
+pub use Rattle.osi_fair.specs.Wholes.{Event, HappenAlong, Happens, MayCall, Whole, arrives, calls, passes_rubbish}
+pub use Rattle.osi_blameless.specs.Bounded.{AreJudgedOf, AreMomentsOf, IsCourseOf, IsFedWithin, IsJudgedOf, IsMomentOf, SessionsOf}
+pub use Rattle.osi_blameless.specs.Bounded.{comes_within}
+pub use Rattle.osi_blameless.specs.Bounded.IsFedWithin.{fed, unfed}
+pub use Rattle.osi_blameless.specs.Joint.{Joint, Step, Steps, StepsAlong, TakesTurn, begin, begins_other, begins_own, passes_other}
+pub use Rattle.osi_blameless.specs.Joint.{passes_own, turns}
+pub use Rattle.osi_blameless.specs.Passing.{AreOctets, ComesBySteps, IsOctet, TurnsBad}
+pub use Rattle.osi_blameless.specs.Shown.{AreAfter, IsJoinedFrom, IsShownNow, IsShownOf, all_before, before_begun, before_of, calls_from}
+pub use Rattle.osi_blameless.specs.Shown.{left_over, parts_of, with_next}
+pub use Rattle.osi_blameless.specs.ShownPlaces.{HasAsked, HaveSamePlaces, IsJoinedAt, IsOneOf, named_by}
+pub use Rattle.osi_blameless.specs.Spoilt.{IsNoPacket, IsUnread, LaterAlong, LaterSteps, spoilt}

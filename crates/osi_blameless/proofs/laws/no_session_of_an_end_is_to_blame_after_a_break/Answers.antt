@@ -1,0 +1,29 @@
+use Rattle.std.proofs.Common.{arith}
+use Rattle.osi_blameless.proofs.Vocabulary.{AsSent, said_again, SpduLaws, all_proper, Known, can_begin}
+use Rattle.osi_blameless.proofs.sessions.no_end_is_to_blame_after_a_break.{called_later, calling_later}
+use Rattle.osi_blameless.proofs.laws.no_session_of_an_end_is_to_blame_after_a_break.Goals as goal
+
+-- what the laws of messages and of units state
+as_sent : (c : goal.After-an_honest_session_is_explained) → AsSent
+as_sent c = record {
+  message = λ m s. said_again m (c.what_is_sent_is_read.ensures.read m s) (c.what_is_sent_is_read.ensures.said m s);
+  part = c.what_a_part_says.ensures;
+  whole = c.what_leaves_in_parts.ensures.whole;
+  parts = c.what_leaves_in_parts.ensures.parts;
+  joined = c.what_leaves_in_parts.ensures.joined;
+  full = c.what_leaves_in_parts.ensures.full;
+}
+
+known : (c : goal.After-an_honest_session_is_explained) → Known
+known c =
+    let law : SpduLaws = record { room = c.few_octets_fit.ensures; digits = c.serial_digits.ensures } in
+    record { proper = all_proper law c.what_closes_sends_nothing.ensures.octets; can = can_begin law }
+
+pub returns-clause-called : goal.returns-clause-called
+returns-clause-called c = λ local begin end turns capture i j fresh run octets seen few there.
+    called_later (known c) (as_sent c) c.what_leaves_in_parts.ensures.read c.an_honest_session_is_explained.ensures.caller
+    c.an_honest_session_is_explained.ensures.called local capture begin end turns i j fresh run octets seen few there
+
+pub returns-clause-calling : goal.returns-clause-calling
+returns-clause-calling c = λ local begin end turns capture i j fresh run octets seen few there.
+    search (arith, calling_later, known, as_sent)

@@ -1,0 +1,123 @@
+-- No session of an end is to blame that has sent no DT; and what passes keeps that so, unless it is a DT of the end.
+-- For the law that no session of an end is blamed first, if the end doesn't offer class 2 and class 0 is not selected.
+use Rattle.osi_blameless.proofs.Vocabulary.{[], Bool, false, inl, inr, List, Some, subst, sym, ℕ, ◌∙◌, ◌∷◌, ◌≡◌, ◌⊎◌, slice_get, Value, Local}
+use Rattle.osi_blameless.proofs.Vocabulary.{meaning_if, meant, Traffic as State, takes, other, Direction, AllProper, Deeds, all_begin, asked}
+use Rattle.osi_blameless.proofs.Vocabulary.{Joined, Sessions, spoken, taken, unit_passes, units_pass, way_of, told, Room, after_add}
+use Rattle.osi_blameless.proofs.Vocabulary.{after_set, IsOngoing, begins_other, begins_own, Joint, passes_other, passes_own, Step, Steps}
+use Rattle.osi_blameless.proofs.Vocabulary.{calls_from, arith, Course}
+use Rattle.osi_rules.specs.declared.findings.Meaning.TheVariants as meaning
+use Rattle.osi_fair.specs.Wholes as wholes
+use Rattle.osi_judge.specs.Connections.{packet_begins}
+use Rattle.osi_judge.specs.Connections as joined
+use Rattle.osi_blameless.proofs.steps_are_events.{IsFollowed, begin_followed, step_followed}
+use Rattle.osi_blameless.proofs.sessions.after_too_many_nobody_is_to_blame.{NoneIsToBlame}
+use Rattle.osi_blameless.proofs.sessions.all_connections_stand.{map_of}
+use Rattle.osi_blameless.proofs.sessions.connections_have_the_same_places.{Agree, packet_agrees, unit_agrees, unit_joins, units_agree}
+use Rattle.osi_blameless.proofs.sessions.what_a_unit_does_at_its_place.{Does, asks_again, asks_more, nowhere, somewhere, unit_does}
+use Rattle.osi_blameless.proofs.sessions.what_stands_of_a_connection.{is_part}
+use Rattle.osi_blameless.proofs.sessions.what_stands_after_a_loss_stands_before_one.{KeepsThroughout}
+
+-- ---- sides that have said nothing
+
+abbrev IsUnsaid : Direction → Joined → Type 0
+IsUnsaid d j = (spoken d j).said ≡ []
+
+-- of all connections
+pub record IsMute (d : Direction) (t : Sessions) : Type 0 where
+  pub live : (i : ℕ) (j : Joined) → slice_get t.live i ≡ Some j → (spoken d j).said ≡ []
+  pub done : (i : ℕ) (j : Joined) → slice_get t.done i ≡ Some j → (spoken d j).said ≡ []
+
+pub mute_none : (d : Direction) (t : Sessions) → IsMute d t → NoneIsToBlame d t
+mute_none d t h = grind arith
+
+-- ---- what passes
+
+said_begun : (d e : Direction) (j : Joined) → (spoken d (packet_begins e j)).said ≡ (spoken d j).said
+said_begun d e j = grind arith
+
+-- what a unit means for its connection
+said_meant : (d e : Direction) (at : ℕ) (v : Value) (b : Bool) (j : Joined) → (e ≡ d → is_part v ≡ false) →
+    (spoken d (joined.meant e at v (meaning_if b (meant v)) j)).said ≡ (spoken d j).said
+said_meant d e at v b j h = grind arith
+
+said_asked : (d : Direction) (number calling : ℕ) (room : Room) → (spoken d (asked number calling room)).said ≡ []
+said_asked d number calling room = grind arith
+
+module _ (d e : Direction) (at : ℕ) (v : Value) (s : State) (t : Sessions) (not : e ≡ d → is_part v ≡ false) (h : IsMute d t) where
+  one_or : (p i : ℕ) (new j : Joined) → IsUnsaid d new → ((i ≡ p) × (j ≡ new)) ⊎ (slice_get t.live i ≡ Some j) → IsUnsaid d j
+  one_or p i new j none (inl (there, is)) = subst (IsUnsaid d) (sym is) none
+  one_or p i new j none (inr here) = h.live i j here
+
+  mute_by : Does e at v s t (takes (way_of e) v s) →
+      IsMute d (taken e at v (takes (way_of e) v s).told.meaning (takes (way_of e) v s).told.place t)
+  mute_by (nowhere place cs ts) = subst (IsMute d) (sym ts) h
+  mute_by (somewhere p c k b r place there here one finding is far cs ts) =
+      let new : Joined = joined.meant e at v (meaning_if b (meant v)) k in
+      let none : IsUnsaid d new = said_meant d e at v b k not ∙ h.live p k here in
+      subst (IsMute d) (sym ts) (record {
+        live = λ i j here. one_or p i new j none (after_set t.live p i new j here);
+        done = h.done;
+      })
+  mute_by (asks_more x is number cs ts) = search (arith, one_or, said_asked, after_add)
+  mute_by (asks_again x is number p k here free cs ts) = search (arith, one_or, said_asked, after_set, after_add)
+
+mute_unit : (d e : Direction) (at : ℕ) (v : Value) (c : Course) → Agree c → (e ≡ d → is_part v ≡ false) → IsMute d c.sessions →
+    IsMute d (unit_passes e at v c).sessions
+mute_unit d e at v c places not h =
+    subst (IsMute d) (sym (unit_joins e at v c))
+    (mute_by d e at v c.traffic c.sessions not h (unit_does e at v c.traffic c.sessions places))
+
+others_apart : {A : Type 0} (d : Direction) → other d ≡ d → A
+others_apart h e = grind arith
+
+pub mute_units : (d : Direction) (at : ℕ) (vs : List Value) (c : Course) → Agree c → IsMute d c.sessions →
+    IsMute d (units_pass (other d) at vs c).sessions
+mute_units d at [] c places h = h
+mute_units d at (v ∷ vs) c places h =
+    mute_units d at vs (unit_passes (other d) at v c) (unit_agrees (other d) at v c places)
+    (mute_unit d (other d) at v c places (λ same. others_apart d same) h)
+
+pub mute_begins : (d e : Direction) (t : Sessions) → IsMute d t → IsMute d (all_begin e t)
+mute_begins d e t h = grind (arith, map_of, said_begun)
+
+-- ---- the steps
+
+pub record HasSaidNothing (d : Direction) (local : Local) (deeds : ℕ → Deeds) (j : Joint) : Type 0 where
+  pub followed : IsFollowed d (wholes.begin (calls_from d) local) j
+  pub places : Agree j.course
+  pub mute : IsMute d j.course.sessions
+
+-- as long as both sides are judged, and class 0 is not selected, no unit that passes of the end is a DT
+abbrev pub PutsNoDt : Direction → Local → Type 0
+PutsNoDt d local = (at : ℕ) (v : Value) (old new : Joint) → Steps d (passes_own at v) old new →
+    IsFollowed d (wholes.begin (calls_from d) local) old → IsOngoing old.course.traffic.course → is_part v ≡ false
+
+module _ (proper : AllProper) (d : Direction) (local : Local) where
+  stays_mute : (deeds then_deeds : ℕ → Deeds) (step : Step) (old new : Joint) → Steps d step old new → Agree new.course →
+      IsMute d new.course.sessions → HasSaidNothing d local deeds old → HasSaidNothing d local then_deeds new
+  stays_mute deeds then_deeds step old new does places mute h = grind (arith, step_followed)
+
+  pub mute_keeps : PutsNoDt d local → KeepsThroughout d local (HasSaidNothing d local)
+  mute_keeps none_put = record {
+    begins = grind (arith, begin_followed);
+    own_begins = λ deeds old new step courses few h.
+        stays_mute deeds deeds begins_own old new step
+        (subst (λ (j : Joint). Agree j.course) (sym step.2) (packet_agrees d old.course h.places))
+        (subst (λ (j : Joint). IsMute d j.course.sessions) (sym step.2) (mute_begins d d old.course.sessions h.mute)) h;
+    other_begins = λ deeds old new step h.
+        stays_mute deeds deeds begins_other old new step
+        (subst (λ (j : Joint). Agree j.course) (sym step) (packet_agrees (other d) old.course h.places))
+        (subst (λ (j : Joint). IsMute d j.course.sessions) (sym step) (mute_begins d (other d) old.course.sessions h.mute)) h;
+    own_passes = λ deeds at v old new step fine clear then_two h.
+        stays_mute deeds deeds (passes_own at v) old new step
+        (subst (λ (j : Joint). Agree j.course) (sym step.4) (unit_agrees d at v old.course h.places))
+        (subst (λ (j : Joint). IsMute d j.course.sessions) (sym step.4)
+        (mute_unit d d at v old.course h.places (λ same. none_put at v old new step h.followed clear) h.mute)) h;
+    other_passes = λ deeds at octets units old new step taken h.
+        stays_mute deeds deeds (passes_other at octets units) old new step
+        (subst (λ (j : Joint). Agree j.course) (sym step.2) (units_agree (other d) at units old.course h.places))
+        (subst (λ (j : Joint). IsMute d j.course.sessions) (sym step.2) (mute_units d at units old.course h.places h.mute)) h;
+    turn = grind arith;
+    none = λ deeds j courses h. mute_none d j.course.sessions h.mute;
+    none_amid = grind (arith, mute_none, mute_units);
+  }

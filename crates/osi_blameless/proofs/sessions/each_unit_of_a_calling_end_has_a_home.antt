@@ -1,0 +1,269 @@
+-- Each DT and each AK that a calling end puts in a turn is for a connection that the judge knows by its references and that this end has
+-- not closed there; each other unit is for none.
+-- For all connections of an end and a judge.
+use Rattle.osi_blameless.proofs.Vocabulary.{[], ap, append_assoc, arith, Bool, false, is_some, List, map, None, Option, refl, Some, subst}
+use Rattle.osi_blameless.proofs.Vocabulary.{suc, sym, true, ℕ, ◌++◌, ◌<◌, ◌==◌, ◌∙◌, ◌∷◌, ◌≡◌, eq-eqb, AllByRecursion, slice_get, confirm}
+use Rattle.osi_blameless.proofs.Vocabulary.{Connect, data0, disconnect, request, Value, written, Standing, Local, value_at, closing, Live}
+use Rattle.osi_blameless.proofs.Vocabulary.{linked, Carrier, has_given, Traffic as State, Connection, Left, amid, early, Life, opens_by, past}
+use Rattle.osi_blameless.proofs.Vocabulary.{Time as Stage, stage_at, stays, all_units_more, Opens, Continues, Deeds, all_units, Marked, Turn}
+use Rattle.osi_blameless.proofs.Vocabulary.{Sessions, Followed, is_tracked, IsOwned, Row, Tracked, each_picked, first_kept, is_dc, IsDc}
+use Rattle.osi_blameless.proofs.Vocabulary.{IsOngoing, names, those, those_join, Line, Whole, Joint, TakesTurn, HaveSamePlaces, AreGiven}
+use Rattle.osi_blameless.proofs.Vocabulary.{AreApart, BeforeOpen, WhileOpen, stage_by, Awaiting, FirstOf, HasNoCc, asked_so, goes, le-leb}
+use Rattle.osi_blameless.proofs.Vocabulary.{lt-ltb}
+use Rattle.osi_carrier.specs.State.{asked}
+use Rattle.osi_fair.specs.Wholes.{begin}
+use Rattle.osi_fair.proofs.each_connection_has_its_line.{over}
+use Rattle.osi_honest.proofs.courses.the_first_cc_opens_a_connection.{awaits, opens_so}
+use Rattle.osi_judge.specs.Courses.{Course as Passed}
+use Rattle.osi_blameless.proofs.small_facts_that_many_lemmas_use.{and_both, over_not}
+use Rattle.osi_blameless.proofs.steps_are_events.{IsFollowed}
+use Rattle.osi_blameless.proofs.what_is_put_is_what_is_written.{same_written, written_join}
+use Rattle.osi_blameless.proofs.sessions.a_turn_does_what_its_deeds_say.{turn_uses}
+use Rattle.osi_blameless.proofs.sessions.a_whole_end_runs_along.{calling_followed}
+use Rattle.osi_blameless.proofs.sessions.connections_have_the_same_places.{at_same}
+use Rattle.osi_blameless.proofs.sessions.each_unit_of_a_turn_has_one_connection.{HasHome, IsMarked, known}
+use Rattle.osi_blameless.proofs.sessions.nothing_is_done_before_a_cr_passes.{IsNotCc, same_units}
+use Rattle.osi_blameless.proofs.sessions.what_a_turn_puts_goes_to_its_peer.{GoesTo, IsPutFor, all_back, all_of_both, all_so, goes_to, one_of}
+use Rattle.osi_blameless.proofs.sessions.what_a_turn_puts_goes_to_its_peer.{turn_marked, whole_lasts}
+
+-- ---- a connection that is open at the judge has a home there
+
+home_of : (s : State) (t : Sessions) → HaveSamePlaces s.connections t.live → (p : ℕ) (c : Connection) → slice_get s.connections p ≡ Some c →
+    is_tracked c ≡ true → HasHome Left c.left.reference c.right.reference s t
+home_of s t places p c at tracked = grind (arith, at_same, and_both)
+
+-- ---- the end has the connection open
+
+linked_home : (local : Local) (w : Whole) (t : Sessions) (f : Followed local w) → HaveSamePlaces w.judge.connections t.live →
+    w.end.ended ≡ None → (q peer : ℕ) (link : Standing) → value_at q w.end.live ≡ Some (linked peer link) → HasHome Left q peer w.judge t
+linked_home local w t f places lasts q peer link is =
+    let (p, c, at, so, mine) = (f.linked lasts q peer link is).0 in
+    let g = f.lines p c at so in
+    let same : peer ≡ g.peer = grind arith in
+    grind (arith, home_of w.judge t places p c at so)
+
+-- ---- its CC has come
+
+-- DCs, and then a CC of this reference of the other side
+record HasFirst (r peer : ℕ) (coming : List Value) : Type 0 where
+  x : Connect
+  firsts : List Value
+  later : List Value
+  is : those r coming ≡ firsts ++ confirm r x ∷ later
+  dcs : AllByRecursion IsDc firsts
+  source : x.source ≡ peer
+
+row_first : (local : Local) (end : Carrier) (coming : List Value) (r peer : ℕ) (line : Line) → Row local end coming r peer line →
+    end.ended ≡ None → value_at r end.live ≡ Some asked → HasFirst r peer coming
+row_first local end coming r peer line h lasts e = grind (arith, over_not)
+
+-- the first CC of a list is one
+first_cc : (r : ℕ) (x y : Connect) (xs ys us vs : List Value) → xs ++ confirm r x ∷ ys ≡ us ++ confirm r y ∷ vs →
+    AllByRecursion (IsNotCc r) xs → AllByRecursion (IsNotCc r) us → x ≡ y
+first_cc r x y [] ys [] vs e a b = cc
+first_cc r x y [] ys (u ∷ us) vs e a b = grind arith
+first_cc r x y (v ∷ xs) ys [] vs e a b = grind arith
+first_cc r x y (v ∷ xs) ys (u ∷ us) vs e a b =
+    let more : xs ++ confirm r x ∷ ys ≡ us ++ confirm r y ∷ vs = cc in
+    first_cc r x y xs ys us vs more a.1 b.1
+
+dc_not_cc : (r : ℕ) (v : Value) → IsDc v → IsNotCc r v
+dc_not_cc r v dc x is = let no : true ≡ false = sym dc ∙ ap is_dc is in absurd (cc)
+
+-- as the first CC that comes for it says
+module _ (local : Local) (w : Whole) (t : Sessions) (f : Followed local w) (places : HaveSamePlaces w.judge.connections t.live)
+    (lasts : w.end.ended ≡ None) (q : ℕ) (x : Connect) (front rest : List Value) (come : w.coming ≡ front ++ confirm q x ∷ rest)
+    (first : AllByRecursion (IsNotCc q) front) (waits : value_at q w.end.live ≡ Some asked) where
+  tracked_so : Tracked w.judge.connections q
+  tracked_so = grind (arith, one_of)
+
+  those_first : AllByRecursion (IsNotCc q) (those q front)
+  those_first = grind (arith, each_picked, names, all_so)
+
+  asked_home : HasHome Left q x.source w.judge t
+  asked_home =
+      let (p, c, at, so, mine) = tracked_so in
+      let g = f.lines p c at so in
+      let name : g.r ≡ q = sym g.left ∙ mine in
+      let h : HasFirst q g.peer w.coming =
+      row_first local w.end w.coming q g.peer g.line (subst (λ (n : ℕ). Row local w.end w.coming n g.peer g.line) name g.row) lasts waits in
+      let both : those q front ++ confirm q x ∷ those q rest ≡ h.firsts ++ confirm q h.x ∷ h.later =
+      ◌∙◌ {c = h.firsts ++ confirm q h.x ∷ h.later} (sym (grind (arith, those, those_join, first_kept, eq-eqb))) h.is in
+      let same : x ≡ h.x = grind (arith, first_cc, those, those_first, all_so, dc_not_cc) in
+      grind (arith, home_of w.judge t places p c at so)
+
+-- ---- no DT of class 0 is put
+
+abbrev pub first : List ℕ → ℕ
+first [] = 0
+first (n ∷ ns) = n
+
+-- it has another length
+pub not_two : (x : ℕ) → suc (suc (suc x)) ≡ 2 → ⊥
+not_two x e = omega (arith, e)
+
+not_data0 : (end : Bool) (user : List ℕ) (s : State) (u : Value) → IsOwned s u → written u ≡ written (data0 end user) → ⊥
+not_data0 end user s u h e = grind (arith, not_two)
+
+-- a unit is written as one of these
+pub record IsWrittenAs (P : Value → Type 0) (v : Value) : Type 0 where
+  pub u : Value
+  pub so : P u
+  pub same : written u ≡ written v
+
+pub written_as : (P : Value → Type 0) (us vs : List Value) → map written us ≡ map written vs → AllByRecursion P us →
+    AllByRecursion (IsWrittenAs P) vs
+written_as P [] [] e h = tt
+written_as P [] (v ∷ vs) e h = absurd (cc)
+written_as P (u ∷ us) [] e h = absurd (cc)
+written_as P (u ∷ us) (v ∷ vs) e h =
+    let one : written u ≡ written v = cc in
+    let more : map written us ≡ map written vs = cc in
+    (record { u = u; so = h.0; same = one }, written_as P us vs more h.1)
+
+-- ---- a turn
+
+linked_by : (over given : Bool) (o : Option Live) (peer : ℕ) → stage_by over given o ≡ amid peer →
+    (link : Standing) × (o ≡ Some (linked peer link))
+linked_by true given o peer is = absurd (cc)
+linked_by false true None peer is = absurd (cc)
+linked_by false false None peer is = absurd (cc)
+linked_by false given (Some asked) peer is = absurd (cc)
+linked_by false given (Some (closing q)) peer is = absurd (cc)
+linked_by false given (Some (linked q link)) peer is =
+    let same : q ≡ peer = amid_same q peer is in (link, ap (λ (n : ℕ). Some (linked n link)) same)
+  where
+    amid_same : (m n : ℕ) → amid m ≡ amid n → m ≡ n
+    amid_same m n e = cc
+
+module _ (local : Local) (two : local.class2 ≡ true) (deeds : ℕ → Deeds) (turn : Turn) (old new : Joint) (step : TakesTurn turn old new)
+    (on : Continues true deeds old.holding turn new.holding)
+    (life : (r : ℕ) → 0 < r → Life true r (stage_at r old.holding.end.carrier) on.took on.put (stage_at r new.holding.end.carrier))
+    (opening : (r : ℕ) → 0 < r → FirstOf true r old.holding.end.carrier on.took on.put new.holding.end.carrier)
+    (f : IsFollowed Left (begin true local) old)
+    (g : IsFollowed Left (begin true local) new) (clear : IsOngoing old.course.traffic.course)
+    (places : HaveSamePlaces old.course.traffic.connections old.course.sessions.live) where
+  abbrev s : State
+  s = old.course.traffic
+
+  abbrev t : Sessions
+  t = old.course.sessions
+
+  abbrev carrier : Carrier
+  carrier = old.holding.end.carrier
+
+  abbrev IsPut : ℕ → Type 0
+  IsPut q = IsPutFor Left true (begin true local) deeds turn old new step on f q f.whole.judge t
+
+  followed : Followed local f.whole
+  followed = calling_followed local two old f clear
+
+  places_so : HaveSamePlaces f.whole.judge.connections t.live
+  places_so = subst (λ (x : State). HaveSamePlaces x.connections t.live) (sym f.judge) places
+
+  -- each unit is written as one that is owned
+  abbrev IsOwnedSo : Value → Type 0
+  IsOwnedSo v = IsWrittenAs (IsOwned g.whole.judge) v
+
+  owned_units : AllByRecursion IsOwnedSo (all_units on.put)
+  owned_units =
+      let all = (calling_followed local two new g (subst (λ (c : Passed). IsOngoing c.traffic.course) (sym step.course) clear)).owned in
+      let same : map written step.units ≡ map written (all_units on.put) =
+      same_written step.units (all_units on.put) (sym step.written ∙ on.written) in
+      let alike : map written g.whole.put ≡ map written (old.put ++ all_units on.put) = grind (arith, written_join) in
+      grind (arith, all_back, written_as (IsOwned g.whole.judge) g.whole.put (old.put ++ all_units on.put) alike all)
+
+  -- ---- the connection that a unit is put for
+
+  module _ (lasts : carrier.ended ≡ None) (q : ℕ) (positive : 0 < q) (some : AreApart q on.put → ⊥) where
+    wholes : f.whole.end.ended ≡ None
+    wholes = whole_lasts Left true (begin true local) deeds turn old new step on f lasts
+
+    -- what it put while it was open
+    gives_so : (peer : ℕ) (before put_later later : List Marked) (t : Stage) (w : WhileOpen q peer later put_later t) → AreApart q before →
+        on.put ≡ before ++ put_later → AllByRecursion (GoesTo q peer) on.put
+    gives_so peer before put_later later t w apart is =
+        goes_to q on.put peer (grind arith) w.gives
+
+    -- all that the end took, and what is left
+    comes_so : (front : List Marked) (unit : Value) (later : List Marked) → on.took ≡ front ++ (0, unit) ∷ later →
+        (rest : List Value) × (f.whole.coming ≡ all_units front ++ unit ∷ rest)
+    comes_so front unit later is =
+        grind (
+          arith,
+          append_assoc,
+          turn_uses turn old new step true deeds on lasts,
+          same_units old.coming,
+          all_units_more front ((0, unit) ∷ later),
+        )
+
+    units_not_cc : (front : List Marked) → HasNoCc q front → AllByRecursion (IsNotCc q) (all_units front)
+    units_not_cc [] h = tt
+    units_not_cc (m ∷ front) h = (h.0, units_not_cc front h.1)
+
+    opens_home : (peer : ℕ) (unit : Value) → Opens true q peer unit → (front later : List Marked) → HasNoCc q front →
+        on.took ≡ front ++ (0, unit) ∷ later → value_at q carrier.live ≡ Some asked → HasHome Left q peer f.whole.judge t
+    opens_home peer (confirm n x) (mine, theirs) front later none is waits =
+        let (rest, come) = comes_so front (confirm n x) later is in
+        subst (λ (k : ℕ). HasHome Left q k f.whole.judge t) theirs
+        (asked_home local f.whole t followed places_so wholes q x (all_units front) rest
+        (subst (λ (k : ℕ). f.whole.coming ≡ all_units front ++ confirm k x ∷ rest) mine come) (units_not_cc front none)
+        ((grind (arith, wholes)) ∙ waits))
+    opens_home peer (request x) (caller, theirs) front later none is waits = absurd (cc)
+    opens_home peer (disconnect n source reason user) o front later none is waits = absurd o
+    opens_home peer _ o front later none is waits = absurd o
+
+    by_opening : (given : Bool) (u : Stage) → value_at q carrier.live ≡ Some asked → Awaiting true q on.took on.put given u → IsPut q
+    by_opening given u waits (awaits a b none has is) = absurd (some b)
+    by_opening given u waits (goes a b is) = absurd (some b)
+    by_opening given u waits (opens_so peer unit o front later apart none is others answer put_later apart_too no_answer ans so w) =
+        record {
+          peer = peer;
+          goes = gives_so peer (others ++ answer) put_later later u w
+              (all_of_both (λ (m : Marked). (m.0 == q) ≡ false) others answer apart_too no_answer)
+              (so ∙ sym (append_assoc others answer put_later));
+          homed = known (opens_home peer unit o front later none is waits);
+        }
+
+    -- no CC has come for a reference that was not given
+    not_given : {A : Type 0} (peer : ℕ) (unit : Value) → Opens true q peer unit → (front later : List Marked) →
+        on.took ≡ front ++ (0, unit) ∷ later → has_given q carrier ≡ false → A
+    not_given peer (confirm n x) (mine, theirs) front later is free =
+        let (rest, come) = comes_so front (confirm n x) later is in
+        let few = one_of (AreGiven f.whole.end.given) (all_units front) rest (confirm n x)
+        (subst (AllByRecursion (AreGiven f.whole.end.given)) come followed.few) in
+        let up = few refl n refl in
+        grind (arith, lt-ltb, le-leb, wholes)
+    not_given peer (request x) (caller, theirs) front later is free = absurd (cc)
+    not_given peer (disconnect n source reason user) o front later is free = absurd o
+    not_given peer _ o front later is free = absurd o
+
+    by_free : (u : Stage) → has_given q carrier ≡ false → BeforeOpen true q on.took on.put u → IsPut q
+    by_free u free (stays a b is) = absurd (some b)
+    by_free u free (opens_by peer unit o front later apart is others answer put_later apart_too no_answer ans so w) =
+        not_given peer unit o front later is free
+
+    by_stage : (x : Stage) → stage_at q carrier ≡ x → Life true q x on.took on.put (stage_at q new.holding.end.carrier) → IsPut q
+    by_stage past is w = absurd (some w.none_put)
+    by_stage (amid peer) is w =
+        let (link, here) = linked_by (is_some carrier.ended) (has_given q carrier) (value_at q carrier.live) peer is in
+        record {
+          peer = peer;
+          goes = gives_so peer [] on.put on.took (stage_at q new.holding.end.carrier) w tt refl;
+          homed = known (linked_home local f.whole t followed places_so wholes q peer link ((grind (arith, wholes)) ∙ here));
+        }
+    by_stage early is w = by (has_given q carrier) refl
+      where
+        by : (b : Bool) → has_given q carrier ≡ b → IsPut q
+        by true has =
+            by_opening (has_given q new.holding.end.carrier) (stage_at q new.holding.end.carrier) (asked_so q carrier has is).1
+            (opening q positive has is)
+        by false free = by_free (stage_at q new.holding.end.carrier) free w
+
+    is_put : IsPut q
+    is_put = by_stage (stage_at q carrier) refl (life q positive)
+
+  pub calling_marked : AllByRecursion (IsMarked Left s t) on.put
+  calling_marked =
+      turn_marked Left true (begin true local) deeds turn old new step on f s t (grind (arith, all_so, not_data0, owned_units))
+      (grind (arith, is_put, goes))

@@ -1,0 +1,66 @@
+-- A unit of an end, of either class, leaves all its connections standing at a judge, if it is no break; and nobody of the end is to blame
+-- while they stand. For the session of each connection of an end.
+use Rattle.osi_blameless.proofs.Vocabulary.{arith, ◌≡◌, sym, subst, ℕ, Bool, true, false, List, ◌∷◌, Option, Some, Value, Class, Zero}
+use Rattle.osi_blameless.proofs.Vocabulary.{Direction, AsSent, AsParts, CalledLaw, CallerLaw, State, class_for, is_stopped, takes, End, Deeds}
+use Rattle.osi_blameless.proofs.Vocabulary.{Sessions, unit_passes, way_of, Joint, Steps, passes_own, calls_from}
+use Rattle.osi_honest.specs.Courses.{Course}
+use Rattle.osi_judge.specs.Courses.{Course as Passed}
+use Rattle.osi_blameless.proofs.the_first_break_is_not_of_an_end.{IsNoBreak}
+use Rattle.osi_blameless.proofs.what_a_taker_passes_over.{IsMild}
+use Rattle.osi_blameless.proofs.sessions.a_dt_of_class_0_leaves_all_standing as zero
+use Rattle.osi_blameless.proofs.sessions.a_turn_leaves_all_standing.{all_blameless}
+use Rattle.osi_blameless.proofs.sessions.after_too_many_nobody_is_to_blame.{NoneIsToBlame}
+use Rattle.osi_blameless.proofs.sessions.all_connections_stand.{AllStand}
+use Rattle.osi_blameless.proofs.sessions.each_step_leaves_class_0_one_connection.{Sure, is_zero}
+use Rattle.osi_blameless.proofs.sessions.steps_leave_all_standing.{Standing}
+use Rattle.osi_blameless.proofs.sessions.what_passes_leaves_all_standing as two
+use Rattle.osi_blameless.proofs.sessions.what_passes_leaves_all_standing.{IsReady}
+use Rattle.osi_blameless.proofs.sessions.what_stands_of_a_connection.{Known}
+
+-- a side is judged, and this unit of it is no break
+pub record IsRight (d : Direction) (v : Value) (c : Passed) : Type 0 where
+  pub firm : c.traffic.course.loose ≡ false
+  pub goes : is_stopped (way_of d) c.traffic.course ≡ false
+  pub none : IsNoBreak (takes (way_of d) v c.traffic).told.finding
+
+-- and it is one that its taker passes over, if it is a break
+pub record IsTolerable (d : Direction) (v : Value) (c : Passed) : Type 0 where
+  pub firm : c.traffic.course.loose ≡ false
+  pub goes : is_stopped (way_of d) c.traffic.course ≡ false
+  pub mild : IsMild v (takes (way_of d) v c.traffic).told.finding
+
+-- a side knows class 0, or not
+abbrev pub InZero : Direction → Passed → Type 0
+InZero d c = class_for (way_of d) c.traffic.course ≡ Some Zero
+
+pub zero_by : {A : Type 0} (k : Option Class) → (k ≡ Some Zero → A) → ((k ≡ Some Zero → ⊥) → A) → A
+zero_by h f g = grind arith
+
+-- ---- a unit of the end
+
+own_stands : (d : Direction) (deeds : ℕ → Deeds) (known : Known) (at : ℕ) (v : Value) (rest : List Value) (c : Passed) → Sure c →
+    IsRight d v c → ((InZero d c → ⊥) → IsReady d deeds known v rest c.traffic c.sessions) →
+    AllStand d deeds known (v ∷ rest) true c.traffic c.sessions →
+    AllStand d deeds known rest false (unit_passes d at v c).traffic (unit_passes d at v c).sessions
+own_stands d deeds known at v rest c sure r ready a =
+    zero_by (class_for (way_of d) c.traffic.course)
+    (λ h. zero.own_stands d deeds known at v rest c (is_zero d c.traffic sure r.firm r.goes h) r.none a)
+    (λ not. two.own_stands_firm d deeds known at v rest c r.firm r.goes not r.none (ready not) a)
+
+pub any_passes_own : (d : Direction) (deeds : ℕ → Deeds) (known : Known) (at : ℕ) (v : Value) (old new : Joint) →
+    Steps d (passes_own at v) old new → Sure old.course → IsRight d v old.course →
+    ((InZero d old.course → ⊥) → IsReady d deeds known v new.put old.course.traffic old.course.sessions) →
+    Standing d deeds known old → Standing d deeds known new
+any_passes_own d deeds known at v old new step sure right ready h =
+    subst (Standing d deeds known) (sym step.4) (record {
+      all = own_stands d deeds known at v new.put old.course sure right ready
+          (grind arith);
+    })
+
+-- ---- nobody is to blame
+
+module _ (known_of : AsSent) (parts : AsParts) (caller : CallerLaw) (called : CalledLaw) (d : Direction) (deeds : ℕ → Deeds)
+    (put : List Value) (b : Bool) (e : End) (courses : (r : ℕ) → Course (calls_from d) r (deeds r) e) where
+  -- nobody is to blame while all connections stand
+  pub stand_none : (known : Known) (s : State) (t : Sessions) → AllStand d deeds known put b s t → NoneIsToBlame d t
+  stand_none known s t a = grind (arith, all_blameless known_of parts caller called d deeds known put b e courses s t a)

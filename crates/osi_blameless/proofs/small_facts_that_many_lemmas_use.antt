@@ -1,0 +1,70 @@
+-- Small facts that lemmas of several files use: of truth values, lists and numbers, and of one step of a connection.
+-- For all proofs of this crate.
+use Rattle.osi_blameless.proofs.Vocabulary.{AllByRecursion, Bool, CanBeWritten, Carrier, Class, Connection, EndReason, Fits, HasFieldsInRange}
+use Rattle.osi_blameless.proofs.Vocabulary.{List, None, Option, Some, Time as Stage, Two, Value, Zero, [], amid, ap, early, false, has_given}
+use Rattle.osi_blameless.proofs.Vocabulary.{is_some, le-leb, lt-ltb, nat_le, past, refl, sym, true, ℕ, ◌&&◌, ◌++◌, ◌<◌, ◌||◌, ◌∙◌, ◌∷◌, ◌≡◌}
+use Rattle.osi_blameless.proofs.Vocabulary.{◌≤◌, arith}
+
+pub all_front : {X : Type 0} (P : X → Type 0) (xs ys : List X) → AllByRecursion P (xs ++ ys) → AllByRecursion P xs
+all_front P [] ys h = tt
+all_front P (x ∷ xs) ys h = (h.0, all_front P xs ys h.1)
+
+pub all_join : {X : Type 0} (P : X → Type 0) (xs ys : List X) → AllByRecursion P xs → AllByRecursion P ys → AllByRecursion P (xs ++ ys)
+all_join P [] ys a b = b
+all_join P (x ∷ xs) ys a b = (a.0, all_join P xs ys a.1 b)
+
+pub all_left : (P : Value → Type 0) (xs ys : List Value) → AllByRecursion P (xs ++ ys) → AllByRecursion P xs
+all_left P [] ys h = tt
+all_left P (x ∷ xs) ys h = (h.0, all_left P xs ys h.1)
+
+pub amid_not : {A : Type 0} (s : Stage) (peer : ℕ) → s ≡ early → s ≡ amid peer → A
+amid_not s peer e h = absurd (cc (sym e ∙ h))
+
+pub and_both : (a b : Bool) → (a && b) ≡ true → (a ≡ true) × (b ≡ true)
+and_both a b h = grind arith
+
+pub can_more : (some others : List Value) → AllByRecursion CanBeWritten some → AllByRecursion CanBeWritten others →
+    AllByRecursion CanBeWritten (some ++ others)
+can_more [] others a b = b
+can_more (v ∷ some) others a b = (a.0, can_more some others a.1 b)
+
+pub given_so : (r : ℕ) (c : Carrier) → 0 < r → r ≤ c.given → has_given r c ≡ true
+given_so r c some up = ap (λ (b : Bool). b && nat_le r c.given) (lt-ltb 0 r some) ∙ le-leb r c.given up
+
+pub none_first : (xs ys : List Value) → xs ++ ys ≡ [] → xs ≡ []
+none_first [] ys e = refl
+none_first (x ∷ xs) ys e = absurd (cc)
+
+pub none_some : {A : Type 0} (k : Option Class) (a : Class) → k ≡ None → k ≡ Some a → A
+none_some k a h e = absurd (cc)
+
+pub not_some : {A : Type 0} (o : Option ℕ) (n : ℕ) → o ≡ Some n → o ≡ None → A
+not_some o n h e = absurd (cc)
+
+pub or_first : (a b : Bool) → (a || b) ≡ false → a ≡ false
+or_first a b h = grind arith
+
+pub over_none : {A : Type 0} (o : Option EndReason) → is_some o ≡ true → o ≡ None → A
+over_none h h2 e = grind arith
+
+pub over_not : {A : Type 0} (o : Option EndReason) → is_some o ≡ true → o ≡ None → A
+over_not h h2 e = grind arith
+
+pub past_not : {A : Type 0} (s : Stage) → s ≡ early → s ≡ past → A
+past_not s e h = absurd (cc (sym e ∙ h))
+
+pub ranges_of : (units : List Value) → AllByRecursion Fits units → AllByRecursion HasFieldsInRange units
+ranges_of [] h = tt
+ranges_of (v ∷ units) h = (h.0.in_range, ranges_of units h.1)
+
+pub same_bool : (a b : Bool) → (a ≡ true → b ≡ true) → (b ≡ true → a ≡ true) → a ≡ b
+same_bool a b h k = grind arith
+
+pub same_item : (x y : Connection) → Some x ≡ Some y → x ≡ y
+same_item x y e = cc
+
+pub same_one : {X : Type 0} (x y : X) → Some x ≡ Some y → x ≡ y
+same_one x y e = cc
+
+pub zero_two : {A : Type 0} (k : Option Class) → k ≡ Some Zero → k ≡ Some Two → A
+zero_two k h e = absurd (let no : Some Zero ≡ Some Two = sym h ∙ e in cc)

@@ -1,0 +1,76 @@
+-- An end of this library and a judge anywhere between it and the other side, packet by packet.
+use Rattle.std.specs.Prelude.{◌≡◌, ◌≢◌, ℕ, Bool, true, false, List, [], ◌∷◌, ◌++◌, None, Ok}
+use Rattle.osi_unit.specs.Octets.{IsOctets}
+use Rattle.osi_tpkt.specs.Stream.{ArePackets}
+use Rattle.osi_tpdu.specs.Packet.{units_of}
+use Rattle.osi_tpdu.specs.Value.{Value}
+use Rattle.osi_tpdu.specs.Writing.{written}
+use Rattle.osi_carrier.specs.State.{packets}
+use Rattle.osi_side.specs.declared.directions.Direction.{Direction}
+use Rattle.osi_side.specs.Captures.{other}
+use Rattle.osi_stack.specs.State.{Holding}
+use Rattle.osi_honest.specs.Turns.{Takes, Turn}
+use Rattle.osi_judge.specs.Courses.{Course, fresh, packet_begins, units_pass}
+
+pub record Joint : Type 0 where
+  -- the end, and what it holds of the packet that is arriving
+  pub holding : Holding
+  -- the units that it has put and that have not passed the judge, the oldest first; each goes in a packet of its own
+  pub put : List Value
+  -- the first of them has begun to pass
+  pub begun : Bool
+  -- what has passed the judge comes to this
+  pub course : Course
+  -- the packets of the other side that have passed the judge and that the end has not used, the oldest first
+  pub coming : List (List ℕ)
+
+-- ---- what happens
+
+pub data Step : Type 0 where
+  -- the owner of the end does something
+  turns : Turn → Step
+  -- the next unit of the end begins to pass, and passes, in the packet at this offset
+  begins_own : Step
+  passes_own : (at : ℕ) → Value → Step
+  -- a packet of the other side begins to pass, and passes: its offset, its transport units as octets, and as values
+  begins_other : Step
+  passes_other : (at : ℕ) → List ℕ → List Value → Step
+
+-- The end takes a turn. It puts these units, and uses these packets: the next that have passed. As long as it lasts, it holds
+-- the octets after them.
+pub record TakesTurn (turn : Turn) (old new : Joint) : Type 0 where
+  pub takes : Takes old.holding turn new.holding
+  pub units : List Value
+  pub written : turn.put ≡ packets units
+  pub put : new.put ≡ old.put ++ units
+  pub used : List (List ℕ)
+  pub coming : old.coming ≡ used ++ new.coming
+  pub rest : List ℕ
+  pub cut : old.holding.end.carrier.ended ≡ None → ArePackets used (old.holding.held.octets ++ turn.used) rest
+  pub held : new.holding.end.carrier.ended ≡ None → rest ≡ new.holding.held.octets
+  -- an end that is over left no packet in them
+  pub all : old.holding.end.carrier.ended ≡ None → new.holding.end.carrier.ended ≢ None →
+      (more : List (List ℕ)) (last : List ℕ) → ArePackets more rest last → more ≡ []
+  pub begun : new.begun ≡ old.begun
+  pub course : new.course ≡ old.course
+
+-- The effect of each, at an end that sends in this direction. What passes is octets, and is read as these units.
+abbrev pub Steps : Direction → Step → Joint → Joint → Type 0
+Steps d (turns turn) old new = TakesTurn turn old new
+Steps d begins_own old new = (old.put ≢ []) × (old.begun ≡ false)
+    × (new ≡ record old { begun = true; course = packet_begins d old.course })
+Steps d (passes_own at unit) old new = (units_of (written unit) ≡ Ok (unit ∷ [])) × IsOctets (written unit)
+    × (old.put ≡ unit ∷ new.put) × (old.begun ≡ true)
+    × (new ≡ record old { put = new.put; begun = false; course = units_pass d at (unit ∷ []) old.course })
+Steps d begins_other old new = new ≡ record old { course = packet_begins (other d) old.course }
+Steps d (passes_other at packet units) old new = IsOctets packet × (units_of packet ≡ Ok units)
+    × (new ≡ record old { course = units_pass (other d) at units old.course; coming = old.coming ++ packet ∷ [] })
+
+-- one after the other
+abbrev pub StepsAlong : Direction → Joint → List Step → Joint → Type 0
+StepsAlong d old [] new = new ≡ old
+StepsAlong d old (step ∷ steps) new = (mid : Joint) × Steps d step old mid × StepsAlong d mid steps new
+
+-- nothing has happened yet
+abbrev pub begin : Holding → Joint
+begin holding = record { holding = holding; put = []; begun = false; course = fresh; coming = [] }

@@ -1,5 +1,0 @@
-use Rattle.osi_dispute.proofs.a_last_line_is_never_empty.{last_words}
-use Rattle.osi_dispute.proofs.laws.a_judgement_ends_with_a_line.Goals as goal
-
-pub returns : goal.returns
-returns c = last_words

@@ -1,6 +1,0 @@
-use Rattle.std.proofs.Common.{arith}
-use Rattle.osi_dispute.proofs.a_report_says_what_a_tap_holds.{pair_missing}
-use Rattle.osi_dispute.proofs.reports.pair_at.Goals as goal
-
-pub returns-in-None : goal.returns-in-None
-returns-in-None c = search (arith, pair_missing)

@@ -1,6 +1,0 @@
-use Rattle.std.proofs.Common.{arith}
-use Rattle.osi_dispute.proofs.a_report_says_what_a_tap_holds.{pair_as}
-use Rattle.osi_dispute.proofs.reports.pair_of.Goals as goal
-
-pub returns : goal.returns
-returns c = λ j h. search (arith, pair_as)

@@ -1,6 +1,0 @@
-use Rattle.std.proofs.Common.{arith}
-use Rattle.osi_judge.proofs.kept.two_sessions_are_compared.{seen_told}
-use Rattle.osi_judge.proofs.walks.is_covered.Goals as goal
-
-pub returns-in-Some-clause-value : goal.returns-in-Some-clause-value
-returns-in-Some-clause-value c = grind (arith, seen_told)

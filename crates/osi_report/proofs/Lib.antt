@@ -1,0 +1,22 @@
+mod Vocabulary
+pub mod text_added_in_two_parts_is_added_whole
+pub mod what_is_fed_piece_by_piece_passes_whole
+pub mod digits_are_counted_one_by_one
+pub mod what_passes_is_the_capture_of_the_text
+pub mod what_is_read_octet_by_octet
+pub mod a_hearing_holds_what_passed
+pub mod a_text_is_one_capture
+pub mod rows_come_one_after_the_other
+pub mod a_rule_tells_a_break_from_leaving
+pub mod a_last_line_is_never_empty
+pub mod a_report_says_what_a_judge_holds
+pub mod a_judgement_is_a_report_or_a_reason
+pub mod how_a_stream_begins_stays
+pub mod a_session_is_told_in_one_way
+pub mod each_connection_has_a_number_of_its_own
+pub mod reports_are_alike
+pub mod a_report_is_added_part_by_part
+pub mod what_halts_a_side_is_told_of_its_sender
+pub mod what_is_printed_of_a_side_is_found
+pub mod what_passed_of_a_side_is_counted
+pub mod what_is_told_is_of_the_report

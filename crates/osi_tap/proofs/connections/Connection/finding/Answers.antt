@@ -1,9 +1,0 @@
-use Rattle.std.proofs.Common.{arith}
-use Rattle.osi_tap.proofs.what_is_kept_of_a_side_is_what_passed.{found_at, room_at}
-use Rattle.osi_tap.proofs.connections.Connection.finding.Goals as goal
-
-pub returns-clause-found : goal.returns-clause-found
-returns-clause-found c j h = grind (arith, found_at)
-
-pub returns-clause-room : goal.returns-clause-room
-returns-clause-room c j h = grind (arith, room_at)

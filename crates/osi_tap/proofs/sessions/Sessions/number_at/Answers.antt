@@ -1,5 +1,0 @@
-use Rattle.osi_tap.proofs.Vocabulary.{List, subst, sym, Connection, HoldAll}
-use Rattle.osi_tap.proofs.sessions.Sessions.number_at.Goals as goal
-
-pub returns : goal.returns
-returns c s h = c.number_in.ensures s.live (subst (λ (l : List Connection). HoldAll l s.live) (sym c.deref.ensures.value) h.live)

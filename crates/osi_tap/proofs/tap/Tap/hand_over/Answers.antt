@@ -1,6 +1,0 @@
-use Rattle.std.proofs.Common.{arith}
-use Rattle.osi_tap.proofs.each_session_has_heard_all.{still_holds}
-use Rattle.osi_tap.proofs.tap.Tap.hand_over.Goals as goal
-
-pub returns-clause-holds : goal.returns-clause-holds
-returns-clause-holds c s none h = grind (arith, still_holds)
