@@ -1,5 +1,5 @@
--- What follows what the other side sends and nobody can read is steps too: of the end and of the judge, which reads of that side what it can.
--- For the law that a capture of an end is steps.
+-- What follows what the other side sends and nobody can read is steps too: of the end and of the judge, which reads of that side what it
+-- can. For the law that a capture of an end is steps.
 use Rattle.osi_blameless.proofs.Vocabulary.{[], ap, append_assoc, Bool, false, if◌then◌else◌, inl, inr, List, None, refl, subst, sym, true, ℕ}
 use Rattle.osi_blameless.proofs.Vocabulary.{◌++◌, ◌<◌, ◌∙◌, ◌∷◌, ◌≡◌, ◌≢◌, ◌⊎◌, append-nil, AllByRecursion, octets_nil, octets_right}
 use Rattle.osi_blameless.proofs.Vocabulary.{IsOctets, packet_of, ArePackets, units_of, Value, written, packets, Holding, Capture, of, other}

@@ -1,5 +1,5 @@
--- In class 0 a break of the other side changes nothing that is judged of an end but that the other side is not judged any more. So a judge
--- judges what the end sends after it as if the break had not come. For the sessions of an end after such a break.
+-- In class 0 a break of the other side changes nothing that is judged of an end but that the other side is not judged any more. So what
+-- the end sends after it is judged as if the break had not come. For the sessions of an end after such a break.
 use Rattle.osi_blameless.proofs.Vocabulary.{arith, ◌≡◌, ◌∙◌, ap, ℕ, Bool, false, if◌then◌else◌, Option, Some, slice_set, Value, data0}
 use Rattle.osi_blameless.proofs.Vocabulary.{disconnected, error, Zero, other, Direction, Left, Right, Connection, Finding, Reach, Route}
 use Rattle.osi_blameless.proofs.Vocabulary.{is_applied, reach_of, Outcome, State, asks_of, at_place, class_for, connection_after}

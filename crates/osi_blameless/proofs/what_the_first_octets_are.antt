@@ -1,5 +1,5 @@
--- What the first octets of a packet are to the reader of a judge: of a packet that an end writes, and of one that has just passed.
--- For what an octet does to an end and a judge.
+-- What the first octets of a packet are to a judge: of a packet that an end writes, and of one that has just passed. For what an
+-- octet does to an end and a judge.
 use Rattle.osi_blameless.proofs.Vocabulary.{[], ap, append_assoc, arith, false, inl, inr, leb, length, List, refl, subst, sym, take, true, ℕ}
 use Rattle.osi_blameless.proofs.Vocabulary.{◌*◌, ◌++◌, ◌+◌, ◌-◌, ◌<◌, ◌∙◌, ◌∷◌, ◌≡◌, ◌≤◌, ◌⊎◌, take-append_seam, eqb-true, le-ltb, lt-ltb}
 use Rattle.osi_blameless.proofs.Vocabulary.{ltb-false, ltb-true, leb_tells, append-nil, length-append, take_all, take_at, octets_append}

@@ -143,7 +143,7 @@ given old new k n v settled decided turn due shows s told = record {
   text = s.text;
 }
 
--- what is fetched after the judge has judged all that passed
+-- what is fetched once all that passed is judged
 pub kept_after : (old now new : HeldJudge) → ((capture : Capture) → Knows old capture → Knows now capture)
     → now.told.items ≡ old.told.items → now.text ≡ old.text → Keeps now new → Keeps old new
 kept_after old now new knows told text g = record {

@@ -1,6 +1,5 @@
--- A turn of an end beside a judge used the packets that its connections took in this turn, and put the units that they put: these are written
--- alike. So they can stand in the place of the others, in each step.
--- For all connections of an end and a judge.
+-- A turn of an end beside a judge used the packets that its connections took in this turn, and put the units that they put: these are
+-- written alike. So they can stand in the place of the others, in each step. For all connections of an end and a judge.
 use Rattle.std.proofs.Common.{arith}
 use Rattle.osi_blameless.proofs.Vocabulary.{[], ap, append_assoc, Bool, List, None, sym, ℕ, ◌++◌, ◌∙◌, ◌≡◌, flat_map-append, units_of, Value}
 use Rattle.osi_blameless.proofs.Vocabulary.{Continues, Deeds, units_in, units_read, all_units, Turn, Joint, TakesTurn}

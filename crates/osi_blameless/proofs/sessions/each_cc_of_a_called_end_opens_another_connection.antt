@@ -1,6 +1,6 @@
--- Of the CCs that a called end of class 2 has put and that have not passed a judge, no two are for one reference of either side. Each comes
--- before all that is put for it, and no other connection that the end has open at the judge has its reference of the other side.
--- For all connections of a called end and a judge.
+-- Of the CCs that a called end of class 2 has put and that have not passed, no two are for one reference of either side. Each comes before
+-- all that is put for it, and no other connection that the end has open at the judge has its reference of the other side. For all
+-- connections of a called end and a judge.
 use Rattle.osi_blameless.proofs.Vocabulary.{[], ap, append_assoc, Bool, false, inl, inr, List, None, Option, refl, Some, subst, sym, true, ℕ}
 use Rattle.osi_blameless.proofs.Vocabulary.{◌&&◌, ◌++◌, ◌∙◌, ◌∷◌, ◌≡◌, ◌⊎◌, eqb-true, AllByRecursion, slice_get, acknowledge, confirm}
 use Rattle.osi_blameless.proofs.Vocabulary.{Connect, data2, disconnect, Value, Standing, Move, Two, Local, acceptance, opened_link, value_at}

@@ -1,5 +1,4 @@
--- A unit makes nobody to blame for what a judge with a bound judges whom it doesn't make to blame for what a judge without one judges.
--- For the law on such a judge.
+-- Within a bound a unit makes no session to blame that it doesn't make to blame without one. For the law on such a judge.
 use Rattle.osi_blameless.proofs.Vocabulary.{arith, slice_get, ◌≡◌, ◌∙◌, refl, sym, ap, subst, ℕ, zero, suc, Bool, true, false, if◌then◌else◌}
 use Rattle.osi_blameless.proofs.Vocabulary.{List, [], ◌∷◌, ◌++◌, length, set, Option, Some, None, Meaning, Value, Direction, Room, Octets}
 use Rattle.osi_blameless.proofs.Vocabulary.{Over, IsToBlame, Joined, Sessions, adds_if, changed, placed, taken, taken_at, user_of, fits}

@@ -1,6 +1,5 @@
--- What has come for a connection of a calling end that has not opened: its CC has passed the judge, or no DT and no AK for it has. So it is
--- at the beginning, and each step keeps it so, as long as both sides are judged.
--- For the session of each connection of a calling end.
+-- What has come for a connection of a calling end that has not opened: its CC has passed, or no DT and no AK for it has. So it is at the
+-- beginning, and each step keeps it so, as long as both sides are judged. For the session of each connection of a calling end.
 use Rattle.osi_blameless.proofs.Vocabulary.{◌≡◌, ◌∙◌, ◌⊎◌, inl, inr, refl, sym, ap, subst, ℕ, ◌<◌, Bool, true, false, List, [], ◌∷◌, ◌++◌}
 use Rattle.osi_blameless.proofs.Vocabulary.{Option, Some, None, length, map, append_assoc, arith, ◌||◌, slice_get, AllByRecursion, eqb-true}
 use Rattle.osi_blameless.proofs.Vocabulary.{le-leb, lt-ltb, append-nil, slice_get-map, units_of, Connect, HasFieldsInRange, Value}
