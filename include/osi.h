@@ -578,7 +578,7 @@ typedef struct osi_counters {
 void osi_counts(osi_end *end, osi_counters *shown);
 
 /* ---- judging a byte connection that passes ---------------------------------------------------------------
- * A judge watches a byte connection between two other programs, and says which side first sent what no
+ * A judge is fed a byte connection between two other programs, and says which side first sent what no
  * conforming end could have sent there (docs/JUDGING.md). It needs no osi_end. It judges both classes of
  * transport and any number of connections: the transport of each side, and the session of each side of each
  * connection. It says what `osi judge` says, while the octets pass.
