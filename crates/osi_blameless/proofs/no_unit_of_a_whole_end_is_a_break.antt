@@ -1,7 +1,7 @@
 -- No unit of a whole end is a break as it passes, as long as the other side is judged: what osi_fair says of it.
 -- For the law on the first break.
-use Rattle.osi_blameless.proofs.Vocabulary.{false, true, ◌≡◌, ◌⊎◌, Local, Finding, Kept, NotJudged, TooMany, called_fair, calling_fair, arith}
-use Rattle.osi_blameless.proofs.Vocabulary.{called_fair_in_class_0, calling_fair_in_class_0}
+use Rattle.osi_blameless.proofs.Vocabulary.{false, true, ◌≡◌, ◌⊎◌, Local, Finding, Kept, NotJudged, TooMany, called_fair, calling_fair}
+use Rattle.osi_blameless.proofs.Vocabulary.{arith, called_fair_in_class_0, calling_fair_in_class_0}
 use Rattle.osi_rules.specs.declared.directions.Direction.TheVariants.{Left, Right}
 use Rattle.osi_fair.specs.Wholes.{begin}
 use Rattle.osi_blameless.proofs.the_first_break_is_not_of_an_end.{IsFairAlone, IsFairFrom, IsFairThroughout, IsNoBreak}

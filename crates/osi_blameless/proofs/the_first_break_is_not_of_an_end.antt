@@ -4,8 +4,9 @@
 use Rattle.osi_blameless.proofs.Vocabulary.{[], ap, Bool, false, inl, inr, List, None, refl, Some, subst, sym, true, ℕ, ◌∙◌, ◌∷◌, ◌≡◌, ◌⊎◌}
 use Rattle.osi_blameless.proofs.Vocabulary.{Value, Local, Holding, is_stopped, Traffic, takes, Way, Finding, Broke, Outside, Capture, other}
 use Rattle.osi_blameless.proofs.Vocabulary.{Direction, Left, Right, AllProper, IsFresh, unit_passes, units_pass, way_of, after, comes_to}
-use Rattle.osi_blameless.proofs.Vocabulary.{First, Event, HappenAlong, Whole, begins_other, begins_own, Joint, passes_other, passes_own, Step}
-use Rattle.osi_blameless.proofs.Vocabulary.{Steps, StepsAlong, turns, ComesBySteps, TurnsBad, arith, Zero, Kept, Course, packet_begins, begin}
+use Rattle.osi_blameless.proofs.Vocabulary.{First, Event, HappenAlong, Whole, begins_other, begins_own, Joint, passes_other, passes_own}
+use Rattle.osi_blameless.proofs.Vocabulary.{Step, Steps, StepsAlong, turns, ComesBySteps, TurnsBad, arith, Zero, Kept, Course}
+use Rattle.osi_blameless.proofs.Vocabulary.{packet_begins, begin}
 use Rattle.osi_rules.specs.Sides as sides
 use Rattle.osi_fair.specs.Wholes as wholes
 use Rattle.osi_judge.specs.States as states

@@ -102,7 +102,8 @@ same_late b old new s late capture h settled = late capture (known_before old ne
 same_none : (old new : HeldJudge) (told : List Subject) (k : Subject) → IsSame old new → HasNone old told k → HasNone new told k
 same_none old new told k s h = elim h [ inl before ↦ inl before | inr nothing ↦ inr (same_nothing old new k s nothing) ]
 
-same_none_if : (old new : HeldJudge) (told : List Subject) (o : Option Subject) → IsSame old new → HasNoneIf old told o → HasNoneIf new told o
+same_none_if : (old new : HeldJudge) (told : List Subject) (o : Option Subject) → IsSame old new → HasNoneIf old told o →
+    HasNoneIf new told o
 same_none_if old new told None s h = h
 same_none_if old new told (Some k) s h = same_none old new told k s h
 

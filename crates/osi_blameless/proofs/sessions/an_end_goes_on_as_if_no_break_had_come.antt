@@ -1,14 +1,14 @@
 -- After a break of the other side in class 0 an end and a judge go on as if the break had not come: the end takes what came before it, and
 -- is over with the break; and the judge joins nothing more of the other side. For the law that no session of an end is to blame after such
 -- a break.
-use Rattle.osi_blameless.proofs.Vocabulary.{◌≡◌, ◌∙◌, ◌⊎◌, inl, inr, refl, sym, ap, subst, ℕ, ◌+◌, ◌^◌, ◌<◌, Bool, true, false, List, [], ◌∷◌}
-use Rattle.osi_blameless.proofs.Vocabulary.{◌++◌, map, length, Option, Ok, Some, None, IsSome, arith, append_assoc, AllByRecursion, lt-ltb}
-use Rattle.osi_blameless.proofs.Vocabulary.{append-nil, empty_partial, ArePackets, units_of, Value, data0, written, Standing, Class, Zero}
-use Rattle.osi_blameless.proofs.Vocabulary.{Local, packets, EndReason, other, Direction, Kept, is_stopped, takes, stops_last, lasting_of}
-use Rattle.osi_blameless.proofs.Vocabulary.{TakesPackets, End, Holding, Deeds, all_units, Takes, Turn, over_acts, IsHardPacket, IsLast}
-use Rattle.osi_blameless.proofs.Vocabulary.{IsZeroAt, hard_ends, leads_to, Stopped, TakesFirst, none_held, prefix_or, stopped_there, TurnOf}
-use Rattle.osi_blameless.proofs.Vocabulary.{turn_continues, Known, packet_begins, unit_passes, units_pass, way_of, Joint, Steps, TakesTurn}
-use Rattle.osi_blameless.proofs.Vocabulary.{begins_other, begins_own, passes_own, turns, calls_from}
+use Rattle.osi_blameless.proofs.Vocabulary.{◌≡◌, ◌∙◌, ◌⊎◌, inl, inr, refl, sym, ap, subst, ℕ, ◌+◌, ◌^◌, ◌<◌, Bool, true, false, List, []}
+use Rattle.osi_blameless.proofs.Vocabulary.{◌∷◌, ◌++◌, map, length, Option, Ok, Some, None, IsSome, arith, append_assoc, AllByRecursion}
+use Rattle.osi_blameless.proofs.Vocabulary.{lt-ltb, append-nil, empty_partial, ArePackets, units_of, Value, data0, written, Standing, Class}
+use Rattle.osi_blameless.proofs.Vocabulary.{Zero, Local, packets, EndReason, other, Direction, Kept, is_stopped, takes, stops_last}
+use Rattle.osi_blameless.proofs.Vocabulary.{lasting_of, TakesPackets, End, Holding, Deeds, all_units, Takes, Turn, over_acts, IsHardPacket}
+use Rattle.osi_blameless.proofs.Vocabulary.{IsLast, IsZeroAt, hard_ends, leads_to, Stopped, TakesFirst, none_held, prefix_or, stopped_there}
+use Rattle.osi_blameless.proofs.Vocabulary.{TurnOf, turn_continues, Known, packet_begins, unit_passes, units_pass, way_of, Joint, Steps}
+use Rattle.osi_blameless.proofs.Vocabulary.{TakesTurn, begins_other, begins_own, passes_own, turns, calls_from}
 use Rattle.osi_fair.specs.Pieces.{units_in}
 use Rattle.osi_fair.specs.Wholes as wholes
 use Rattle.osi_stack.specs.Feeding.{stops}
@@ -24,7 +24,8 @@ use Rattle.osi_blameless.proofs.what_is_put_is_what_is_written.{none_written, sa
 use Rattle.osi_blameless.proofs.what_passes_keeps_a_claim.{step_kept}
 use Rattle.osi_blameless.proofs.sessions.a_dt_that_is_too_long_stays_so.{IsTooLong, begins_too_long, only_of, own_is_dt, passes_too_long}
 use Rattle.osi_blameless.proofs.sessions.after_too_many_nobody_is_to_blame.{NoneIsToBlame}
-use Rattle.osi_blameless.proofs.sessions.an_end_beside_a_judge_that_judges_all.{Goes, other_begins_goes, own_begins_goes, own_goes, turn_goes}
+use Rattle.osi_blameless.proofs.sessions.an_end_beside_a_judge_that_judges_all.{Goes, other_begins_goes, own_begins_goes, own_goes}
+use Rattle.osi_blameless.proofs.sessions.an_end_beside_a_judge_that_judges_all.{turn_goes}
 use Rattle.osi_blameless.proofs.sessions.an_end_of_class_0_has_begun_what_a_judge_has_joined.{HasBegun}
 use Rattle.osi_blameless.proofs.sessions.an_end_of_class_0_has_its_connection_open.{IsOpenIn, MayBeFollowed, end_opens}
 use Rattle.osi_blameless.proofs.sessions.connections_have_the_same_places.{at_same, unit_joins, unit_knows}

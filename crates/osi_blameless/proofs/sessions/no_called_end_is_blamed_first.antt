@@ -1,8 +1,8 @@
 -- The first break of all at a judge is never of a called end, whatever classes it offers and whichever is selected.
 -- For the law that no session of an end is blamed first.
 use Rattle.osi_blameless.proofs.Vocabulary.{false, inl, inr, length, List, Option, refl, Some, ℕ, ◌<◌, ◌^◌, ◌≡◌, ◌⊎◌, slice_get, Class, Two}
-use Rattle.osi_blameless.proofs.Vocabulary.{Zero, Local, Holding, AsSent, AsParts, CalledLaw, CallerLaw, Capture, Left, Right, Known, IsFresh}
-use Rattle.osi_blameless.proofs.Vocabulary.{IsSeen, Run, Turn, BreaksFirst, IsToBlame, Joined, comes_to, First, AreOctets, arith}
+use Rattle.osi_blameless.proofs.Vocabulary.{Zero, Local, Holding, AsSent, AsParts, CalledLaw, CallerLaw, Capture, Left, Right, Known}
+use Rattle.osi_blameless.proofs.Vocabulary.{IsFresh, IsSeen, Run, Turn, BreaksFirst, IsToBlame, Joined, comes_to, First, AreOctets, arith}
 use Rattle.osi_blameless.proofs.small_facts_that_many_lemmas_use.{zero_two}
 use Rattle.osi_blameless.proofs.a_capture_is_steps.{capture_steps}
 use Rattle.osi_blameless.proofs.no_unit_of_a_whole_end_is_a_break.{called_is_fair}

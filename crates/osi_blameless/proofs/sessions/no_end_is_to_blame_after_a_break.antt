@@ -1,9 +1,9 @@
 -- No session of an end is to blame, whatever the other side breaks, whichever class is selected.
 -- For the law that no session of an end is to blame after a break.
-use Rattle.osi_blameless.proofs.Vocabulary.{arith, slice_get, ◌⊎◌, ℕ, inl, inr, ◌≡◌, refl, ◌^◌, ◌<◌, Bool, false, true, List, length, Option}
-use Rattle.osi_blameless.proofs.Vocabulary.{Some, Class, Two, Zero, Local, Capture, Direction, Left, Right, AsSent, AsParts, CalledLaw}
-use Rattle.osi_blameless.proofs.Vocabulary.{CallerLaw, Holding, IsFresh, IsSeen, Run, Turn, Known, IsToBlame, Joined, Course, comes_to}
-use Rattle.osi_blameless.proofs.Vocabulary.{AreOctets, differ}
+use Rattle.osi_blameless.proofs.Vocabulary.{arith, slice_get, ◌⊎◌, ℕ, inl, inr, ◌≡◌, refl, ◌^◌, ◌<◌, Bool, false, true, List, length}
+use Rattle.osi_blameless.proofs.Vocabulary.{Option, Some, Class, Two, Zero, Local, Capture, Direction, Left, Right, AsSent, AsParts}
+use Rattle.osi_blameless.proofs.Vocabulary.{CalledLaw, CallerLaw, Holding, IsFresh, IsSeen, Run, Turn, Known, IsToBlame, Joined, Course}
+use Rattle.osi_blameless.proofs.Vocabulary.{comes_to, AreOctets, differ}
 use Rattle.osi_blameless.proofs.a_capture_is_steps.{capture_steps}
 use Rattle.osi_blameless.proofs.in_class_0_one_side_alone_is_judged.{IsLoose}
 use Rattle.osi_blameless.proofs.no_unit_of_a_whole_end_is_a_break.{called_is_fair, called_is_fair_in_class_0}

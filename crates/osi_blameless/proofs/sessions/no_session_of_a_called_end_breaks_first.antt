@@ -4,9 +4,9 @@
 use Rattle.osi_blameless.proofs.Vocabulary.{[], ap, Bool, false, inl, inr, List, map, None, refl, Some, subst, sym, ℕ, ◌++◌, ◌∙◌, ◌∷◌, ◌≡◌}
 use Rattle.osi_blameless.proofs.Vocabulary.{◌⊎◌, AllByRecursion, Value, written, Zero, Local, acceptance, Holding, Traffic as State, AsSent}
 use Rattle.osi_blameless.proofs.Vocabulary.{AsParts, CalledLaw, CallerLaw, Left, Right, AllProper, CanBeWritten, Deeds, no_deeds, then_did}
-use Rattle.osi_blameless.proofs.Vocabulary.{units_in, IsFresh, Turn, none, Sessions, unit_passes, units_pass, Selecting, fresh_apart, no_item}
-use Rattle.osi_blameless.proofs.Vocabulary.{selecting_passes, begins_other, begins_own, Class, Option, Two, Joint, passes_other, passes_own}
-use Rattle.osi_blameless.proofs.Vocabulary.{Step, Steps, TakesTurn, turns, arith, begin, IsOngoing, firm_unless_two}
+use Rattle.osi_blameless.proofs.Vocabulary.{units_in, IsFresh, Turn, none, Sessions, unit_passes, units_pass, Selecting, fresh_apart}
+use Rattle.osi_blameless.proofs.Vocabulary.{no_item, selecting_passes, begins_other, begins_own, Class, Option, Two, Joint, passes_other}
+use Rattle.osi_blameless.proofs.Vocabulary.{passes_own, Step, Steps, TakesTurn, turns, arith, begin, IsOngoing, firm_unless_two}
 use Rattle.osi_rules.specs.declared.directions.Direction.TheVariants as way
 use Rattle.osi_fair.specs.Wholes as wholes
 use Rattle.osi_judge.specs.Courses.{Course as Passed}

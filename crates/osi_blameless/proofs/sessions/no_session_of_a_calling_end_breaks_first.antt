@@ -3,8 +3,8 @@
 -- For the law that no session of an end is blamed first.
 use Rattle.osi_blameless.proofs.Vocabulary.{[], List, Some, true, ℕ, ◌++◌, ◌∷◌, ◌≡◌, units_fit, units_found, HasFieldsInRange, Value, Zero}
 use Rattle.osi_blameless.proofs.Vocabulary.{Local, Holding, AsSent, AsParts, CalledLaw, CallerLaw, Left, Right, AllProper, Deeds, no_deeds}
-use Rattle.osi_blameless.proofs.Vocabulary.{then_did, units_in, IsFresh, Turn, none, unit_passes, units_pass, fresh_apart, no_item, IsOngoing}
-use Rattle.osi_blameless.proofs.Vocabulary.{Joint, passes_other, passes_own, Steps, TakesTurn, arith, begin}
+use Rattle.osi_blameless.proofs.Vocabulary.{then_did, units_in, IsFresh, Turn, none, unit_passes, units_pass, fresh_apart, no_item}
+use Rattle.osi_blameless.proofs.Vocabulary.{IsOngoing, Joint, passes_other, passes_own, Steps, TakesTurn, arith, begin}
 use Rattle.osi_fair.specs.Wholes as wholes
 use Rattle.osi_judge.specs.Courses.{Course as Passed}
 use Rattle.osi_blameless.proofs.small_facts_that_many_lemmas_use.{all_front, ranges_of}
@@ -12,8 +12,9 @@ use Rattle.osi_blameless.proofs.steps_are_events.{IsFollowed}
 use Rattle.osi_blameless.proofs.what_the_turns_among_steps_do.{TurnDoes}
 use Rattle.osi_blameless.proofs.sessions.a_calling_end_hears_what_breaks_no_rule.{AreFine, IsBehind, units_heard}
 use Rattle.osi_blameless.proofs.sessions.a_calling_end_is_ready.{begin_calling, whole_joined}
-use Rattle.osi_blameless.proofs.sessions.a_calling_end_stands_as_units_pass.{StandsCalling, begins_other_stands, begins_own_stands, known_at}
-use Rattle.osi_blameless.proofs.sessions.a_calling_end_stands_as_units_pass.{passes_other_stands, passes_own_stands, turns_stand_early}
+use Rattle.osi_blameless.proofs.sessions.a_calling_end_stands_as_units_pass.{StandsCalling, begins_other_stands, begins_own_stands}
+use Rattle.osi_blameless.proofs.sessions.a_calling_end_stands_as_units_pass.{known_at, passes_other_stands, passes_own_stands}
+use Rattle.osi_blameless.proofs.sessions.a_calling_end_stands_as_units_pass.{turns_stand_early}
 use Rattle.osi_blameless.proofs.sessions.after_too_many_nobody_is_to_blame.{NoneIsToBlame}
 use Rattle.osi_blameless.proofs.sessions.each_unit_of_a_calling_end_has_a_home.{calling_marked}
 use Rattle.osi_blameless.proofs.sessions.no_session_of_an_end_breaks_first.{HaveCourses}

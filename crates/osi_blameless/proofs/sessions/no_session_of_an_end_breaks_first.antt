@@ -1,14 +1,14 @@
 -- The first break of all at a judge, of transport and of sessions, is never of the side of an end, if something holds at each step by
 -- which nobody of the end is to blame, as long as nobody has broken a rule and one class is not selected.
 -- For the law that no session of an end is blamed first.
-use Rattle.osi_blameless.proofs.Vocabulary.{◌≡◌, ◌≢◌, ◌∙◌, ◌⊎◌, inl, inr, refl, sym, ap, subst, ℕ, ◌^◌, ◌<◌, ◌≤◌, Bool, false, if◌then◌else◌}
-use Rattle.osi_blameless.proofs.Vocabulary.{List, [], ◌∷◌, ◌++◌, length, Some, None, is_some, append_assoc, arith, slice_get, append-nil}
-use Rattle.osi_blameless.proofs.Vocabulary.{length-append, Value, Class, Two, Local, Capture, other, Direction, Finding, Broke, Kept}
-use Rattle.osi_blameless.proofs.Vocabulary.{NotJudged, Outside, TooMany, is_stopped, takes, packet, unit, IsFirm, Holding, Deeds, all_did}
-use Rattle.osi_blameless.proofs.Vocabulary.{no_deeds, then_did, IsFresh, Turn, AllProper, fresh_course, Cause, Joined, spoken, marked}
-use Rattle.osi_blameless.proofs.Vocabulary.{marks_of, moved, packet_begins, unit_passes, units_pass, unread, unread_mark, unread_moment}
-use Rattle.osi_blameless.proofs.Vocabulary.{way_of, heard, after, comes_to, Joint, Step, Steps, StepsAlong, TakesTurn, begin, begins_other}
-use Rattle.osi_blameless.proofs.Vocabulary.{begins_own, passes_other, passes_own, turns, TurnsBad, calls_from, marked_past}
+use Rattle.osi_blameless.proofs.Vocabulary.{◌≡◌, ◌≢◌, ◌∙◌, ◌⊎◌, inl, inr, refl, sym, ap, subst, ℕ, ◌^◌, ◌<◌, ◌≤◌, Bool, false}
+use Rattle.osi_blameless.proofs.Vocabulary.{if◌then◌else◌, List, [], ◌∷◌, ◌++◌, length, Some, None, is_some, append_assoc, arith, slice_get}
+use Rattle.osi_blameless.proofs.Vocabulary.{append-nil, length-append, Value, Class, Two, Local, Capture, other, Direction, Finding, Broke}
+use Rattle.osi_blameless.proofs.Vocabulary.{Kept, NotJudged, Outside, TooMany, is_stopped, takes, packet, unit, IsFirm, Holding, Deeds}
+use Rattle.osi_blameless.proofs.Vocabulary.{all_did, no_deeds, then_did, IsFresh, Turn, AllProper, fresh_course, Cause, Joined, spoken}
+use Rattle.osi_blameless.proofs.Vocabulary.{marked, marks_of, moved, packet_begins, unit_passes, units_pass, unread, unread_mark}
+use Rattle.osi_blameless.proofs.Vocabulary.{unread_moment, way_of, heard, after, comes_to, Joint, Step, Steps, StepsAlong, TakesTurn, begin}
+use Rattle.osi_blameless.proofs.Vocabulary.{begins_other, begins_own, passes_other, passes_own, turns, TurnsBad, calls_from, marked_past}
 use Rattle.osi_rules.specs.Sides as sides
 use Rattle.osi_rules.specs.Traffic.{State as Traffic}
 use Rattle.osi_rules.specs.Traffic as traffic
@@ -430,7 +430,8 @@ module _ (proper : AllProper) (barred : Class) (d : Direction) (local : Local)
   step_stays step deeds then_deeds old new does on (silent s) = silent (step_kept (IsSilent d) (silent_claim d) d step old new does s)
   step_stays step deeds then_deeds old new does on (broken b) = grind (arith, step_kept, broken_claim d)
 
-  judge_stays : (step : Step) → IsOfJudge step → (deeds : ℕ → Deeds) (old new : Joint) → Steps d step old new → IsWithout barred new.course →
+  judge_stays : (step : Step) → IsOfJudge step → (deeds : ℕ → Deeds) (old new : Joint) → Steps d step old new →
+      IsWithout barred new.course →
       Stays deeds old → Stays deeds new
   judge_stays step judge deeds old new does within s = grind (arith, step_stays, judge_so)
 
@@ -456,7 +457,8 @@ module _ (proper : AllProper) (barred : Class) (d : Direction) (local : Local)
       along_so steps deeds mid new more does within
       (judge_stays (passes_own at v) tt deeds old mid one (along_within steps mid new more within) s)
   along_so (begins_other ∷ steps) deeds old new (mid, one, more) does within s =
-      along_so steps deeds mid new more does within (judge_stays begins_other tt deeds old mid one (along_within steps mid new more within) s)
+      along_so steps deeds mid new more does within (judge_stays begins_other tt deeds old mid one
+        (along_within steps mid new more within) s)
   along_so (passes_other at octets units ∷ steps) deeds old new (mid, one, more) does within s =
       along_so steps deeds mid new more does within
       (judge_stays (passes_other at octets units) tt deeds old mid one (along_within steps mid new more within) s)

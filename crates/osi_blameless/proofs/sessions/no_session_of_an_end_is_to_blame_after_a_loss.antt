@@ -1,13 +1,13 @@
 -- No session of an end is to blame, whatever the other side breaks, if what stands of it at each step stands also after a connection of
 -- class 2 has lost its judgement, and if class 0 is not selected.
 -- For the law that no session of an end is blamed after a break of the other side.
-use Rattle.osi_blameless.proofs.Vocabulary.{[], ap, append-nil, append_assoc, arith, false, inl, inr, length, List, Option, refl, Some, subst}
-use Rattle.osi_blameless.proofs.Vocabulary.{sym, ℕ, ◌++◌, ◌<◌, ◌^◌, ◌∙◌, ◌∷◌, ◌≡◌, ◌⊎◌, slice_get, Value, Class, Zero, Local, Holding}
-use Rattle.osi_blameless.proofs.Vocabulary.{is_applied, reach_of, class_for, is_stopped, takes, Finding, Reach, Traffic as State, other}
-use Rattle.osi_blameless.proofs.Vocabulary.{Direction, AllProper, Deeds, no_deeds, all_did, fresh_course, IsFresh, Turn, Joined, spoken}
-use Rattle.osi_blameless.proofs.Vocabulary.{unit_passes, units_pass, unread, way_of, heard, Capture, comes_to, Cause, begins_other}
-use Rattle.osi_blameless.proofs.Vocabulary.{begins_own, Joint, passes_other, passes_own, Step, Steps, StepsAlong, TakesTurn, turns, TurnsBad}
-use Rattle.osi_blameless.proofs.Vocabulary.{calls_from, begin, LaterAlong, spoilt, IsOngoing}
+use Rattle.osi_blameless.proofs.Vocabulary.{[], ap, append-nil, append_assoc, arith, false, inl, inr, length, List, Option, refl, Some}
+use Rattle.osi_blameless.proofs.Vocabulary.{subst, sym, ℕ, ◌++◌, ◌<◌, ◌^◌, ◌∙◌, ◌∷◌, ◌≡◌, ◌⊎◌, slice_get, Value, Class, Zero, Local}
+use Rattle.osi_blameless.proofs.Vocabulary.{Holding, is_applied, reach_of, class_for, is_stopped, takes, Finding, Reach, Traffic as State}
+use Rattle.osi_blameless.proofs.Vocabulary.{other, Direction, AllProper, Deeds, no_deeds, all_did, fresh_course, IsFresh, Turn, Joined}
+use Rattle.osi_blameless.proofs.Vocabulary.{spoken, unit_passes, units_pass, unread, way_of, heard, Capture, comes_to, Cause, begins_other}
+use Rattle.osi_blameless.proofs.Vocabulary.{begins_own, Joint, passes_other, passes_own, Step, Steps, StepsAlong, TakesTurn, turns}
+use Rattle.osi_blameless.proofs.Vocabulary.{TurnsBad, calls_from, begin, LaterAlong, spoilt, IsOngoing}
 use Rattle.osi_rules.specs.Sides as sides
 use Rattle.osi_rules.specs.Traffic as traffic
 use Rattle.osi_rules.specs.declared.findings.Reach.TheVariants as reach
@@ -301,7 +301,8 @@ module _ (proper : AllProper) (d : Direction) (local : Local)
       along_so steps deeds mid new more does within
       (judge_stays (passes_own at v) tt deeds old mid one (along_within steps mid new more within) s)
   along_so (begins_other ∷ steps) deeds old new (mid, one, more) does within s =
-      along_so steps deeds mid new more does within (judge_stays begins_other tt deeds old mid one (along_within steps mid new more within) s)
+      along_so steps deeds mid new more does within (judge_stays begins_other tt deeds old mid one
+        (along_within steps mid new more within) s)
   along_so (passes_other at octets units ∷ steps) deeds old new (mid, one, more) does within s =
       along_so steps deeds mid new more does within
       (judge_stays (passes_other at octets units) tt deeds old mid one (along_within steps mid new more within) s)

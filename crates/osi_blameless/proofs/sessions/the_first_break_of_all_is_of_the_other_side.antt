@@ -1,11 +1,11 @@
 -- If in each moment before a break of the other side's transport nobody of this side is to blame, the first break of all, of transport
 -- and of sessions, is of the other side.
 -- For the law that no session of an end is blamed first.
-use Rattle.osi_blameless.proofs.Vocabulary.{[], if◌then◌else◌, inl, inr, List, None, Option, refl, Some, subst, sym, true, ℕ, ◌++◌, ◌∷◌, ◌≡◌}
-use Rattle.osi_blameless.proofs.Vocabulary.{◌⊎◌, AllByRecursion, Value, stops_last, Outcome, takes, Finding, Told, other, Direction, Left}
-use Rattle.osi_blameless.proofs.Vocabulary.{Right, noted_past, AreSpotless, BreaksFirst, IsBreakOf, IsFirstOf, IsQuiet, IsToBlame, of_session}
-use Rattle.osi_blameless.proofs.Vocabulary.{of_transport, Sessions, taken, cause_of, is_break, mark_by, Moment, moment_of, number_at}
-use Rattle.osi_blameless.proofs.Vocabulary.{unit_passes, way_of, First, Mark, arith, Course, differ}
+use Rattle.osi_blameless.proofs.Vocabulary.{[], if◌then◌else◌, inl, inr, List, None, Option, refl, Some, subst, sym, true, ℕ, ◌++◌, ◌∷◌}
+use Rattle.osi_blameless.proofs.Vocabulary.{◌≡◌, ◌⊎◌, AllByRecursion, Value, stops_last, Outcome, takes, Finding, Told, other, Direction}
+use Rattle.osi_blameless.proofs.Vocabulary.{Left, Right, noted_past, AreSpotless, BreaksFirst, IsBreakOf, IsFirstOf, IsQuiet, IsToBlame}
+use Rattle.osi_blameless.proofs.Vocabulary.{of_session, of_transport, Sessions, taken, cause_of, is_break, mark_by, Moment, moment_of}
+use Rattle.osi_blameless.proofs.Vocabulary.{number_at, unit_passes, way_of, First, Mark, arith, Course, differ}
 use Rattle.osi_rules.specs.Traffic as traffic
 use Rattle.osi_judge.specs.declared.marks.Cause.TheVariants as cause
 use Rattle.osi_blameless.proofs.the_first_break_is_not_of_an_end.{IsNoBreak}
