@@ -417,7 +417,7 @@ impl Judge {
         }
     }
 
-    /// Feeds octets of a side, in the order in which they passed the tap, cut in any way.
+    /// Feeds octets of a side, in the order in which they passed, cut in any way.
     ///
     /// # Errors
     /// [`NotFed`] if memory ran out: the first [`used`](NotFed::used) octets have passed, and you can feed the

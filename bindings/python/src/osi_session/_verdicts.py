@@ -79,7 +79,7 @@ class JudgeCalls:
             return int(function(byref(self._slot), *arguments))
 
     def feed(self, side: JudgedSide, piece: bytes) -> Iterator[Verdict]:
-        """Feeds octets of a side, in the order in which they passed the tap, cut in any way, and returns an iterator
+        """Feeds octets of a side, in the order in which they passed, cut in any way, and returns an iterator
         over the verdicts that are certain by then. They are fed even if you don't iterate. SLOT_EMPTY, NO_MEMORY (the
         octets before have passed)."""
         octets, used = octets_of(piece), c_size_t()
