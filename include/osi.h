@@ -734,8 +734,8 @@ uint32_t osi_judge_new(osi_judge *judge) OSI_LOOK;
 /* Frees the judge that the slot holds, if any, with the text that it has lent. */
 void osi_judge_free(osi_judge *judge);
 
-/* Feeds octets of a side, in the order in which they passed, cut in any way. *used is how many of them
- * passed: all of them if the answer is OSI_OK. OSI_OK, or the first that applies of OSI_BAD_ARGUMENT (no
+/* Feeds octets of a side, in the order in which they passed, cut in any way. *used is how many passed:
+ * all of them if the answer is OSI_OK. OSI_OK, or the first that applies of OSI_BAD_ARGUMENT (no
  * side), OSI_SLOT_EMPTY and OSI_NO_MEMORY. After OSI_NO_MEMORY the first *used octets have passed: feed the
  * others again when there is memory. After the other two none has.
  *

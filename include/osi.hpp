@@ -1225,7 +1225,7 @@ public:
     /* Frees what it holds. */
     void reset() noexcept { slot_.reset(); }
 
-    /* Feeds octets of a side, in the order in which they passed, and answers how many of them passed: all of them
+    /* Feeds octets of a side, in the order in which they passed, and answers how many passed: all of them
      * if the code is ok. ok, slot_empty, no_memory (the first ones have passed: feed the others again). */
     result<std::size_t> feed(judged_side side, octets piece) noexcept
     {
