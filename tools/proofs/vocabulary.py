@@ -1,22 +1,19 @@
-#!/usr/bin/env python3
 """Lets the proofs of a crate take the words of the library, of crates below and of specs/ from proofs/Vocabulary.antt.
 
-  scripts/vocabulary CRATE            says how many lines of imports are fewer
-  scripts/vocabulary CRATE --write    writes Vocabulary.antt, and one list of its words in each file in place of many imports
+  python3 tools/proofs vocabulary CRATE            says how many lines of imports are fewer
+  python3 tools/proofs vocabulary CRATE --write    writes Vocabulary.antt, and one list of its words in each file in place of many imports
 
 A word that has two meanings in the crate is passed on with the one that more files want. A file keeps its import of a word that has
 another meaning there or that it unfolds, and keeps all its imports if it would not be shorter. Imports from the crate's own proofs
 stay, and so do those of whole proofs by hand (Proof.antt), which speak of machine code. The crate has to be proved again after
 --write.
 """
-import argparse
 import collections
 import glob
 import os
 import re
 import sys
 
-sys.dont_write_bytecode = True
 import antt
 from antt import TOP
 
@@ -123,17 +120,11 @@ def rewritten(crate):
     return out, fewer
 
 
-def main():
-    words = argparse.ArgumentParser(description=__doc__, formatter_class=argparse.RawDescriptionHelpFormatter)
-    words.add_argument("--write", action="store_true")
-    words.add_argument("crate")
-    asked = words.parse_args()
-    texts, fewer = rewritten(asked.crate)
-    print(f"{asked.crate}: {fewer} lines fewer")
-    if asked.write and fewer > 0:
+def main(words):
+    if not words or words[1:] not in ([], ["--write"]):
+        sys.exit(__doc__.strip())
+    texts, fewer = rewritten(words[0])
+    print(f"{words[0]}: {fewer} lines fewer")
+    if words[1:] and fewer > 0:
         for path, lines in texts.items():
             antt.write_lines(path, lines)
-
-
-if __name__ == "__main__":
-    main()

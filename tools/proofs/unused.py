@@ -1,20 +1,17 @@
-#!/usr/bin/env python3
 """Finds what nothing uses any more in the files of proofs/: lemmas, abbreviations and records.
 
-  scripts/unused            names each, with its file and line, and fails if there is one
-  scripts/unused --write    drops them, with the comments above them, then what only they used, and the imports that nothing needs
+  python3 tools/proofs unused            names each, with its file and line, and fails if there is one
+  python3 tools/proofs unused --write    drops them, with the comments above them, then what only they used, and the imports that nothing needs
 
 A word is used if it stands elsewhere in its own file, if another file imports it from there, or if the code names it by its path
 (`using(..)`). Files that import a whole module count as users of all that it has. The crates have to be proved again after --write.
 """
-import argparse
 import collections
 import glob
 import os
 import re
 import sys
 
-sys.dont_write_bytecode = True
 import antt
 
 DEFINITION = re.compile(r"( *)(?:pub )?(?:unfoldable )?(abbrev|record) (?:pub )?([^\s:(){}\[\],.]+)(?= : | :$| [({])")
@@ -96,10 +93,10 @@ def drop(path, items):
     antt.drop_imports(path)
 
 
-def main():
-    asked = argparse.ArgumentParser(description=__doc__, formatter_class=argparse.RawDescriptionHelpFormatter)
-    asked.add_argument("--write", action="store_true")
-    writes, dropped = asked.parse_args().write, 0
+def main(words):
+    if words not in ([], ["--write"]):
+        sys.exit(__doc__.strip())
+    writes, dropped = bool(words), 0
     files = sorted(it for it in glob.glob(f"{antt.TOP}/crates/*/**/*.antt", recursive=True) if "/out/" not in it)
     found = unused(files)
     while found and writes:
@@ -112,7 +109,3 @@ def main():
             print(f"{os.path.relpath(path, antt.TOP)}:{item.first + 1}: {item.name}")
     print(f"{dropped} dropped" if writes else f"{sum(map(len, found.values()))} that nothing uses")
     return 1 if found else 0
-
-
-if __name__ == "__main__":
-    sys.exit(main())

@@ -1,27 +1,26 @@
-#!/usr/bin/env python3
 """Names the goals that the prover closes late, in the functions whose goals take longest, and calls that close them at once.
 
-  scripts/dear_goals CRATE [SECONDS]
+  python3 tools/proofs goals CRATE [SECONDS]
 
 The prover tries a goal without an answer in several ways, one after the other, and each that fails costs time. This script
 looks at each function whose goals take SECONDS or more (1 by default), and names those goals that the first way, a search
 with the prover's own rules, doesn't close. Such a goal is worth an answer. After the goal stand the calls that closed it in a
-trial with few steps, or `none`; then a term or a lemma is wanted. scripts/dearest names functions that are dear for other
-reasons.
+trial with few steps, or `none`; then a term or a lemma is wanted. `functions` names those that are dear for other reasons.
 
 It checks a copy of the crate in build/tried from nothing, so it takes longer than a proof of the crate. The libraries below the
 crate have to be built (make).
 """
 import collections
+import importlib.machinery
+import importlib.util
 import os
 import re
 import shutil
 import subprocess
 import sys
 
-sys.dont_write_bytecode = True
-import antt
-from antt import TOP, read_lines
+from antt import TOP, read_lines, write_lines
+from functions import parts_that_ended
 
 STEPS = 60000
 RULESETS = "use Rattle.std.proofs.lemmas.Grind.{common_steps as common_steps__, elements as elements__, moves as moves__}"
@@ -29,6 +28,50 @@ COMMON = "use Rattle.std.proofs.Common.{arith as arith__, rules as rules__}"
 FIRST = "search rules"
 CALLS = ["grind arith", "grind (arith, common_steps)", "grind (arith, elements)", "grind (arith, moves)"]
 WORDS = re.compile(r"(?<=[ (])(rules|arith|common_steps|elements|moves)(?=[ ,)]|$)")
+
+
+def toolchain():
+    """The toolchain's own functions on crates."""
+    loader = importlib.machinery.SourceFileLoader("rt_main", os.path.realpath(shutil.which("rt")))
+    made = importlib.util.module_from_spec(importlib.util.spec_from_loader("rt_main", loader))
+    loader.exec_module(made)
+    return made.rtlib
+
+
+def crate_over_statements(rt, name):
+    """A crate, with the libraries of build/libraries below it."""
+    crate = next(it for it in rt.crates_below(TOP) if it.name == name)
+    for it in crate.below():
+        it.rlib = f"{TOP}/build/libraries/{it.name}/{it.name}.rlib"
+        if not os.path.isdir(it.rlib):
+            sys.exit(f"tools/proofs: {it.name} has no library yet: make builds it")
+    return crate
+
+
+def faults_of(crate, answers):
+    """Checks a copy of a crate with these answers in place of its own, and returns the lines of each file that have a fault."""
+    source, copy = f"{TOP}/crates/{crate}", f"{TOP}/build/tried/{crate}"
+    for part in ("src", "specs", "proofs"):
+        shutil.rmtree(f"{copy}/{part}", ignore_errors=True)
+        if os.path.isdir(f"{source}/{part}"):
+            shutil.copytree(f"{source}/{part}", f"{copy}/{part}")
+    for path, lines in answers.items():
+        os.makedirs(os.path.dirname(f"{copy}/{path}"), exist_ok=True)
+        write_lines(f"{copy}/{path}", lines)
+    rt = toolchain()
+    words = crate_over_statements(rt, crate).words(["--jobs", "1"])
+    command = [rt.RATTLE, "check", *words, "--allow-holes", "--incremental", "kept"]
+    os.makedirs(f"{copy}/kept", exist_ok=True)
+    how = {"cwd": copy, "stdout": subprocess.PIPE, "stderr": subprocess.STDOUT, "text": True, "errors": "replace"}
+    said = subprocess.run(command, check=False, **how).stdout
+    if "\nholes=" not in said:
+        sys.exit(f"tools/proofs: the copy of {crate} was not checked:\n{said[-2000:]}")
+    found = collections.defaultdict(set)
+    for path, line in re.findall(r"^\./(\S+/Answers\.antt):(\d+):\d+: error: ", said, re.M):
+        found[path].add(int(line))
+    if not answers.keys() >= found.keys():
+        sys.exit(f"tools/proofs: {crate} is not proved as it stands: {', '.join(found.keys() - answers.keys())}")
+    return found
 
 
 class Goal:
@@ -111,16 +154,16 @@ def attribute_of(crate, name):
 def seconds_of(crate):
     """The seconds that the goals of each function took when the copy of the crate was checked."""
     spent = collections.Counter()
-    for seconds, function, part in antt.parts_that_ended(f"{TOP}/build/tried/{crate}/kept"):
+    for seconds, function, part in parts_that_ended(f"{TOP}/build/tried/{crate}/kept"):
         spent[function] += seconds if part == "goals" else 0
     return spent
 
 
 def offered_for(crate, names):
     """The text that the prover offers for the answers of each function, with all its goals."""
-    rt, copy = antt.toolchain(), f"{TOP}/build/tried/{crate}"
+    rt, copy = toolchain(), f"{TOP}/build/tried/{crate}"
     shutil.rmtree(f"{copy}/offered", ignore_errors=True)
-    words = antt.crate_over_statements(rt, crate).words(["--jobs", "1"])
+    words = crate_over_statements(rt, crate).words(["--jobs", "1"])
     command = [rt.RATTLE, "check", *words, "--incremental", "kept", "--generated", "offered"]
     for name in names:
         command += ["--start", name]
@@ -134,21 +177,17 @@ def main(words):
         sys.exit(__doc__.strip())
     crate, least = words[0], float(words[1]) if len(words) > 1 else 1
     shutil.rmtree(f"{TOP}/build/tried/{crate}/kept", ignore_errors=True)
-    antt.faults_of(crate, {})
+    faults_of(crate, {})
     spent = seconds_of(crate)
     # What a derive writes has no answers.
     dear = [it for it in sorted(spent, key=spent.get, reverse=True) if spent[it] >= least and source_of(crate, it)[1]]
     functions = [Function(crate, *it) for it in offered_for(crate, dear).items()]
     texts = {it.path: it.with_trials() for it in functions if it.goals}
-    faults = antt.faults_of(crate, texts)
+    faults = faults_of(crate, texts)
     for function in functions:
-        lines = {it.line for it in faults[function.path]}
+        lines = faults[function.path]
         print(f"{spent[function.name]:7.1f} s  {function.name}")
         for goal in function.goals:
             closed = [call for call, place in goal.places.items() if not lines.intersection(place)]
             if FIRST not in closed:
                 print(f"           {goal.name}: {', '.join(f'`{it}`' for it in closed) or 'none'}")
-
-
-if __name__ == "__main__":
-    main(sys.argv[1:])

@@ -1,8 +1,7 @@
-#!/usr/bin/env python3
 """Lists the functions of a library in which a value with many parts goes out of scope, which makes their proofs dear.
 
-  scripts/inline_drops CRATE..     of these libraries, as `make` and `make lib` build them
-  scripts/inline_drops             of all that are built
+  python3 tools/proofs drops CRATE..     of these libraries, as `make` and `make lib` build them
+  python3 tools/proofs drops             of all that are built
 
 Such a value is taken apart in line, with a step of the proof for each of its parts, on each way out of the function. A call of
 `drop` before the way out is one step (docs/PROVING.md). A line has how many such steps a function has, if there are five or more.
@@ -12,7 +11,9 @@ import os
 import re
 import sys
 
-LIBRARIES = os.path.join(os.path.dirname(os.path.dirname(os.path.realpath(__file__))), "build", "libraries")
+from antt import TOP
+
+LIBRARIES = f"{TOP}/build/libraries"
 # A call of the destructor of a part. The destructor of a type by itself, which `drop` calls, has a name of its own.
 PART, OF_A_TYPE = re.compile(r'"Fn": \["[^"]*::drop"'), re.compile(r"\+Destruct::drop$|::drop$")
 LEAST = 5
@@ -30,12 +31,8 @@ def main(words):
     for crate in words or built:
         if not os.path.exists(f"{LIBRARIES}/{crate}/{crate}.rlib"):
             if words:
-                sys.exit(f"scripts/inline_drops: no library {crate} is built: `make` or `make lib` builds those that it needs")
+                sys.exit(f"tools/proofs: no library {crate} is built: `make` or `make lib` builds those that it needs")
             continue
         for count, name in sorted(functions_of(crate), reverse=True):
             if count >= LEAST and not OF_A_TYPE.search(name):
                 print(f"{count:4} {name}")
-
-
-if __name__ == "__main__":
-    main(sys.argv[1:])
