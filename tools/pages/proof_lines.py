@@ -1,10 +1,4 @@
-#!/usr/bin/env python3
 """Counts the proofs that are written by hand: the lines of each crate's proofs/, and what makes them hard to read.
-
-  scripts/proof_lines            prints the table
-  scripts/proof_lines --files    names each file with a long line, without a head or with a bare name
-  scripts/proof_lines --write    writes the table into CONTRIBUTING.md
-  scripts/proof_lines --check    fails if a number there is more than ten percent off
 
 A long line has more than 140 characters. A file of lemmas has no head if it does not begin with a comment, and a bare name if that is
 a word or two (Pieces, PartLaws) instead of words that say what is proved. Files that answer for one function, the map and the
@@ -15,9 +9,9 @@ import os
 import re
 import sys
 
-TOP = os.path.dirname(os.path.dirname(os.path.abspath(__file__)))
+TOP = os.path.dirname(os.path.dirname(os.path.dirname(os.path.abspath(__file__))))
 PAGE = f"{TOP}/CONTRIBUTING.md"
-PLACE = re.compile(r"(?<=<!-- scripts/proof_lines -->\n\n).*?(?=\n?<!-- end -->)", re.S)
+PLACE = re.compile(r"(?<=<!-- proofs -->\n\n).*?(?=\n?<!-- end -->)", re.S)
 TITLES = ("Lines", "Long lines", "Files of lemmas", "Without a head", "Bare names")
 LONGEST = 140
 # These files have a name that the toolchain or the layout of a crate gives them.
@@ -76,7 +70,7 @@ def on_page():
     text = read(PAGE)
     place = PLACE.search(text)
     if not place:
-        sys.exit("CONTRIBUTING.md has no place for the table of scripts/proof_lines")
+        sys.exit("CONTRIBUTING.md has no place for the table of proofs")
     return text, place
 
 
@@ -91,13 +85,13 @@ def is_near(now, there, is_lines):
     return abs(now - there) <= max(now // 10, 300 if is_lines else 10)
 
 
-def check():
+def wrong():
+    """The crates of which a number on the page is more than ten percent off."""
     now, there = rows(), {name: tuple(int(cell.replace(",", "")) for cell in cells.split(" | "))
                           for name, cells in re.findall(r"^\| `?(\w+)`? \| ([\d, |]+) \|$", on_page()[1][0], re.M)}
-    wrong = [name for name in now.keys() | there.keys() if len(now.get(name, ())) != len(there.get(name, ()))
+    found = [name for name in now.keys() | there.keys() if len(now.get(name, ())) != len(there.get(name, ()))
              or not all(is_near(*pair, place == 0) for place, pair in enumerate(zip(now[name], there[name])))]
-    if wrong:
-        sys.exit(f"CONTRIBUTING.md has other numbers for {', '.join(sorted(wrong))}: run scripts/proof_lines --write")
+    return f"CONTRIBUTING.md has other numbers for {', '.join(sorted(found))}" if found else ""
 
 
 def name_files():
@@ -106,14 +100,3 @@ def name_files():
             said = ([f"{file.long} long lines"] if file.long else []) + ["no head"] * file.has_no_head + ["a bare name"] * file.has_bare_name
             if said:
                 print(f"{os.path.relpath(file.path, TOP)}: {', '.join(said)}")
-
-
-def main(words):
-    jobs = {(): lambda: print(drawn(), end=""), ("--files",): name_files, ("--write",): write, ("--check",): check}
-    if tuple(words) not in jobs:
-        sys.exit(__doc__)
-    jobs[tuple(words)]()
-
-
-if __name__ == "__main__":
-    main(sys.argv[1:])

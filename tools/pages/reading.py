@@ -1,11 +1,4 @@
-#!/usr/bin/env python3
 """Lists the definitions that you have to believe for the promises on two ends, and their lengths.
-
-  scripts/reading            prints the tables of docs/READING-SPECS.md, with a line for each file
-  scripts/reading --write    puts them into the page
-  scripts/reading --check    fails if the page has others
-  scripts/reading NAME       prints why NAME is among them, as a path from a promise. NAME is a definition, such as
-                             HaveOneHolder, or a clause of a public call of Pair, such as one_holder
 
 It begins with the definitions that the public clauses of osi_pair cite, and follows the imports at the head of each file of
 specs/ to the definitions that these use, over all crates. A definition counts together with the comment above it. If a
@@ -16,9 +9,9 @@ import os
 import re
 import sys
 
-TOP = os.path.dirname(os.path.dirname(os.path.abspath(__file__)))
+TOP = os.path.dirname(os.path.dirname(os.path.dirname(os.path.abspath(__file__))))
 PAGE = "docs/READING-SPECS.md"
-BEGIN, END = "<!-- scripts/reading -->", "<!-- end -->"
+BEGIN, END = "<!-- definitions -->", "<!-- end -->"
 # What the clauses of Pair cite, part after part: each is read after those before it.
 PARTS = [
     ("What users may rely on, by their journal", [
@@ -220,30 +213,38 @@ def why(files, name):
     return 1
 
 
-def main(words):
+def read_with_roots():
+    """All files of specs/, in which each definition that the clauses cite has to be."""
     files = read_all()
     for root in (root for _, roots in PARTS for root in roots):
         if root[2] not in files[root[0], root[1]].definitions:
-            sys.exit(f"scripts/reading: {root[0]} has no {root[2]} in specs/{root[1]}.antt")
-    if words and not words[0].startswith("-"):
-        return why(files, words[0])
-    text = tables(files, not words)
-    if not words:
-        print(text)
-        return 0
+            sys.exit(f"{PAGE}: {root[0]} has no {root[2]} in specs/{root[1]}.antt")
+    return files
+
+
+def page_as_it_was_and_is():
     with open(f"{TOP}/{PAGE}", encoding="utf-8") as file:
         page = file.read()
-    before, middle, after = page.partition(BEGIN)[0], page, page.partition(END)[2]
-    new = before + text + after
-    if words[0] == "--write":
-        with open(f"{TOP}/{PAGE}", "w", encoding="utf-8") as file:
-            file.write(new)
-        return 0
-    if new != middle:
-        print(f"{PAGE}: the tables are others now: scripts/reading --write")
-        return 1
-    print(f"{PAGE}: the tables are as the definitions are")
-    return 0
+    return page, page.partition(BEGIN)[0] + tables(read_with_roots(), False) + page.partition(END)[2]
 
 
-sys.exit(main(sys.argv[1:]))
+def wrong():
+    """What differs on the page."""
+    was, now = page_as_it_was_and_is()
+    return "" if was == now else f"{PAGE}: the tables are others now"
+
+
+def write():
+    page = page_as_it_was_and_is()[1]
+    with open(f"{TOP}/{PAGE}", "w", encoding="utf-8") as file:
+        file.write(page)
+
+
+def explain(name):
+    """Prints why a name is among the definitions, as a path from a promise."""
+    return why(read_with_roots(), name)
+
+
+def print_files():
+    """Prints the tables with a row for each file."""
+    print(tables(read_with_roots(), True))

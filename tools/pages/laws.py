@@ -1,25 +1,19 @@
-#!/usr/bin/env python3
 """Makes docs/LAWS.md: each law of the workspace, with its sentence.
 
-  scripts/laws            prints the page
-  scripts/laws --write    writes it
-  scripts/laws --check    fails if the page differs
-
-A law is a public function of a crate's src/laws.rt, or of its src/watches.rt, that does nothing, or only calls other laws. Its
+A law is a public function of a crate's src/laws.rt, or of its src/bounded.rt, that does nothing, or only calls other laws. Its
 clauses are the law, and the comment above it states it in words. The page has these comments, crate by crate in the order of
 crates.txt.
 """
 import os
 import re
-import sys
 
-TOP = os.path.dirname(os.path.dirname(os.path.abspath(__file__)))
+TOP = os.path.dirname(os.path.dirname(os.path.dirname(os.path.abspath(__file__))))
 PAGE = f"{TOP}/docs/LAWS.md"
-MODULES = ("laws", "watches")
+MODULES = ("laws", "bounded")
 LAW = re.compile(r"((?:^///.*\n)+)(?:^#\[.*\]\n)*^pub fn (\w+)\([^)]*\)\n((?:^    .*\n)*)\{", re.M)
 HEAD = """# Laws
 
-A contract speaks of one call. A law speaks of what follows from contracts: over lists of calls, over pieces, between two values. It is a public function that does nothing but cite other laws; its clauses are the law, and `rt check` proves them. This page is drawn by `scripts/laws` from the comments above them.
+A contract speaks of one call. A law speaks of what follows from contracts: over lists of calls, over pieces, between two values. It is a public function that does nothing but cite other laws; its clauses are the law, and `rt check` proves them. This page is drawn by `scripts/pages --write` from the comments above them.
 """
 
 
@@ -71,18 +65,11 @@ def folded(text, most=140):
     yield line
 
 
-def main(words):
-    if words == ["--write"]:
-        with open(PAGE, "w", encoding="utf-8") as file:
-            file.write(drawn())
-    elif words == ["--check"]:
-        if not os.path.exists(PAGE) or read(PAGE) != drawn():
-            sys.exit("docs/LAWS.md is not what scripts/laws draws: run scripts/laws --write")
-    elif words:
-        sys.exit(__doc__)
-    else:
-        print(drawn(), end="")
+def wrong():
+    """What differs on the page."""
+    return "" if os.path.exists(PAGE) and read(PAGE) == drawn() else "docs/LAWS.md has not the laws as they are"
 
 
-if __name__ == "__main__":
-    main(sys.argv[1:])
+def write():
+    with open(PAGE, "w", encoding="utf-8") as file:
+        file.write(drawn())

@@ -1,18 +1,13 @@
-#!/usr/bin/env python3
 """Draws docs/floors.svg: the crates of the workspace as floors of a house, octets below and users above.
 
-  scripts/draw_floors            prints the picture
-  scripts/draw_floors --write    writes it
-  scripts/draw_floors --check    fails if the file differs
-
-Each crate of crates.txt has to be in the picture; the script names those that are missing.
+Each crate of crates.txt has to be in the picture.
 """
 import os
 import re
 import sys
 from xml.sax.saxutils import escape
 
-TOP = os.path.dirname(os.path.dirname(os.path.abspath(__file__)))
+TOP = os.path.dirname(os.path.dirname(os.path.dirname(os.path.abspath(__file__))))
 FILE = f"{TOP}/docs/floors.svg"
 WIDTH, HEIGHT, ROW, BOX = 960, 818, 74, 50
 
@@ -29,12 +24,12 @@ GROUND = ("osi_unit", "what every grammar of units offers", 40, 440)
 # The crates next to the floors, by group: a heading, and crates.
 GROUPS = [
     ("Two ends", [("osi_pair", "two ends: the theorem"), ("osi_machine", "whole messages, two sides"),
-                  ("osi_between", "two carriers"), ("osi_judge", "who broke the protocol"), ("osi_rules", "rules of transport"), ("osi_honest", "the connections of an end"),
-                  ("osi_accord", "two sides that kept it"), ("osi_tap", "a tap on all connections"),
-                  ("osi_fair", "an end keeps the rules"), ("osi_watched", "an end and a tap"),
+                  ("osi_between", "two carriers"), ("osi_side", "one side of a session, judged"), ("osi_rules", "rules of transport"), ("osi_honest", "the connections of an end"),
+                  ("osi_accord", "two sides that kept it"), ("osi_judge", "who broke the protocol first"),
+                  ("osi_fair", "an end keeps the rules"), ("osi_blameless", "an end and a judge"),
                   ("osi_printed", "what is printed of an end")]),
     ("Given away", [("osi_c", "an end for C"), ("osi_tool", "the program osi"), ("osi_listing", "listings of captures"),
-                    ("osi_script", "scripts, line by line"), ("osi_transcript", "plays a script on two ends"), ("osi_dispute", "judges a capture as text"),
+                    ("osi_script", "scripts, line by line"), ("osi_transcript", "plays a script on two ends"), ("osi_report", "judges a capture as text"),
                     ("osi_names", "lines, and words for errors"), ("osi_explain", "a run for what was sent"),
                     ("osi_witness", "a script of a capture"), ("osi_commands", "reads an input, writes a text"),
                     ("osi_words", "words of the command line")]),
@@ -94,26 +89,19 @@ def drawn():
     with open(f"{TOP}/crates.txt", encoding="utf-8") as file:
         listed = set(re.findall(r"^(osi_\w+)", file.read(), re.M))
     if listed != known:
-        sys.exit(f"scripts/draw_floors: these crates are only in crates.txt, or only in the picture: {', '.join(listed ^ known)}")
+        sys.exit(f"docs/floors.svg: these crates are only in crates.txt, or only in the picture: {', '.join(listed ^ known)}")
     return "\n".join([f'<svg xmlns="http://www.w3.org/2000/svg" width="{WIDTH}" height="{HEIGHT}" viewBox="0 0 {WIDTH} {HEIGHT}">',
                       "<title>The crates as floors</title>", f"<style>{STYLE}</style>",
                       f'<rect width="{WIDTH}" height="{HEIGHT}" fill="#fff"/>', *floors(), *beside(), "</svg>", ""])
 
 
-def main(words):
-    if words == ["--write"]:
-        picture = drawn()
-        with open(FILE, "w", encoding="utf-8") as file:
-            file.write(picture)
-    elif words == ["--check"]:
-        with open(FILE, encoding="utf-8") as file:
-            if file.read() != drawn():
-                sys.exit("docs/floors.svg is not what scripts/draw_floors draws: run it with --write")
-    elif words:
-        sys.exit(__doc__)
-    else:
-        print(drawn(), end="")
+def wrong():
+    """What differs in the picture."""
+    with open(FILE, encoding="utf-8") as file:
+        return "" if file.read() == drawn() else "docs/floors.svg has not the crates as they are"
 
 
-if __name__ == "__main__":
-    main(sys.argv[1:])
+def write():
+    picture = drawn()
+    with open(FILE, "w", encoding="utf-8") as file:
+        file.write(picture)

@@ -1,18 +1,12 @@
-#!/usr/bin/env python3
 """The conditions that public functions put on a caller: each `requires` that a user of a library can break.
 
-  scripts/conditions            prints the functions that have one, by crate
-  scripts/conditions --check    the same, and fails if README's table of conditions names others
-
-A function is public if it is in a module that is `pub`, or if a `pub use` of src/lib.rt names it, its type or its trait. The
-script only reads the sources, and proves nothing.
+A function is public if it is in a module that is `pub`, or if a `pub use` of src/lib.rt names it, its type or its trait.
 """
 import glob
 import os
 import re
-import sys
 
-TOP = os.path.dirname(os.path.dirname(os.path.abspath(__file__)))
+TOP = os.path.dirname(os.path.dirname(os.path.dirname(os.path.abspath(__file__))))
 # An impl or a trait, or a function up to its body, or the end of an item at the left margin.
 ITEMS = re.compile(r"^(?P<of>(?:impl\b|(?:pub )?trait\b)[^{;]*)"
                    r"|^ *(?P<is_pub>pub (?:const )?(?:extern \"C\" )?)?fn (?P<name>\w+)(?P<head>.*?)(?=\n *\{|;\n|\{\}?\n)"
@@ -72,20 +66,9 @@ def tabled():
     return table
 
 
-def main(words):
+def wrong():
+    """The functions that only the sources or only README's table has."""
     libraries = sorted(os.path.basename(os.path.dirname(os.path.dirname(lib))) for lib in glob.glob(f"{TOP}/crates/*/src/lib.rt"))
-    found = {crate: set(conditions(crate)) for crate in libraries}
-    found = {crate: names for crate, names in found.items() if names}
-    for crate, names in found.items():
-        print(f"{crate}: {', '.join(sorted(names))}")
-    if "--check" not in words:
-        return 0
-    table, bad = tabled(), 0
-    for crate in sorted({*found, *table}):
-        for name in sorted(found.get(crate, set()) ^ table.get(crate, set())):
-            bad += 1
-            print(f"FAILED: {crate} {name}: {'not in the table of README' if name in found.get(crate, set()) else 'has no condition'}")
-    return 1 if bad else 0
-
-
-sys.exit(main(sys.argv[1:]))
+    found, table = {crate: set(conditions(crate)) for crate in libraries}, tabled()
+    return "\n".join(f"{crate} {name}: {'not in the table of README' if name in found.get(crate, set()) else 'has no condition'}"
+                     for crate in sorted({*found, *table}) for name in sorted(found.get(crate, set()) ^ table.get(crate, set())))
