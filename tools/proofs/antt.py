@@ -1,5 +1,4 @@
 """The lemmas and imports in the files of proofs/."""
-import glob
 import itertools
 import os
 import re

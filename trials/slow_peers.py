@@ -1,25 +1,23 @@
-#!/usr/bin/env python3
 """Runs the server and the client of examples/mms against peers that are slow or silent, or that send too much.
 
-    scripts/slow_peers
+    scripts/trials slow_peers
 
 The peers write one octet a second, or read one; never read; send nothing but requests for a connection, or open 64 byte
 connections and no session; never answer an abort, or never close after a release; send endless data, or octets changed at
 random (trials/mms_octets.c, with the sanitizers of the compiler if it has them). The server has to close each within its time
 limits, keep its bound of memory, and go on serving others: a client reads all its objects again and again, each time at once.
-It needs what `make lib` built, ends by itself, and takes less than a minute. The last line is `N passed, M failed, K skipped`.
+It takes less than a minute.
 """
 import os
 import socket
-import sys
 import threading
 import time
 
+import peers
+from counts import Counts
+from peers import Programs, Relay, client, direction
+
 TOP = os.path.dirname(os.path.dirname(os.path.abspath(__file__)))
-sys.dont_write_bytecode = True
-sys.path.insert(0, os.path.join(TOP, "trials"))
-import peers  # noqa: E402
-from peers import Counts, Programs, Relay, client, direction  # noqa: E402
 
 # The times that the server is given, in seconds (its defaults are 10 and 300), and how much later than that it may act: the
 # machine may have much other work.
@@ -295,7 +293,7 @@ def changed_octets(room):
     counts.check(f"octets changed at random, seed {seed}: {peers.words_of(done.stderr)}", done.returncode == 0)
 
 
-def main():
+def main(_):
     peers.build()
     with Programs() as programs, peers.room() as room:
         changed_octets(room)
@@ -316,7 +314,4 @@ def main():
         with open(f"{room}/log") as log:
             text = log.read()
         counts.check("each client that came was closed", text.count(" came from ") == text.count(" closed"), text[-500:])
-    return counts.end()
-
-
-sys.exit(main())
+    return counts

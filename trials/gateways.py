@@ -1,5 +1,6 @@
-#!/usr/bin/env python3
 """Runs the programs of examples/gateway over loopback TCP, and tests what they do.
+
+    scripts/trials gateways
 
 It runs client and server of each language in classes 0 and 2, and with sizes of TSDUs. The logs of all clients and servers have
 to be the expected ones: each side receives what the other sent. The clients and servers of osi.hpp and of the packages of
@@ -7,9 +8,7 @@ bindings/ are among them, and the tests of these packages run first. ./osi show 
 is installed. The server is killed in the middle of a packet, and has to serve many peers at once, also peers that never open a
 session. Many messages are sent as fast as possible, also if the peer gives little credit, reads nothing, or asks for answers
 that it gives no credit for; memory has to stay bounded. Beside peers that send without a pause, drip octets or fill all places,
-others are served (tools/gateways/fair.py). An end talks over TLS. valgrind watches some runs if it is installed.
-
-It needs what `make lib` built, and ends by itself. The last line is `N passed, M failed`.
+others are served (trials/gateway_peers/fair.py). An end talks over TLS. valgrind watches some runs if it is installed.
 """
 import glob
 import importlib.machinery
@@ -26,10 +25,10 @@ import threading
 import time
 from concurrent.futures import ThreadPoolExecutor
 
+from counts import Counts
+from gateway_peers import costs, fair, peers, tls
+
 TOP = os.path.dirname(os.path.dirname(os.path.abspath(__file__)))
-sys.path.insert(0, os.path.join(TOP, "tools"))
-sys.dont_write_bytecode = True
-from gateways import costs, fair, peers, tls  # noqa: E402
 
 # What a page says to those who have the sources.
 loader = importlib.machinery.SourceFileLoader("render", os.path.join(TOP, "packaging", "render"))
@@ -54,14 +53,8 @@ MOST_GROWTH = 16_384
 # How long a side waits for the other, and how long a program may take, in seconds: if the machine has much other
 # work, a program takes long to start. A run that passes waits for neither.
 PATIENCE, LONGEST = 60, 300
-passed = failed = 0
-
-
-def check(what, holds, why=""):
-    global passed, failed
-    passed, failed = passed + bool(holds), failed + (not holds)
-    print(f"{'ok' if holds else 'FAILED'}: {what}{'' if holds or not why else ': ' + why}", flush=True)
-    return holds
+counts = Counts()
+check = counts.check
 
 
 def build():
@@ -653,7 +646,7 @@ def watched(room, clients):
     return True
 
 
-def main():
+def main(_):
     began = time.time()
     os.environ.update(OSI_SESSION_DIR=BUILD, PYTHONPATH=f"{BINDINGS}/python/src")
     sys.path.insert(0, f"{BINDINGS}/python/src")
@@ -687,10 +680,7 @@ def main():
             missing.append("tshark")
         if not watched(room, clients):
             missing.append("valgrind")
-    print(f"not there: {', '.join(missing) or 'nothing'}; {time.time() - began:.0f} s")
-    print(f"{passed} passed, {failed} failed")
-    return 1 if failed else 0
-
-
-if __name__ == "__main__":
-    sys.exit(main())
+    for each in missing:
+        counts.skip(each, "it is not installed")
+    print(f"{time.time() - began:.0f} s")
+    return counts

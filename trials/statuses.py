@@ -1,12 +1,11 @@
-#!/usr/bin/env python3
 """Runs osi with words and inputs that give each status and each fault, and compares what it prints.
 
-  scripts/statuses [PROGRAM]           the program is crates/osi_tool/out/osi_tool, which `make` builds
-  scripts/statuses --write [PROGRAM]   writes its help into packaging/help, from which ./osi answers before anything is built
+  scripts/trials statuses [PROGRAM]           the program is crates/osi_tool/out/osi_tool, which `make` builds
+  scripts/trials statuses --write [PROGRAM]   writes its help into packaging/help, from which ./osi answers before anything is built
 
 A run has words, an input, and what has to come: the status, standard output, and the line on standard error. Memory is
 limited for the runs that have to run out of it. What ./osi answers without a program is compared with what the program
-answers. The last line is 'N passed, M failed'.
+answers.
 """
 import os
 import resource
@@ -16,6 +15,8 @@ import socket
 import subprocess
 import sys
 import tempfile
+
+from counts import Counts
 
 TOP = os.path.dirname(os.path.dirname(os.path.abspath(__file__)))
 LONGEST = 16_777_216
@@ -58,12 +59,8 @@ def little_memory():
 
 class Runs:
     def __init__(self, program):
-        self.program, self.passed, self.failed = program, 0, 0
-
-    def check(self, what, holds, came):
-        self.passed, self.failed = self.passed + bool(holds), self.failed + (not holds)
-        if not holds:
-            print(f"FAILED: {what}: {came}", flush=True)
+        self.program, self.counts = program, Counts(is_quiet=True)
+        self.check = self.counts.check
 
     def run(self, words, given=b"", **more):
         if "stdin" not in more:
@@ -227,15 +224,11 @@ def main(words):
     named = [word for word in words if word != "--write"]
     program = named[0] if named else f"{TOP}/crates/osi_tool/out/osi_tool"
     if not os.path.exists(program):
-        sys.exit(f"scripts/statuses: {program} is not there: `make` builds it")
+        sys.exit(f"trials: {program} is not there: `make` builds it")
     if "--write" in words:
-        return write_help(program)
+        write_help(program)
+        return Counts()
     runs = Runs(program)
     for part in (statuses, captures, longest, octet_by_octet, live, broken_off, answers, faults):
         part(runs)
-    print(f"{runs.passed} passed, {runs.failed} failed")
-    return int(runs.failed != 0)
-
-
-if __name__ == "__main__":
-    sys.exit(main(sys.argv[1:]))
+    return runs.counts

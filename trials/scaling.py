@@ -1,27 +1,25 @@
-#!/usr/bin/env python3
 """Runs several processes of the server of examples/mms for one port: with SO_REUSEPORT, and with HAProxy in front.
 
-    scripts/scaling [READS]
+    scripts/trials scaling [READS]
 
 Eight clients at once read READS times each (by default 20,000) from 1, 2 and 4 processes; it prints the reads a second in all.
 Then one process of four is killed in the middle. Each of its clients sees one loss and goes on after the last answer that it
 has, the other clients see nothing, and all get each of their answers. The same runs behind HAProxy with the configuration of
-examples/mms/haproxy.cfg, without and with the PROXY protocol; if HAProxy is not installed, that is left out. It needs what
-`make lib` built, and ends by itself in about a minute. The last line is `N passed, M failed, K skipped`.
+examples/mms/haproxy.cfg, without and with the PROXY protocol; if HAProxy is not installed, that is left out. It
+takes about a minute.
 """
 import os
 import re
 import shutil
 import signal
 import subprocess
-import sys
 import time
 
+import peers
+from counts import Counts
+from peers import Programs, version
+
 TOP = os.path.dirname(os.path.dirname(os.path.abspath(__file__)))
-sys.dont_write_bytecode = True
-sys.path.insert(0, os.path.join(TOP, "trials"))
-import peers  # noqa: E402
-from peers import Counts, Programs, version  # noqa: E402
 
 CLIENTS = 8
 counts = Counts()
@@ -145,7 +143,4 @@ def main(words):
             counts.check("HAProxy reads examples/mms/haproxy.cfg", done.returncode == 0, done.stderr)
             for proxy in (False, True):
                 behind_haproxy(room, reads, proxy)
-    return counts.end()
-
-
-sys.exit(main(sys.argv[1:]))
+    return counts

@@ -15,8 +15,8 @@ import time
 
 if __name__ == "__main__":
     sys.path.insert(0, os.path.dirname(os.path.dirname(os.path.abspath(__file__))))
-from gateways import peers  # noqa: E402
-from gateways.peers import CC, CN, DT, connect_request, data_in_class_0, data_in_class_2, minor_point  # noqa: E402
+from gateway_peers import peers  # noqa: E402
+from gateway_peers.peers import CC, CN, DT, connect_request, data_in_class_0, data_in_class_2, minor_point  # noqa: E402
 
 # A CN that asks for duplex alone (docs/SESSION_UNITS.md).
 CN_OF_DUPLEX = bytes.fromhex("0d0f" + "0509" + "130100" + "160102" + "1a0100" + "14020002")

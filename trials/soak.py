@@ -1,21 +1,18 @@
-#!/usr/bin/env python3
 """Runs two ends in one process for many messages, and prints a table: nothing is lost, and memory does not grow.
 
-    scripts/soak [MESSAGES [ROW ..]]
+    scripts/trials soak [MESSAGES [ROW ..]]
 
 Each row is one run of trials/soak.c, which exchanges MESSAGES messages (by default 200,000): in memory and over loopback TCP,
 in both classes, with one connection and 64, with and without points, restarts and data in parts. A row fails if a message is
 lost or changed, or if the resident memory at the end and after the first hundredth differ by 1 MiB or more. Rows are counted
-from 1; without numbers all are run. It needs what `make lib` built. The last line is `N passed, M failed, K skipped`.
+from 1; without numbers all are run.
 """
 import os
 import subprocess
-import sys
+
+from counts import Counts
 
 TOP = os.path.dirname(os.path.dirname(os.path.abspath(__file__)))
-sys.dont_write_bytecode = True
-sys.path.insert(0, os.path.join(TOP, "trials"))
-from peers import Counts  # noqa: E402
 
 ROWS = [
     ("in", "0", "1", "data"), ("in", "0", "1", "duplex"), ("in", "0", "1", "points"), ("in", "0", "1", "restarts"),
@@ -50,7 +47,4 @@ def main(words):
     counts.passed, counts.failed = len(wanted) - len(failures), len(failures)
     for failure in failures:
         print(f"FAILED: {failure}")
-    return counts.end()
-
-
-sys.exit(main(sys.argv[1:]))
+    return counts

@@ -1,10 +1,9 @@
-#!/usr/bin/env python3
 """Runs examples/mms against itself and against other makers' programs over loopback, and says how far each came.
 
-    scripts/interop                all peers that are installed, and the captures in examples/captures
-    scripts/interop NAME ..        some of ourselves, words, nmap, freerdp, xrdp, erlang, snap7, stand-ins, captures
-    scripts/interop --keep FOLDER  leaves the captures there, for tshark or Wireshark
-    scripts/interop --write        writes examples/captures again; `scripts/interop captures --write` only what describes them
+    scripts/trials interop                all peers that are installed, and the captures in examples/captures
+    scripts/trials interop NAME ..        some of ourselves, words, nmap, freerdp, xrdp, erlang, snap7, stand-ins, captures
+    scripts/trials interop --keep FOLDER  leaves the captures there, for tshark or Wireshark
+    scripts/trials interop --write        writes examples/captures again; `scripts/trials interop captures --write` only what describes them
 
 For each peer a line says who it is, with its version, who called, how far the session came (packets, transport, session,
 association, data, release), how it ended early, and what tshark says of the capture. A peer that is not installed is named
@@ -12,8 +11,7 @@ with its package, and counted as skipped. Debian 13 has all of them; Debian 12 h
 There the steps with that script are run by a stand-in (trials/stand_ins), and its lines say so: such a line tests this script,
 and says nothing of nmap. docs/INTEROP.md says how to have a Debian 13 in a folder.
 
-The script ends whatever it starts. It needs what `make lib` built and, to compare listings, what `make` built; it takes about
-a minute. The last line is `N passed, M failed, K skipped`.
+It takes about a minute.
 """
 import glob
 import os
@@ -24,12 +22,12 @@ import subprocess
 import sys
 import time
 
+import captures
+import peers
+from counts import Counts
+from peers import Programs, Relay, client, how_far, refusals, run, version
+
 TOP = os.path.dirname(os.path.dirname(os.path.abspath(__file__)))
-sys.dont_write_bytecode = True
-sys.path.insert(0, os.path.join(TOP, "trials"))
-import captures  # noqa: E402
-import peers  # noqa: E402
-from peers import Counts, Programs, Relay, client, how_far, refusals, run, version  # noqa: E402
 
 counts = Counts()
 # Why a peer of S7 comes no further.
@@ -623,7 +621,4 @@ def main(words):
             os.makedirs(keep, exist_ok=True)
             for path in glob.glob(f"{room}/*.pcap"):
                 shutil.copy(path, keep)
-    return counts.end()
-
-
-sys.exit(main(sys.argv[1:]))
+    return counts

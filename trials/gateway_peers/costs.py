@@ -3,7 +3,7 @@ import os
 import subprocess
 import time
 
-from gateways import peers
+from gateway_peers import peers
 
 PROGRAM = os.path.join(os.path.dirname(os.path.abspath(__file__)), "lines.py")
 LINES, ECHOES = 500, 20

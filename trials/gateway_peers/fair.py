@@ -12,8 +12,8 @@ import tempfile
 import time
 from concurrent.futures import ThreadPoolExecutor
 
-from gateways import peers
-from gateways.neighbours import Neighbours, Talker, best_of_echoes
+from gateway_peers import peers
+from gateway_peers.neighbours import Neighbours, Talker, best_of_echoes
 
 # The longest that an echo may take beside peers that send without a pause, in seconds, on an idle processor.
 MOST_ECHO = 0.1
