@@ -112,11 +112,11 @@ soak: lib
 	scripts/trials soak $(MESSAGES)
 
 ladders:
-	scripts/draw_ladders docs/ladders
+	tools/pages/ladders docs/ladders
 
 ladders-check:
 	python3 -m unittest discover -s tools -t tools
-	scripts/draw_ladders --check docs/ladders
+	tools/pages/ladders --check docs/ladders
 
 pages:
 	scripts/pages

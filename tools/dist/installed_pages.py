@@ -6,7 +6,11 @@ import shutil
 import sys
 import tempfile
 
-from checking import check, has_pip, module, octets, run
+from checking import TOP, check, has_pip, module, octets, run
+
+sys.path.insert(0, f"{TOP}/tools/pages")
+import checks  # noqa: E402
+import guides  # noqa: E402
 
 # A command of the repository, which no installed page may name.
 OF_REPOSITORY = re.compile(r"(\./osi|make (?!OUT=)[a-z][\w-]*|scripts/\w+|bench/\w+|trials/\w+|tools/\w+|build/\w+|rt [a-z]+)(?=$|[ /])")
@@ -52,20 +56,19 @@ def check_commands(what, folder, programs, room):
 
 def check_guides(unpacked, room):
     """Follows the guides of the archive in an empty folder, with the library that install.sh installs."""
-    pages, home = module("scripts/pages"), tempfile.mkdtemp(dir=room)
-    pages.TOP = unpacked
+    home, checks.TOP = tempfile.mkdtemp(dir=room), unpacked
     run(["./install.sh"], cwd=unpacked, env={**os.environ, "PREFIX": f"{home}/osi"})
     places = {name: os.environ.get(name, os.path.expanduser(place))
               for name, place in (("CARGO_HOME", "~/.cargo"), ("RUSTUP_HOME", "~/.rustup"))}
     known = {**os.environ, **places, "HOME": home, "OSI": unpacked, "CARGO_TARGET_DIR": f"{home}/target",
              "PATH": f"{home}/osi/bin:{os.path.dirname(sys.executable)}:{os.environ['PATH']}"}
-    for (page, heading), tools in pages.GUIDES.items():
+    for (page, heading), tools in guides.GUIDES.items():
         missing = [tool for tool in tools if not shutil.which(tool)]
         if missing or (page == "docs/PYTHON.md" and not has_pip()):
             print(f"not run: {page}: {heading}, of the archive, since there is no {', '.join(missing or ['pip'])}")
             continue
-        script, wanted = pages.script_of(page, heading, pages.free_port())
-        where = tempfile.mkdtemp(dir=home) if heading == pages.EMPTY else unpacked
+        script, wanted = guides.script_of(page, heading, guides.free_port())
+        where = tempfile.mkdtemp(dir=home) if heading == guides.EMPTY else unpacked
         done = run(["bash", "-c", script], cwd=where, env=known)
         check(f"the archive: {page}: {heading}: it does what the page says", done.returncode == 0 and done.stdout.endswith(wanted),
               done.stdout + done.stderr)
