@@ -15,7 +15,7 @@
 # sources get the next version, with -dev. make check-release: builds the sources of the last release anew, and compares octet for
 # octet (scripts/check_release); in an archive of sources make check-release SUMS=../SHA256SUMS.
 # make gateways: builds the program and the library, and builds and runs the programs of examples/gateway, and the tests and
-# clients of bindings/ (scripts/gateways does so with what was built before).
+# clients of bindings/ (scripts/trials gateways does so with what was built before).
 # make trials: builds the same and runs what is proved against hostile octets, failing allocations and breaks
 # (docs/TRIALS.md); make trials PART=--part runs a part of it. make fuzz SECONDS=60 SEED=1 feeds ends octets at random.
 # make mms: builds the library, and the MMS server and client of examples/mms over it. make interop: builds the program
@@ -83,40 +83,40 @@ check-release:
 	scripts/check_release $(SUMS)
 
 gateways: all lib
-	scripts/gateways
+	scripts/trials gateways
 
 trials: all lib
 	scripts/proving osi_trial lib
 	scripts/proving osi_runs run
-	scripts/trials $(PART)
+	scripts/trials hostile $(PART)
 
 fuzz: lib
-	scripts/trials --fuzz $(SECONDS) $(SEED)
+	scripts/trials hostile --fuzz $(SECONDS) $(SEED)
 
 mms: lib
 	$(MAKE) -C examples/mms
 
 interop: all mms
-	scripts/interop
+	scripts/trials interop
 
 slow-peers: mms
-	scripts/slow_peers
+	scripts/trials slow_peers
 
 scaling: mms
-	scripts/scaling
+	scripts/trials scaling
 
 witnesses: all lib
-	scripts/witnesses
+	scripts/trials witnesses
 
 soak: lib
-	scripts/soak $(MESSAGES)
+	scripts/trials soak $(MESSAGES)
 
 ladders:
-	scripts/draw_ladders docs/ladders
+	tools/pages/ladders docs/ladders
 
 ladders-check:
 	python3 -m unittest discover -s tools -t tools
-	scripts/draw_ladders --check docs/ladders
+	tools/pages/ladders --check docs/ladders
 
 pages:
 	scripts/pages

@@ -16,8 +16,8 @@ import time
 
 TOP = os.path.dirname(os.path.dirname(os.path.abspath(__file__)))
 sys.dont_write_bytecode = True
-sys.path[:0] = [os.path.dirname(os.path.abspath(__file__)), os.path.join(TOP, "tools")]
-from gateways.costs import ECHOES, LINES, echoes  # noqa: E402
+sys.path[:0] = [os.path.dirname(os.path.abspath(__file__)), os.path.join(TOP, "trials")]
+from gateway_peers.costs import ECHOES, LINES, echoes  # noqa: E402
 from processor import processor  # noqa: E402
 
 RUNS, RUNS_BESIDE, CALLS, MESSAGES = 7, 3, 20000, 5000

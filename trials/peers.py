@@ -19,26 +19,6 @@ FOLDER = os.path.join(TOP, "examples", "mms")
 LONGEST = 60
 
 
-class Counts:
-    """Counts what held, what did not, and what was not there."""
-
-    def __init__(self):
-        self.passed, self.failed, self.skipped = 0, 0, 0
-
-    def check(self, what, holds, why=""):
-        self.passed, self.failed = self.passed + bool(holds), self.failed + (not holds)
-        print(f"{'ok' if holds else 'FAILED'}: {what}{'' if holds or not why else ': ' + str(why)}", flush=True)
-        return bool(holds)
-
-    def skip(self, what, why):
-        self.skipped += 1
-        print(f"skipped: {what}: {why}", flush=True)
-
-    def end(self):
-        print(f"{self.passed} passed, {self.failed} failed, {self.skipped} skipped")
-        return 1 if self.failed else 0
-
-
 def build():
     """The programs of examples/mms, over the library for C."""
     if not os.path.exists(f"{TOP}/build/libosi-session.a"):

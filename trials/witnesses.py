@@ -1,11 +1,24 @@
-"""Scripts of `osi judge --script`, played: whether the two ends send what the capture has, in an order that it allows."""
+"""Plays the scripts of `osi judge --script` and compares what the two ends send with the capture.
+
+    scripts/trials witnesses                   the captures of osi_runs and of examples/disputes, and 10,000 random runs in each class
+    scripts/trials witnesses --runs N [SEED]   so many random runs in each class, of this seed; 0 for the captures alone
+
+A random run is of two ends whose users call at random, on one connection in class 0 or on up to four in class 2, seen at the left end,
+at the right end or between. Its script has to make two ends send the same octets, or in class 2 the same TSDUs on each connection,
+each in an order that the capture allows.
+"""
 import glob
 import os
 import random
 import re
+import subprocess
 import sys
 import time
 
+TOP = os.path.dirname(os.path.dirname(os.path.abspath(__file__)))
+sys.path[:0] = [os.path.join(TOP, "tools"), os.path.join(TOP, "bindings", "python", "src")]
+os.environ.setdefault("OSI_SESSION_DIR", os.path.join(TOP, "build"))
+from counts import Counts
 from ladders.judged import read
 from ladders.transcript import BadInput
 from runs import OTHER, SIDES, played, run_at_random
@@ -333,5 +346,20 @@ class Witnesses:
         if runs:
             self.random_runs("in class 0", self.random_run, runs, seed)
             self.random_runs("in class 2", self.several, runs, seed)
-        print(f"{self.checks - self.failed} passed, {self.failed} failed")
-        return 1 if self.failed else 0
+
+
+def osi(job, text):
+    """Runs `osi`: its status and its output."""
+    program = os.environ.get("OSI", os.path.join(TOP, "crates", "osi_tool", "out", "osi_tool"))
+    done = subprocess.run([program, *job], input=text.encode(), capture_output=True)
+    return done.returncode, done.stdout.decode()
+
+
+def main(words):
+    if words and (words[0] != "--runs" or len(words) not in (2, 3) or not all(word.isdigit() for word in words[1:])):
+        sys.exit(__doc__.strip())
+    runs, seed = (int(words[1]) if words else 10_000), (int(words[2]) if len(words) == 3 else 1)
+    played_all, counts = Witnesses(osi, TOP), Counts()
+    played_all.all(runs, seed)
+    counts.passed, counts.failed = played_all.checks - played_all.failed, played_all.failed
+    return counts

@@ -1,1 +1,0 @@
-"""Peers and runs that scripts/gateways uses against the programs of examples/gateway."""

@@ -1,0 +1,75 @@
+"""Makes docs/LAWS.md: each law of the workspace, with its sentence.
+
+A law is a public function of a crate's src/laws.rt, or of its src/bounded.rt, that does nothing, or only calls other laws. Its
+clauses are the law, and the comment above it states it in words. The page has these comments, crate by crate in the order of
+crates.txt.
+"""
+import os
+import re
+
+TOP = os.path.dirname(os.path.dirname(os.path.dirname(os.path.abspath(__file__))))
+PAGE = f"{TOP}/docs/LAWS.md"
+MODULES = ("laws", "bounded")
+LAW = re.compile(r"((?:^///.*\n)+)(?:^#\[.*\]\n)*^pub fn (\w+)\([^)]*\)\n((?:^    .*\n)*)\{", re.M)
+HEAD = """# Laws
+
+A contract speaks of one call. A law speaks of what follows from contracts: over lists of calls, over pieces, between two values. It is a public function that does nothing but cite other laws; its clauses are the law, and `rt check` proves them. This page is drawn by `scripts/pages --write` from the comments above them.
+"""
+
+
+def read(path):
+    with open(path, encoding="utf-8") as file:
+        return file.read()
+
+
+def crates():
+    """The names of the crates, in the order of crates.txt."""
+    return re.findall(r"^(osi_\w+)", read(f"{TOP}/crates.txt"), re.M)
+
+
+def laws_of(crate, module):
+    """The laws of a module of a crate: name, clauses and text."""
+    path = f"{TOP}/crates/{crate}/src/{module}.rt"
+    if not os.path.exists(path):
+        return
+    for comment, name, clauses in LAW.findall(read(path)):
+        text = " ".join(line.removeprefix("///").strip() for line in comment.splitlines())
+        yield name, re.findall(r"^    ensures (\w+) \{", clauses, re.M), text
+
+
+def drawn():
+    """The page."""
+    parts = [HEAD]
+    for crate in crates():
+        heading = f"\n## {crate}\n"
+        for module in MODULES:
+            laws = list(laws_of(crate, module))
+            if laws:
+                parts.append(f"{heading}[src/{module}.rt](../crates/{crate}/src/{module}.rt)\n")
+                heading = "\n"
+            for name, clauses, text in laws:
+                named = f" ({', '.join(f'`{it}`' for it in clauses)})" if len(clauses) > 1 else ""
+                parts += ["\n", f"**`{name}`**{named}\n", *(f"{line}\n" for line in folded(text))]
+    return "".join(parts)
+
+
+def folded(text, most=140):
+    """Lines of at most this many characters."""
+    line = ""
+    for word in text.split():
+        if line and len(line) + 1 + len(word) > most:
+            yield line
+            line = word
+        else:
+            line = f"{line} {word}".strip()
+    yield line
+
+
+def wrong():
+    """What differs on the page."""
+    return "" if os.path.exists(PAGE) and read(PAGE) == drawn() else "docs/LAWS.md has not the laws as they are"
+
+
+def write():
+    with open(PAGE, "w", encoding="utf-8") as file:
+        file.write(drawn())
