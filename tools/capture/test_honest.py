@@ -9,8 +9,8 @@ import types
 import unittest
 from unittest import mock
 
-from . import asking, directions, frames, judging, kinds, pcap, reports, streams, watching
-from .test_frames import (AC, ACK, CC, CN, CR, DT, ETHERNET, FIN, FIRST, PUSH, RESET, SPACE, SYN, TOKENS, Frames, Room, data, fragments,
+from . import asking, directions, frames, judging, kinds, pcap, reports, streams, tshark, watching
+from .test_frames import (AC, ACK, CC, CN, CR, DT, ETHERNET, FIN, FIRST, IPV4, PUSH, RESET, SPACE, SYN, TOKENS, Frames, Room, data, fragments,
                           linked, packet, pcap_of, segment_of, stream_of, whole)
 
 BLAMING = "left 1 broke packet 50 Data BadState\nleft broke the protocol first, packet 50: Data BadState\n"
@@ -311,6 +311,19 @@ class Honest(Room):
         for first in (bytes((192, 0, 2, 1)), bytes((192, 0, 2, 2))):
             self.beginning(sorted(made, key=lambda frame: frame[12:16] != first), is_whole=True)
 
+    def test_a_mirror_in_a_tunnel_beside_the_frames_themselves(self):
+        """The machine that captures sees each frame itself and a copy that a switch sends (ERSPAN), late or cut."""
+        if not tshark.is_there():
+            self.skipTest("tshark is not installed")
+        made = whole()[0]
+        for late, cut in ((0, None), (3, None), (-2, None), (0, 110)):
+            both = sorted([*((place, 0, linked(frame)) for place, frame in enumerate(made)),
+                           *((place + late, 1, linked(mirrored(frame, place)[:cut])) for place, frame in enumerate(made))])
+            path = self.write(pcap_of([frame for _, _, frame in both], ETHERNET))
+            self.beginning(asking.joined(path, path, 102)[0], is_whole=True)
+            only = self.write(pcap_of([linked(mirrored(frame, place)) for place, frame in enumerate(made)], ETHERNET))
+            self.beginning(asking.joined(only, only, 102)[0], is_whole=True)
+
     def test_times_out_of_order(self):
         chance = random.Random(1)
         times = [1_000_000_000 + chance.randrange(10 ** 9) for _ in whole()[0]]
@@ -461,6 +474,18 @@ class Keepalives(unittest.TestCase):
         self.assertEqual((found.status(), found.limit), (0, None))
 
 
+def tunnelled(frame):
+    """A datagram in a tunnel of GRE."""
+    return struct.pack(">BBHHHBBH4s4s", 0x45, 0, 24 + len(frame), 0, 0, 64, 47, 0, *IPV4.values()) + b"\0\0\x08\0" + frame
+
+
+def mirrored(frame, number):
+    """A datagram in a frame of Ethernet that a switch sends to the machine that captures (ERSPAN of type II)."""
+    head = b"\x10\0\x88\xbe" + struct.pack(">I", number) + bytes.fromhex("1007000700000001")
+    inner = head + linked(frame)
+    return struct.pack(">BBHHHBBH4s4s", 0x45, 0, 20 + len(inner), 0, 0, 64, 47, 0, bytes((10, 0, 0, 1)), bytes((10, 0, 0, 2))) + inner
+
+
 class Ends(Room):
     """What comes after the end of a direction, and connections that both ends open."""
 
@@ -534,6 +559,15 @@ class Damaged(Room):
         self.assertEqual((found.status(), found.limit), (3, said))
         self.assertIsNone(reports.first_of(found))
         self.assertEqual(self.judged(right).status(), 1)
+
+    def test_a_capture_that_only_tshark_reads(self):
+        """The frames are in a tunnel."""
+        if not tshark.is_there():
+            self.skipTest("tshark is not installed")
+        made = Frames().open().talk().send("left", data(b"\1\0\1\0wrong")).send("right", DT).frames
+        right = [summed(frame) for frame in made]
+        for hurt, status in ((right, 1), (made, 1), (right[:9] + [made[9][:36] + b"\x12\x34" + made[9][38:]] + right[10:], 3)):
+            self.assertEqual(self.judged([tunnelled(frame) for frame in hurt]).status(), status)
 
     def test_checksums_that_the_card_has_still_to_write_say_nothing(self):
         made = Frames().open().talk().send("left", data(b"\1\0\1\0wrong")).send("right", DT)
@@ -614,12 +648,64 @@ class Watched(unittest.TestCase):
         self.watching = watching.Watching(102, forget=self.reader.forget)
         list(self.reader.feed(pcap_of([])))
 
-    def fed(self, made, is_end=False):
+    def fed(self, made, is_end=False, times=None):
         """What is printed while frames pass."""
         with contextlib.redirect_stdout(io.StringIO()) as out:
-            watching.follow(self.watching, self.reader.feed(pcap_of(made)[24:]), 1)
+            watching.follow(self.watching, self.reader.feed(pcap_of(made, times=times)[24:]), 1)
             self.watching.look(is_end=is_end)
         return out.getvalue()
+
+    def test_a_keepalive_in_place_of_an_octet_that_is_lost(self):
+        made, number = Keepalives().lost()
+        times = [10 ** 12 + 1_000 * place + (place >= number - 1) * 10 ** 7 for place in range(len(made))]
+        with self.finding(b"wro"):
+            out = self.fed(made, times=times)
+        self.assertIn(f"both kept the protocol, judged up to frame {number}, whose one octet may be that of a keepalive of left", out)
+        self.assertEqual(self.watching.status(), 3)
+
+    @staticmethod
+    def finding(octets):
+        """Lets a judge find a break in these octets."""
+        return mock.patch.object(Judge, "feed", lambda judge, side, piece: iter([Told()] if octets in piece else []))
+
+    def test_a_break_before_a_keepalive_is_told(self):
+        made = Frames().open().send("left", Keepalives.WRONG).put("right").put("left", b"\0").put("right").send("left", Keepalives.WRONG)
+        times = [10 ** 12 + 1_000 * place + (place >= 9) * 10 ** 7 for place in range(len(made.frames))]
+        out = self.fed(made.put("right").frames, True, [*times, times[-1] + 1_000])
+        self.assertEqual((out.count("broke"), self.watching.status()), (1, 1))
+        self.assertIn("judged up to frame 10, whose one octet may be that of a keepalive of left", out)
+
+    def test_octets_that_come_alone_are_judged(self):
+        made = Frames(mtu=1).open().send("left", Keepalives.WRONG).put("right")
+        with self.finding(b"w"):
+            self.assertIn("broke", self.fed(made.frames))
+
+    def test_a_frame_that_was_damaged_and_whose_other_copy_is_lost(self):
+        self.reader.has_sums = True
+        made = Frames().open().talk().send("left", data(b"\1\0\1\0wrong")).send("right", DT).frames
+        right = [summed(frame) for frame in made]
+        hurt = right[:9] + [made[9][:36] + b"\x12\x34" + made[9][38:]] + right[10:]
+        out = self.fed(hurt, True)
+        self.assertIn("both kept the protocol, judged up to frame 10, which was damaged on its way from left (its TCP checksum", out)
+        self.assertNotIn("broke", out)
+        self.assertIn("broke", self.fed([summed(frame) for frame in self.moved(made)]))
+        unwritten = self.fed(self.moved(made, 43_000), True)
+        self.assertIn("broke", unwritten)
+
+    @staticmethod
+    def moved(made, port=42_000):
+        """The frames of a connection from another port."""
+        return [frame[:20] + struct.pack(">H", port) + frame[22:] if frame[12:16] == bytes((192, 0, 2, 1)) else
+                frame[:22] + struct.pack(">H", port) + frame[24:] for frame in made]
+
+    def test_what_is_remembered_of_unsure_octets_has_a_bound(self):
+        made = Frames(mtu=1).open().talk(40).frames
+        times = [10 ** 12 + place * 2_000_000 for place in range(len(made))]
+        with mock.patch.object(watching, "MOST_UNSURE", 20), mock.patch.object(directions, "SPARE_SEGMENTS", 20), self.finding(b"none"):
+            self.fed([flagged(frame, ACK) if len(frame) == 41 else frame for frame in made], times=times)
+        watched = next(iter(self.watching.watched.values()))
+        self.assertLessEqual(len(watched.unsure), 21)
+        self.assertTrue(all(len(each.alone) < 60 for each in watched.stream.directions.values()))
 
     def test_what_has_no_packets(self):
         made = Frames().begin().send("left", b"GET / HTTP/1.0\r\n\r\n").put("right")
