@@ -151,14 +151,14 @@ class Direction:
             self.hear(segment.sequence, segment.frame)
 
     def acknowledge(self, number, frame, time):
-        """Notes that the other end has received the octets up to a sequence number."""
-        self.hear(number, frame)
-        place = self.place(number)
+        """Notes that the other end has received the octets up to a sequence number; its place."""
+        place = self.hear(number, frame)
         if place > self.heard:
             self.heard, self.heard_at = place, time
+        return place
 
     def hear(self, number, frame):
-        """Notes that octets up to a sequence number were sent."""
+        """Notes that octets up to a sequence number were sent; its place."""
         if self.next is None:
             self.next = number % SPACE
         sent = self.place(number)
@@ -166,6 +166,7 @@ class Direction:
             self.sent = sent
             if self.beyond is None and sent > self.count:
                 self.beyond = frame
+        return sent
 
     def keep(self, segment):
         """Keeps the octets of a segment until they pass, unless they have."""

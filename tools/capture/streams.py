@@ -139,9 +139,10 @@ class Stream:
 
     def go_on(self, segment, own, far):
         """Takes a segment, now that it is known where both directions begin."""
+        # What acknowledges octets before the first one is of another connection (RFC 5961 section 5).
+        if segment.acknowledged is not None and far.acknowledge(segment.acknowledged, segment.frame, segment.time) < 0 and far.has_first:
+            return
         own.note(segment)
-        if segment.acknowledged is not None:
-            far.acknowledge(segment.acknowledged, segment.frame, segment.time)
         if self.is_over or self.is_other:
             self.look_again(segment, own)
             return

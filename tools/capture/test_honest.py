@@ -514,6 +514,16 @@ class Ends(Room):
         self.assertEqual(in_turns((side, piece.octets) for side, piece in stream.by_side())[-1], ("left", DT + DT))
         self.assertEqual(str(stream.gap()), "frame 8, in which left sent octets after its end (FIN)")
 
+    def test_two_answers_to_the_call(self):
+        """Of two servers, or of one and a firewall: the first isn't that which the caller takes."""
+        made = Frames().open().talk().close().frames
+        for more in (-10_000_000, 10_000_000, 2 ** 31 - 9):
+            other = Frames().put("left", flags=SYN).put("right", flags=SYN | ACK, sequence=FIRST["right"] + more).frames[1]
+            for both in (made[:1] + [other] + made[1:], made[:2] + [other] + made[2:]):
+                self.assertTrue(is_beginning(in_turns((side, piece.octets) for side, piece in stream_of(both).by_side()),
+                                             in_turns(whole()[1])), more)
+        self.assertEqual(in_turns((side, piece.octets) for side, piece in stream_of(both).by_side()), in_turns(whole()[1]))
+
     def test_both_ends_call_at_once(self):
         made = Frames().put("left", flags=SYN).put("right", flags=SYN)
         for side in streams.SIDES:
@@ -603,6 +613,21 @@ class Foreign(unittest.TestCase):
             said = f"a protocol whose data begins with {octets[:2].hex()}"
             self.assertEqual(self.kind(("left", CR), ("right", CC), ("left", data(octets))), said)
             self.assertEqual(self.kind(("left", CR), ("right", CC), ("right", data(octets)), ("left", data(octets))), said)
+
+    def test_blocks_that_begin_as_a_session_does(self):
+        """But neither is as long as it says, nor does the other side answer it."""
+        opened = ("left", CR), ("right", CC)
+        for octets in (b"\r\nGET 1\r\n", b"\r\nGET /status 1\r\n", b"\x19\0\1\2\3"):
+            said = f"a protocol whose data begins with {octets[:2].hex()}"
+            self.assertEqual(self.kind(*opened, ("left", data(octets)), ("right", data(b"OK\r\n"))), said)
+            self.assertIsNone(self.kind(*opened, ("left", data(octets)), ("right", AC)))
+            self.assertIsNone(self.kind(*opened, ("left", data(octets))))
+        self.assertIsNone(self.kind(*opened, ("left", CN), ("right", data(b"OK\r\n"))))
+
+    def test_what_a_load_balancer_writes_first(self):
+        for octets in (b"PROXY TCP4 192.0.2.1 192.0.2.2 40000 102\r\n", b"\r\n\r\n\0\r\nQUIT\n\x21\x11\0\x0c" + bytes(12)):
+            said = "the PROXY protocol of a load balancer"
+            self.assertEqual(self.kind(("left", octets), ("left", CR), ("right", CC), ("left", CN), ("right", AC)), said)
 
     def test_a_handshake_with_selectors_as_ours(self):
         request = packet(bytes.fromhex("11e00000000100c0010ac1020100c2020102"))
