@@ -1,6 +1,6 @@
 -- A session of an end is not to blame for what a judge has joined of its connection.
 -- For the law on a connection of an end and a judge.
-use Rattle.osi_blameless.proofs.Vocabulary.{[], ap, append_assoc, Bool, drop, false, length, List, map, refl, subst, sym, take, true, ℕ, ◌++◌}
+use Rattle.osi_blameless.proofs.Vocabulary.{[], ap, append_assoc, Bool, false, length, List, map, refl, subst, sym, take, true, ℕ, ◌++◌}
 use Rattle.osi_blameless.proofs.Vocabulary.{◌+◌, ◌∙◌, ◌∷◌, ◌≡◌, ◌≤◌, flat_map-append, append-nil, take-append-drop, AllByRecursion, Given}
 use Rattle.osi_blameless.proofs.Vocabulary.{unit_of, give_out, given_parts, hand_in, hand_out, Move, parts_in, parts_out, tsdus_in, tsdus_out}
 use Rattle.osi_blameless.proofs.Vocabulary.{unit_parts, Part, tsdus_after, Listener, Seen, End, AsSent, front_told, first_asked, AllInside}

@@ -8,7 +8,6 @@ use Rattle.osi_blameless.proofs.Vocabulary.{Traffic as State, takes, Connection,
 use Rattle.osi_blameless.proofs.Vocabulary.{Joined, reference_of, Sessions, shut, spoken, taken, way_of, heard, Room, All, passes_apart}
 use Rattle.osi_blameless.proofs.Vocabulary.{AreJudged, still_judged, after_add, after_map, NamesApart as AreApart, after_change, packet, unit}
 use Rattle.osi_blameless.proofs.Vocabulary.{calls_from, IsShownNow, HaveSamePlaces, IsOneOf, begins_judged, some_same}
-use Rattle.osi_rules.specs.declared.directions.Direction.TheVariants as way
 use Rattle.osi_rules.specs.declared.findings.Reach.TheVariants as reach
 use Rattle.osi_rules.specs.Traffic as traffic
 use Rattle.osi_honest.specs.Courses.{Course}

@@ -6,10 +6,7 @@ use Rattle.osi_blameless.proofs.Vocabulary.{disconnect, disconnected, error, req
 use Rattle.osi_blameless.proofs.Vocabulary.{State, class_for, connection_after, is_stopped, meaning_if, meant, route_zero, routed, takes}
 use Rattle.osi_blameless.proofs.Vocabulary.{unlike, after_change, set_there, Joined, Sessions, all_begin, reference_of, taken, way_of}
 use Rattle.osi_blameless.proofs.Vocabulary.{HaveSamePlaces}
-use Rattle.osi_side.specs.declared.directions.Direction.TheVariants as side
 use Rattle.osi_rules.specs.declared.directions.Direction.{Direction as Way}
-use Rattle.osi_rules.specs.declared.findings.Reach.TheVariants as reach
-use Rattle.osi_rules.specs.Sides as sides
 use Rattle.osi_rules.specs.Traffic as traffic
 use Rattle.osi_judge.specs.Connections.{packet_begins}
 use Rattle.osi_judge.specs.Connections as joined

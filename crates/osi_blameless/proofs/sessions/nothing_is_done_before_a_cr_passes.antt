@@ -1,6 +1,6 @@
 -- Nothing is done at a connection of a calling end before its CR has passed; and then the CR may pass.
 -- For all connections of an end and a judge.
-use Rattle.osi_blameless.proofs.Vocabulary.{◌≡◌, ◌∙◌, refl, sym, ap, subst, ℕ, ◌<◌, ◌≤◌, Bool, true, false, if◌then◌else◌, List, [], ◌∷◌}
+use Rattle.osi_blameless.proofs.Vocabulary.{◌≡◌, ◌∙◌, refl, sym, ap, subst, ℕ, ◌<◌, ◌≤◌, Bool, true, false, List, [], ◌∷◌}
 use Rattle.osi_blameless.proofs.Vocabulary.{◌++◌, Option, Some, None, arith, inl, inr, is_some, ◌⊎◌, le-leb, lt-ltb, AllByRecursion, units_of}
 use Rattle.osi_blameless.proofs.Vocabulary.{Connect, Value, acknowledge, confirm, data0, data2, destination_of, disconnect, disconnected}
 use Rattle.osi_blameless.proofs.Vocabulary.{error, request, Local, EndReason, Left, State, Whole, AreGiven, Followed, IsAnswer, IsAsking}

@@ -2,7 +2,6 @@
 -- For all connections of an end and a judge.
 use Rattle.osi_blameless.proofs.Vocabulary.{[], List, refl, Some, ℕ, ◌++◌, ◌∙◌, ◌∷◌, ◌≡◌, append-nil, units_more, TakesAll, all_units, Marked}
 use Rattle.osi_blameless.proofs.Vocabulary.{units_at, arith, AreApart}
-use Rattle.osi_honest.specs.Arriving as arriving
 use Rattle.osi_blameless.proofs.sessions.what_a_turn_puts_waits.{Agree, marks_wait}
 use Rattle.osi_blameless.proofs.sessions.what_stands_of_a_connection.{waiting_for}
 
