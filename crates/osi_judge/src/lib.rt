@@ -45,6 +45,7 @@ mod marks;
 mod outcomes;
 mod pasts;
 mod proceedings;
+mod records;
 mod rooms;
 mod sessions;
 mod streams;
