@@ -72,11 +72,11 @@ def calls():
 
 def judged():
     """Microseconds of a call of a judge's feed with no octets, and of a TSDU of data in large pieces."""
-    from osi_session import Classes, Judge, TapSide
+    from osi_session import Classes, Judge, JudgedSide
 
     judge = Judge()
-    caller, _, reference = opened(Classes.CLASS_0, lambda is_called, piece: judge.feed(TapSide(is_called), piece))
-    feed, side = judge.feed, TapSide.LEFT
+    caller, _, reference = opened(Classes.CLASS_0, lambda is_called, piece: judge.feed(JudgedSide(is_called), piece))
+    feed, side = judge.feed, JudgedSide.LEFT
     began = time.process_time()
     for _ in range(CALLS):
         feed(side, b"")

@@ -578,7 +578,7 @@ typedef struct osi_counters {
 void osi_counts(osi_end *end, osi_counters *shown);
 
 /* ---- judging a byte connection that passes ---------------------------------------------------------------
- * A judge watches a byte connection between two other programs, and says which side first sent what no
+ * A judge is fed a byte connection between two other programs, and says which side first sent what no
  * conforming end could have sent there (docs/JUDGING.md). It needs no osi_end. It judges both classes of
  * transport and any number of connections: the transport of each side, and the session of each side of each
  * connection. It says what `osi judge` says, while the octets pass.
@@ -734,8 +734,8 @@ uint32_t osi_judge_new(osi_judge *judge) OSI_LOOK;
 /* Frees the judge that the slot holds, if any, with the text that it has lent. */
 void osi_judge_free(osi_judge *judge);
 
-/* Feeds octets of a side, in the order in which they passed the tap, cut in any way. *used is how many
- * passed: all of them if the answer is OSI_OK. OSI_OK, or the first that applies of OSI_BAD_ARGUMENT (no
+/* Feeds octets of a side, in the order in which they passed, cut in any way. *used is how many passed:
+ * all of them if the answer is OSI_OK. OSI_OK, or the first that applies of OSI_BAD_ARGUMENT (no
  * side), OSI_SLOT_EMPTY and OSI_NO_MEMORY. After OSI_NO_MEMORY the first *used octets have passed: feed the
  * others again when there is memory. After the other two none has.
  *

@@ -589,8 +589,8 @@ constexpr std::string_view text(phase stands) noexcept
     return "a phase without a name";
 }
 
-/* A side of a byte connection that a judge watches: left opened the byte connection, and sent the CR. */
-enum class tap_side : std::uint32_t {
+/* A side of a byte connection that a judge is fed: left opened the byte connection, and sent the CR. */
+enum class judged_side : std::uint32_t {
     left = OSI_LEFT,
     right = OSI_RIGHT,
 };
@@ -691,12 +691,12 @@ enum class said : std::uint32_t {
 
 /* A verdict on a side of a byte connection. */
 struct verdict {
-    tap_side side = tap_side::left;
+    judged_side side = judged_side::left;
     verdict_kind kind = verdict_kind::none;
     osi::said said = osi::said::nothing;
     osi::rule rule = osi::rule::none;
     std::uint64_t offset = 0;                /* of the packet, in the direction of `by`, from 0 */
-    tap_side by = tap_side::left;            /* the side that sent the packet */
+    judged_side by = judged_side::left;            /* the side that sent the packet */
     std::optional<std::uint64_t> connection; /* its number in the order of the CRs; none if it is of no single one */
     osi::reference left = 0;                 /* the reference that left gave the connection; 0 if it gave none */
     osi::reference right = 0;                /* the same of right */
@@ -1199,7 +1199,7 @@ private:
  * code::slot_empty.
  *
  *     osi::judge judge = *osi::judge::make();          // empty if memory ran out
- *     (void)judge.feed_all(osi::tap_side::left, piece, [](const osi::verdict &said) {
+ *     (void)judge.feed_all(osi::judged_side::left, piece, [](const osi::verdict &said) {
  *         std::cout << osi::verdict_line(said).text() << '\n';
  *     });
  */
@@ -1225,9 +1225,9 @@ public:
     /* Frees what it holds. */
     void reset() noexcept { slot_.reset(); }
 
-    /* Feeds octets of a side, in the order in which they passed the tap, and answers how many passed: all of them
+    /* Feeds octets of a side, in the order in which they passed, and answers how many passed: all of them
      * if the code is ok. ok, slot_empty, no_memory (the first ones have passed: feed the others again). */
-    result<std::size_t> feed(tap_side side, octets piece) noexcept
+    result<std::size_t> feed(judged_side side, octets piece) noexcept
     {
         result<std::size_t> answer;
         answer.code = call(osi_judge_feed, detail::bits(side), piece.data(), piece.size(), &answer.value);
@@ -1237,7 +1237,7 @@ public:
     /* Feeds octets of a side, and passes each verdict that is certain to on_verdict(const verdict &). If that throws, all
      * of the piece has passed, unless memory ran out, and the next feed_all passes the other verdicts. */
     template <class OnVerdict>
-    result<std::size_t> feed_all(tap_side side, octets piece, OnVerdict &&on_verdict)
+    result<std::size_t> feed_all(judged_side side, octets piece, OnVerdict &&on_verdict)
     {
         result<std::size_t> answer = feed(side, piece);
         result<verdict> certain = next();
@@ -1261,7 +1261,7 @@ public:
 
     /* The verdict by what has passed so far, whether it is certain or not, on the session of a side of the connection
      * with this number: ok, slot_empty, no_memory, no_such_connection (none has this number so far). */
-    result<verdict> of(std::uint64_t connection, tap_side side) noexcept
+    result<verdict> of(std::uint64_t connection, judged_side side) noexcept
     {
         osi_verdict shown;
         result<verdict> answer;
@@ -1273,7 +1273,7 @@ public:
 
     /* The same on the transport of a side: its first break, else the packet after which nothing more of it is judged,
      * else `kept`. ok, slot_empty, no_memory. */
-    result<verdict> of_transport(tap_side side) noexcept { return of(OSI_NO_CONNECTION, side); }
+    result<verdict> of_transport(judged_side side) noexcept { return of(OSI_NO_CONNECTION, side); }
 
     /* How many connections were requested so far; their numbers are 0 to one less: ok, slot_empty, no_memory. */
     result<std::uint64_t> connections() noexcept
@@ -1315,8 +1315,8 @@ private:
 
     static verdict verdict_of(const osi_verdict &v) noexcept
     {
-        verdict shown{static_cast<tap_side>(v.side), static_cast<verdict_kind>(v.kind), static_cast<osi::said>(v.said),
-                      static_cast<osi::rule>(v.rule), v.offset, static_cast<tap_side>(v.by), std::nullopt, v.left, v.right};
+        verdict shown{static_cast<judged_side>(v.side), static_cast<verdict_kind>(v.kind), static_cast<osi::said>(v.said),
+                      static_cast<osi::rule>(v.rule), v.offset, static_cast<judged_side>(v.by), std::nullopt, v.left, v.right};
         if (v.connection != OSI_NO_CONNECTION)
             shown.connection = v.connection;
         return shown;

@@ -1,4 +1,4 @@
-/* What an end tells of its peer, beside what a judge says that watches the same octets. An end is fed what a peer sends, the same
+/* What an end tells of its peer, beside what a judge says of the same octets. An end is fed what a peer sends, the same
  * with changes, or octets at random; its user and that of the peer make random calls. The judge is fed the octets that the end
  * used and those that the peer took, in this order. When the end tells its user of a bad unit, or ends with a fault, the judge
  * has to say that the peer broke the protocol or left the profile. Where it may say less, `liberties` has the fault, and

@@ -65,7 +65,7 @@ def build():
         subprocess.run([cc, *flags, "-o", f"{BUILD}/{name}", f"{FOLDER}/{name}.c", f"{FOLDER}/gateway.c",
                         f"{BUILD}/libosi-session.a"], check=True)
     subprocess.run([cc, *flags, "-o", f"{BUILD}/test_osi_c", f"{BINDINGS}/c/test_osi.c", f"{BUILD}/libosi-session.a"], check=True)
-    subprocess.run([cc, *flags, "-o", f"{BUILD}/watch", f"{TOP}/examples/watch.c", f"{BUILD}/libosi-session.a"], check=True)
+    subprocess.run([cc, *flags, "-o", f"{BUILD}/judge", f"{TOP}/examples/judge.c", f"{BUILD}/libosi-session.a"], check=True)
     subprocess.run([cc, *flags, "-o", f"{BUILD}/duplex", f"{DUPLEX}/server.c", f"{BUILD}/libosi-session.a"], check=True)
     clients, missing = {"C": [CLIENT]}, []
     tls.build(cc, [*flags, f"{FOLDER}/tls.c", f"{BUILD}/libosi-session.a"], f"{BUILD}/tls", missing)
@@ -134,9 +134,9 @@ def mypy():
 
 
 def monitor(name, wanted):
-    """The monitor of examples/watch.c, over a dispute: each verdict, and then what `osi judge` prints."""
+    """The monitor of examples/judge.c, over a dispute: each verdict, and then what `osi judge` prints."""
     with open(f"{TOP}/examples/disputes/{name}.follow", encoding="ascii") as pieces:
-        done = subprocess.run([f"{BUILD}/watch"], stdin=pieces, capture_output=True, text=True)
+        done = subprocess.run([f"{BUILD}/judge"], stdin=pieces, capture_output=True, text=True)
     with open(f"{TOP}/examples/disputes/{name}.verdicts", encoding="ascii") as file:
         text = file.read()
     last = text[text.rindex("left packets"):]

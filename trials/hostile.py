@@ -319,7 +319,7 @@ def main(words):
         sys.exit(__doc__.rstrip())
     part = bool(words)
     began = time.time()
-    build("breaks", "growths", "traces", "judged", "turns", "limits", "room", "damage", "again", "shows", "taps", "faults")
+    build("breaks", "growths", "traces", "judged", "turns", "limits", "room", "damage", "again", "shows", "blameless", "faults")
     build_shim()
     with tempfile.TemporaryDirectory() as room:
         run("breaks", "--write", room, "97" if part else "7")
@@ -329,7 +329,7 @@ def main(words):
         run("traces")
         run("judged")
         run("turns")
-        run("taps", "--runs", "1250" if part else "20000")
+        run("blameless", "--runs", "1250" if part else "20000")
         run("faults", "--runs", "1250" if part else "20000")
         replays(part)
         run("limits")

@@ -666,7 +666,7 @@ class Watched(unittest.TestCase):
     """The same while it passes."""
 
     def setUp(self):
-        patched = mock.patch.object(watching, "osi_session", types.SimpleNamespace(Judge=Judge, TapSide=int))
+        patched = mock.patch.object(watching, "osi_session", types.SimpleNamespace(Judge=Judge))
         patched.start()
         self.addCleanup(patched.stop)
         self.reader = frames.Reader(True, 102)

@@ -214,7 +214,7 @@ class Judge:
 
 
 SIDES = ("left", "right")
-MADE_UP = types.SimpleNamespace(Judge=Judge, TapSide=int)
+MADE_UP = types.SimpleNamespace(Judge=Judge)
 
 
 class Months(unittest.TestCase):
@@ -306,7 +306,7 @@ class Months(unittest.TestCase):
         self.assertEqual(self.watching.status(), 3)
 
     def test_memory_stays_flat(self):
-        """bench/watch.py does the same with 100,000 streams and 1,000,000 TSDUs."""
+        """bench/streams.py does the same with 100,000 streams and 1,000,000 TSDUs."""
         steady, counts = self.steady(), []
         with mock.patch.object(watch, "REMEMBERED", 50), mock.patch.object(directions, "SPARE_SEGMENTS", 10):
             for _ in range(2):

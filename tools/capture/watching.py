@@ -218,7 +218,7 @@ class Fed(Watched):
         """Feeds octets that have passed."""
         if not self.is_begun(source, piece):
             return
-        for told in self.judge.feed(osi_session.TapSide(source != self.left), piece.octets):
+        for told in self.judge.feed(int(source != self.left), piece.octets):
             kind = kinds.of(self)
             if kind:
                 self.found = f"not judged: {kind}, not a session", None

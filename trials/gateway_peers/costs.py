@@ -10,7 +10,7 @@ LINES, ECHOES = 500, 20
 # How many times as much processor time an echo over lines may take as one over plain byte connections: with the module in C it takes
 # some 2 to 3 times as much. It is measured again, up to so many times, if other work of the machine was in the way.
 MOST_RATIO, TRIES = 5, 5
-# How many nanoseconds a look of a watch for verdicts takes for each connection: a hundred times as many as on an idle machine.
+# How many nanoseconds a call for verdicts takes for each connection: a hundred times as many as on an idle machine.
 MOST_LOOK = 13_000
 
 
@@ -55,11 +55,11 @@ def closed_connections(count):
 
 def judged():
     """What a look for verdicts costs a judge for each connection that was ever requested on its byte connection."""
-    from osi_session import Judge, TapSide
+    from osi_session import Judge, JudgedSide
     for count in (1_000, 15_000):
         with Judge() as judge:
             for is_right, octets in closed_connections(count):
-                judge.feed(TapSide.RIGHT if is_right else TapSide.LEFT, octets)
+                judge.feed(JudgedSide.RIGHT if is_right else JudgedSide.LEFT, octets)
             times = []
             for _ in range(20):
                 began = time.perf_counter()

@@ -30,7 +30,7 @@ static bool side_of(PyObject *value, uint32_t *side)
     unsigned long n = PyLong_AsUnsignedLong(value);
     if (PyErr_Occurred() != NULL || n > OSI_RIGHT) {
         PyErr_Clear();
-        made = PyObject_CallFunctionObjArgs(package.tap_side, value, NULL);
+        made = PyObject_CallFunctionObjArgs(package.judged_side, value, NULL);
         if (made == NULL)
             return false;
         n = PyLong_AsUnsignedLong(made);

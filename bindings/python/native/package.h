@@ -83,7 +83,7 @@ static struct {
     PyObject *data, *minor, *minor_confirmed, *fed; /* classes */
     PyObject *phases;    /* the phases, by number */
     PyObject *received, *sent; /* the directions */
-    PyObject *tap_side;  /* TapSide, by its number; raises ValueError if it is none */
+    PyObject *judged_side; /* JudgedSide, by its number; raises ValueError if it is none */
     PyObject *verdict;   /* the verdict at the address of an osi_verdict */
 } package;
 
@@ -123,7 +123,7 @@ static const struct {
     {"phases", &package.phases},
     {"received", &package.received},
     {"sent", &package.sent},
-    {"tap_side", &package.tap_side},
+    {"judged_side", &package.judged_side},
     {"verdict", &package.verdict},
 };
 

@@ -27,7 +27,7 @@ PREFIXES = {
     osi_session.Reason: "OSI_END_",
     osi_session.Trace: "OSI_TRACE_",
     osi_session.Direction: "OSI_",
-    osi_session.TapSide: "OSI_",
+    osi_session.JudgedSide: "OSI_",
     osi_session.VerdictKind: "OSI_VERDICT_",
     osi_session.Rule: "OSI_RULE_",
     osi_session.Said: "OSI_SAID_",

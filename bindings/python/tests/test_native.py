@@ -3,7 +3,7 @@ import inspect
 import os
 import unittest
 
-from osi_session import Code, End, Judge, Opening, SessionError, TapSide, _calls, _library, _verdicts
+from osi_session import Code, End, Judge, JudgedSide, Opening, SessionError, _calls, _library, _verdicts
 
 IN_C = _library.native()
 
@@ -54,7 +54,7 @@ class InC(unittest.TestCase):
     def test_an_end_and_a_judge_that_were_not_made(self):
         self.assertRaises(RuntimeError, End.__new__(End).outgoing)
         judge = Judge.__new__(Judge)
-        for call in (lambda: judge.feed(TapSide.LEFT, b"a"), lambda: list(judge.verdicts()), judge.connections, judge.text):
+        for call in (lambda: judge.feed(JudgedSide.LEFT, b"a"), lambda: list(judge.verdicts()), judge.connections, judge.text):
             self.assertRaises(RuntimeError, call)
 
     def test_arguments_by_name(self):

@@ -7,9 +7,9 @@ use std::fmt;
 use std::marker::PhantomData;
 use std::str;
 
-/// A side of a byte connection that a [`Judge`] watches.
+/// A side of a byte connection that a [`Judge`] is fed.
 #[derive(Clone, Copy, Debug, PartialEq, Eq, Hash)]
-pub enum TapSide {
+pub enum JudgedSide {
     /// The side that opened the byte connection, and sent the CR.
     Left = 0,
     /// The other side.
@@ -291,7 +291,7 @@ pub(crate) const SAID: &[Said] = &[
 #[derive(Clone, Copy, Debug, PartialEq, Eq, Hash)]
 pub struct Verdict {
     /// The side.
-    pub side: TapSide,
+    pub side: JudgedSide,
     /// What is said of it.
     pub kind: VerdictKind,
     /// What was sent.
@@ -301,7 +301,7 @@ pub struct Verdict {
     /// The offset of the packet, in the direction of [`by`](Verdict::by), from 0. A TSDU has that of its last packet.
     pub offset: u64,
     /// The side that sent the packet. If nothing more of both sides is judged, it may be the other one.
-    pub by: TapSide,
+    pub by: JudgedSide,
     /// The number of the connection in the order of the CRs, from 0; `None` if it is of no single one.
     pub connection: Option<u64>,
     /// The reference that left gave the connection; `None` if it gave none.
@@ -310,11 +310,11 @@ pub struct Verdict {
     pub right: Option<u16>,
 }
 
-fn side_of(number: u32) -> TapSide {
-    if number == TapSide::Right as u32 {
-        TapSide::Right
+fn side_of(number: u32) -> JudgedSide {
+    if number == JudgedSide::Right as u32 {
+        JudgedSide::Right
     } else {
-        TapSide::Left
+        JudgedSide::Left
     }
 }
 
@@ -382,11 +382,11 @@ impl fmt::Display for Verdict {
 /// [`VerdictKind::NotJudged`] with [`Rule::Limit`].
 ///
 /// ```
-/// use osi_session::{Judge, Rule, TapSide, VerdictKind};
+/// use osi_session::{Judge, JudgedSide, Rule, VerdictKind};
 ///
 /// # fn main() -> Result<(), osi_session::Error> {
 /// let mut judge = Judge::new()?;
-/// judge.feed(TapSide::Left, b"GET / HTTP/1.1")?;
+/// judge.feed(JudgedSide::Left, b"GET / HTTP/1.1")?;
 /// let verdict = judge.next_verdict()?.expect("no packet begins so");
 /// assert_eq!((verdict.kind, verdict.rule, verdict.offset), (VerdictKind::Broke, Rule::BadVersion, 0));
 /// assert_eq!(verdict.to_string(), "left broke packet 0 TPKT BadVersion");
@@ -417,12 +417,12 @@ impl Judge {
         }
     }
 
-    /// Feeds octets of a side, in the order in which they passed the tap, cut in any way.
+    /// Feeds octets of a side, in the order in which they passed, cut in any way.
     ///
     /// # Errors
     /// [`NotFed`] if memory ran out: the first [`used`](NotFed::used) octets have passed, and you can feed the
     /// others again when there is memory.
-    pub fn feed(&mut self, side: TapSide, piece: &[u8]) -> Result<(), NotFed> {
+    pub fn feed(&mut self, side: JudgedSide, piece: &[u8]) -> Result<(), NotFed> {
         let mut used = 0;
         let code =
             unsafe { ffi::osi_judge_feed(self.at(), side as u32, piece.as_ptr(), piece.len(), &mut used) };
@@ -454,7 +454,7 @@ impl Judge {
     ///
     /// # Errors
     /// [`Error::NoSuchConnection`] if no connection has this number so far, and [`Error::NoMemory`].
-    pub fn verdict(&mut self, connection: u64, side: TapSide) -> Result<Verdict, Error> {
+    pub fn verdict(&mut self, connection: u64, side: JudgedSide) -> Result<Verdict, Error> {
         self.ask(connection, side)
     }
 
@@ -463,11 +463,11 @@ impl Judge {
     ///
     /// # Errors
     /// [`Error::NoMemory`].
-    pub fn transport_verdict(&mut self, side: TapSide) -> Result<Verdict, Error> {
+    pub fn transport_verdict(&mut self, side: JudgedSide) -> Result<Verdict, Error> {
         self.ask(ffi::OSI_NO_CONNECTION, side)
     }
 
-    fn ask(&mut self, connection: u64, side: TapSide) -> Result<Verdict, Error> {
+    fn ask(&mut self, connection: u64, side: JudgedSide) -> Result<Verdict, Error> {
         let mut shown = ffi::osi_verdict::default();
         match unsafe { ffi::osi_judge_verdict(self.at(), connection, side as u32, &mut shown) } {
             ffi::OSI_OK => Ok(Verdict::of(&shown)),

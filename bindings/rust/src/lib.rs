@@ -103,7 +103,7 @@ pub use addresses::Addresses;
 pub use codes::{Ending, Error, Fault, Spelling};
 pub use end::{End, Fed};
 pub use indications::Indication;
-pub use judges::{Judge, NotFed, Rule, Said, TapSide, Verdict, VerdictKind};
+pub use judges::{Judge, JudgedSide, NotFed, Rule, Said, Verdict, VerdictKind};
 pub use terms::{Classes, Opening, Phase, Reference, Refusal, Side, Sides, Sizes, Terms, Tokens, Units};
 pub use traces::{Counters, Direction, Tally, Trace};
 

@@ -1,6 +1,6 @@
 //! A judge is fed a byte connection between two other programs, piece by piece.
 
-use osi_session::{Error, Judge, Rule, Said, TapSide, Verdict, VerdictKind};
+use osi_session::{Error, Judge, JudgedSide, Rule, Said, Verdict, VerdictKind};
 
 const CR: &[u8] = &[3, 0, 0, 14, 9, 0xE0, 0, 0, 0, 1, 0, 0xC0, 1, 10];
 const CC: &[u8] = &[3, 0, 0, 14, 9, 0xD0, 0, 1, 0, 2, 0, 0xC0, 1, 10];
@@ -13,7 +13,7 @@ const DT: &[u8] = b"\x03\0\0\x13\x02\xf0\x80\x01\0\x01\0record 1";
 fn opened() -> Judge {
     let mut judge = Judge::new().unwrap();
     for (side, piece) in
-        [(TapSide::Left, CR), (TapSide::Right, CC), (TapSide::Left, CN), (TapSide::Right, AC)]
+        [(JudgedSide::Left, CR), (JudgedSide::Right, CC), (JudgedSide::Left, CN), (JudgedSide::Right, AC)]
     {
         judge.feed(side, piece).unwrap();
     }
@@ -23,29 +23,29 @@ fn opened() -> Judge {
 #[test]
 fn a_break_is_told_once() {
     let mut judge = opened();
-    judge.feed(TapSide::Left, DT).unwrap();
+    judge.feed(JudgedSide::Left, DT).unwrap();
     assert_eq!(judge.next_verdict(), Ok(None));
     for octet in DT {
         assert_eq!(judge.next_verdict(), Ok(None));
-        judge.feed(TapSide::Right, &[*octet]).unwrap();
+        judge.feed(JudgedSide::Right, &[*octet]).unwrap();
     }
     let told = Verdict {
-        side: TapSide::Right,
+        side: JudgedSide::Right,
         kind: VerdictKind::Broke,
         said: Said::Dt,
         rule: Rule::TokenNotHeld,
         offset: 41,
-        by: TapSide::Right,
+        by: JudgedSide::Right,
         connection: Some(0),
         left: Some(1),
         right: Some(2),
     };
     assert_eq!(judge.next_verdict(), Ok(Some(told)));
     assert_eq!(judge.next_verdict(), Ok(None));
-    assert_eq!(judge.verdict(0, TapSide::Right), Ok(told));
-    assert_eq!(judge.verdict(0, TapSide::Left).unwrap().to_string(), "left 1 kept");
-    assert_eq!(judge.verdict(1, TapSide::Left), Err(Error::NoSuchConnection));
-    assert_eq!(judge.transport_verdict(TapSide::Right).unwrap().to_string(), "right kept");
+    assert_eq!(judge.verdict(0, JudgedSide::Right), Ok(told));
+    assert_eq!(judge.verdict(0, JudgedSide::Left).unwrap().to_string(), "left 1 kept");
+    assert_eq!(judge.verdict(1, JudgedSide::Left), Err(Error::NoSuchConnection));
+    assert_eq!(judge.transport_verdict(JudgedSide::Right).unwrap().to_string(), "right kept");
     assert_eq!(judge.connections(), Ok(1));
     assert_eq!(told.to_string(), "right 2 broke packet 41 Data TokenNotHeld");
     let text = judge.text().unwrap();
@@ -67,16 +67,16 @@ fn a_judge_keeps_no_more_than_its_bound() {
     let mut number = 0;
     let told = loop {
         number += 1;
-        judge.feed(TapSide::Left, &point(number)).unwrap();
+        judge.feed(JudgedSide::Left, &point(number)).unwrap();
         if let Some(told) = judge.next_verdict().unwrap() {
             break told;
         }
     };
     assert!(number > 50_000);
-    assert_eq!((told.side, told.kind, told.rule), (TapSide::Left, VerdictKind::NotJudged, Rule::Limit));
+    assert_eq!((told.side, told.kind, told.rule), (JudgedSide::Left, VerdictKind::NotJudged, Rule::Limit));
     let told = judge.next_verdict().unwrap().unwrap();
-    assert_eq!((told.side, told.kind, told.rule), (TapSide::Right, VerdictKind::NotJudged, Rule::Limit));
-    judge.feed(TapSide::Right, DT).unwrap();
+    assert_eq!((told.side, told.kind, told.rule), (JudgedSide::Right, VerdictKind::NotJudged, Rule::Limit));
+    judge.feed(JudgedSide::Right, DT).unwrap();
     assert_eq!(judge.next_verdict(), Ok(None));
     let text = judge.text().unwrap();
     assert_eq!(text.lines().last(), Some("not judged: more passed on a connection than is kept"));
@@ -86,7 +86,7 @@ fn a_judge_keeps_no_more_than_its_bound() {
 fn a_judge_goes_to_another_thread() {
     let mut judge = opened();
     let told = std::thread::spawn(move || {
-        judge.feed(TapSide::Left, b"no packet")?;
+        judge.feed(JudgedSide::Left, b"no packet")?;
         judge.next_verdict()
     });
     assert_eq!(told.join().unwrap().unwrap().unwrap().rule, Rule::BadVersion);
@@ -101,14 +101,17 @@ fn a_judge_tells_the_connection() {
         [&[3, 0, 0, 9 + rest.len() as u8, 4, 0xF0, 0, to, 0x80 | number][..], rest].concat()
     };
     let mut judge = Judge::new().unwrap();
-    judge.feed(TapSide::Left, CR).unwrap();
-    judge.feed(TapSide::Right, CC).unwrap();
-    judge.feed(TapSide::Left, &unit(2, 0, &CN[7..])).unwrap();
-    judge.feed(TapSide::Right, &unit(1, 0, &AC[7..])).unwrap();
+    judge.feed(JudgedSide::Left, CR).unwrap();
+    judge.feed(JudgedSide::Right, CC).unwrap();
+    judge.feed(JudgedSide::Left, &unit(2, 0, &CN[7..])).unwrap();
+    judge.feed(JudgedSide::Right, &unit(1, 0, &AC[7..])).unwrap();
     assert_eq!(judge.next_verdict(), Ok(None));
-    judge.feed(TapSide::Right, &unit(1, 1, &DT[7..])).unwrap();
+    judge.feed(JudgedSide::Right, &unit(1, 1, &DT[7..])).unwrap();
     let told = judge.next_verdict().unwrap().unwrap();
-    assert_eq!((told.side, told.kind, told.rule), (TapSide::Right, VerdictKind::Broke, Rule::TokenNotHeld));
+    assert_eq!(
+        (told.side, told.kind, told.rule),
+        (JudgedSide::Right, VerdictKind::Broke, Rule::TokenNotHeld)
+    );
     assert_eq!((told.connection, told.left, told.right, told.offset), (Some(0), Some(1), Some(2), 46));
     assert_eq!(told.to_string(), "right 2 broke packet 46 Data TokenNotHeld");
     assert_eq!(judge.next_verdict(), Ok(None));

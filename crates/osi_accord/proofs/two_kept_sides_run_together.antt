@@ -3,8 +3,8 @@
 use Rattle.osi_accord.proofs.Vocabulary.{[], ap, arith, List, map, None, Option, refl, Some, subst, sym, take-append-drop, ℕ, ◌+◌, ◌-◌, ◌<◌}
 use Rattle.osi_accord.proofs.Vocabulary.{◌^◌, ◌∙◌, ◌∷◌, ◌≡◌, seen_called, seen_calling, front_told, Told, Capture, IsExplained, Direction}
 use Rattle.osi_accord.proofs.Vocabulary.{Left, Right, Broke, Kept, begin_within, Connection, found_at, heard, HoldsJoined, Joined, line_in}
-use Rattle.osi_accord.proofs.Vocabulary.{Room, Spoken, told, told_of, connection_in, IsAccord, IsFoundOn, IsToldOn, AreTold, octets_told, told_by}
-use Rattle.osi_accord.proofs.Vocabulary.{Turn, tsdus_by}
+use Rattle.osi_accord.proofs.Vocabulary.{Room, Spoken, told, told_of, connection_in, IsAccord, IsFoundOn, IsToldOn, AreTold, octets_told}
+use Rattle.osi_accord.proofs.Vocabulary.{told_by, Turn, tsdus_by}
 use Rattle.osi_side.specs.declared.findings.Finding.{Finding}
 use Rattle.osi_side.specs.declared.findings.Finding.TheVariants as finding
 use Rattle.osi_side.specs.Captures.{other}

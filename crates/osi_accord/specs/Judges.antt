@@ -1,4 +1,4 @@
--- The TSDUs of a connection at a judge, in the order in which they passed, and two sessions that send them.
+-- The TSDUs of a connection as a judge joins them, in the order in which they passed, and two sessions that send them.
 use Rattle.std.specs.Prelude.{◌≡◌, ◌++◌, ℕ, List, map, take, Option, Some}
 use Rattle.osi_session.specs.Standing.{seen_called, seen_calling}
 use Rattle.osi_side.specs.declared.directions.Direction.{Direction}

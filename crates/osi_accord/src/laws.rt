@@ -48,17 +48,17 @@ pub fn two_explained_sides_are_a_pair()
         × IsExplained right (tsdus_by Direction.Left turns) (told_by Direction.Right turns) }
 {}
 
-/// If a judge finds that both sides of a connection kept the protocol, there are two sessions, a calling and a called one, that make
-/// what passed on it (`pair`), in class 0 and in class 2, among any number of other connections. They send all its whole TSDUs that
-/// the judge judges, in the order in which these had passed as a whole. A side takes a TSDU after the other side has sent it, and before
-/// it sends a TSDU it takes only those that had passed as a whole before the first packet of that one. And if there are two such
-/// sessions, the judge blames neither side (`only`). What the judge finds of a side is what it tells of a connection that it has with
-/// this number: one that has a place (`told`, [`osi_judge::Judge::connection`], [`osi_judge::Connection::finding`]), or one that is over and
-/// whose place another has (`over`, [`osi_judge::Past::outcome`]).
+/// If a judge finds that both sides of a connection kept the protocol, there are two sessions, a calling and a called one, that make what
+/// passed on it (`pair`), in class 0 and in class 2, among any number of other connections. They send all its whole TSDUs that are judged,
+/// in the order in which these had passed as a whole. A side takes a TSDU after the other side has sent it, and before it sends a TSDU it
+/// takes only those that had passed as a whole before the first packet of that one. And if there are two such sessions, the judge blames
+/// neither side (`only`). What is found of a side is what the judge tells of the connection with this number: of one that has a place
+/// (`told`, [`osi_judge::Judge::connection`], [`osi_judge::Connection::finding`]), or of one that is over and whose place another has
+/// (`over`, [`osi_judge::Past::outcome`]).
 ///
-/// A judge judges all TSDUs that passed, but for those after a break of transport that ends the judging of their side or of the
-/// connection, and those beyond its bound, if it has one ([`osi_judge::Connection::is_over`]). It is assumed that the number of the
-/// connection is below 2^64 - 1: a judge counts no further.
+/// All TSDUs that passed are judged, but for those after a break of transport that ends the judging of their side or of the
+/// connection, and those beyond the bound of the judge, if it has one ([`osi_judge::Connection::is_over`]). It is assumed that the
+/// number of the connection is below 2^64 - 1: a judge counts no further.
 pub fn two_kept_sides_are_a_pair()
     ensures pair { (room : Room) (number : ℕ) (capture : Capture) → number < 2 ^ 64 - 1 →
         IsFoundOn Direction.Left room number capture Finding.Kept → IsFoundOn Direction.Right room number capture Finding.Kept →

@@ -4,8 +4,8 @@ use Rattle.osi_blameless.proofs.Vocabulary.{◌≡◌, ◌∙◌, ℕ, Bool, fal
 use Rattle.osi_blameless.proofs.Vocabulary.{Value, Local, Capture, other, Direction, Reach, Option, Class, class_for, is_stopped, takes}
 use Rattle.osi_blameless.proofs.Vocabulary.{IsOfTwo, firm_unless_two, still_two, Two, Zero, stops_last, Holding, IsFresh, AllProper, Cause}
 use Rattle.osi_blameless.proofs.Vocabulary.{Course, marks_of, packet_begins, unit_passes, units_pass, unread, way_of, comes_to, Joint, Step}
-use Rattle.osi_blameless.proofs.Vocabulary.{Steps, StepsAlong, begin, begins_other, begins_own, passes_other, passes_own, turns, ComesBySteps}
-use Rattle.osi_blameless.proofs.Vocabulary.{LaterAlong, LaterSteps, spoilt}
+use Rattle.osi_blameless.proofs.Vocabulary.{Steps, StepsAlong, begin, begins_other, begins_own, passes_other, passes_own, turns}
+use Rattle.osi_blameless.proofs.Vocabulary.{ComesBySteps, LaterAlong, LaterSteps, spoilt}
 use Rattle.osi_rules.specs.declared.findings.Reach.TheVariants as reach
 use Rattle.osi_rules.specs.Sides as sides
 use Rattle.osi_blameless.proofs.all_is_judged_or_nothing.{IsJudged}

@@ -1,4 +1,4 @@
--- A judge that judges of each connection no more than a bound, beside a judge without one.
+-- A judge with a bound for each connection, beside a judge without one.
 use Rattle.std.specs.Prelude.{◌≡◌, ℕ, false, List, [], ◌∷◌, ◌++◌}
 use Rattle.osi_side.specs.Captures.{Capture, piece}
 use Rattle.osi_side.specs.declared.directions.Direction.{Direction}

@@ -1,4 +1,5 @@
--- An end of this library and a judge anywhere between it and the other side, packet by packet.
+-- An end of this library and a judge, packet by packet. What passes is what the judge is fed: the capture may be taken anywhere between the
+-- end and the other side.
 use Rattle.std.specs.Prelude.{◌≡◌, ◌≢◌, ℕ, Bool, true, false, List, [], ◌∷◌, ◌++◌, None, Ok}
 use Rattle.osi_unit.specs.Octets.{IsOctets}
 use Rattle.osi_tpkt.specs.Stream.{ArePackets}
@@ -15,13 +16,13 @@ use Rattle.osi_judge.specs.Courses.{Course, fresh, packet_begins, units_pass}
 pub record Joint : Type 0 where
   -- the end, and what it holds of the packet that is arriving
   pub holding : Holding
-  -- the units that it has put and that have not passed the judge, the oldest first; each goes in a packet of its own
+  -- the units that it has put and that have not passed, the oldest first; each goes in a packet of its own
   pub put : List Value
   -- the first of them has begun to pass
   pub begun : Bool
-  -- what has passed the judge comes to this
+  -- what has passed comes to this
   pub course : Course
-  -- the packets of the other side that have passed the judge and that the end has not used, the oldest first
+  -- the packets of the other side that have passed and that the end has not used, the oldest first
   pub coming : List (List ℕ)
 
 -- ---- what happens

@@ -82,8 +82,8 @@ pub record IsShownOf (d : Direction) (r : ℕ) (deeds : Deeds) (j : Joined) : Ty
 
 -- ---- as it goes on
 
--- The same with these units of the end still to pass, and these parts in flight to it or left over. The judge judges all of the
--- connection. `is_next`: the packet of the end that is passing has the first of these units, which adds to a TSDU.
+-- The same with these units of the end still to pass, and these parts in flight to it or left over. All of the connection is
+-- judged. `is_next`: the packet of the end that is passing has the first of these units, which adds to a TSDU.
 pub record IsShownNow (d : Direction) (r : ℕ) (deeds : Deeds) (waiting : List Value) (later : List Part) (is_next : Bool) (j : Joined) :
     Type 0 where
   pub shown : IsShownOf d r deeds j

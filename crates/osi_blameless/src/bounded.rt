@@ -1,4 +1,4 @@
-//! Laws of an end and of a judge that judges of each connection no more than a bound. Each function does nothing: its clauses are the laws.
+//! Laws of an end and of a judge with a bound for each connection. Each function does nothing: its clauses are the laws.
 
 ghost use Rattle.std.specs.Prelude.{◌≡◌, ◌⊎◌, false, true, List, None, Option, Some, ◌<◌, ◌^◌, ℕ, length, slice_get};
 ghost use Rattle.std.specs.List.{AllByRecursion};
@@ -37,10 +37,10 @@ pub fn a_bound_changes_nothing_that_is_judged()
 
 /// A judge with a bound for each connection never blames an end first, neither its transport nor a session. Take any run of an end of this
 /// library from its beginning: any pieces of whatever octets arrive, any calls of its user, any shortage of memory, any number of
-/// connections, whatever classes it offers. Take any capture of it, at a judge anywhere between it and the other side ([`IsSeen`]), and any
+/// connections, whatever classes it offers. Take any capture of it, from any place between it and the other side ([`IsSeen`]), and any
 /// bound. The first break of all that is judged within the bound is of the other side, if there is one, be the end the called one
 /// (`called`) or the calling one (`calling`). If both ends are of this library, there is none (`both`). So a judge that was made with this
-/// bound ([`IsFedWithin`]) and fed the capture, and has judged it, never tells such an end as the first (`called_at_a_judge`,
+/// bound ([`IsFedWithin`]) and fed the capture never tells such an end as the first, once all that passed is judged (`called_at_a_judge`,
 /// `calling_at_a_judge`, `both_at_a_judge`).
 ///
 /// As long as no break of transport has passed, no session of the end is to blame for what is judged of any of its connections, open or

@@ -1,4 +1,4 @@
-//! Laws of an end and of a judge on its byte connection. Each function does nothing: its clauses are the laws.
+//! Laws of an end and of a judge of its byte connection. Each function does nothing: its clauses are the laws.
 
 ghost use Rattle.std.specs.Prelude.{◌≡◌, ◌⊎◌, Bool, false, true, List, None, Option, Some, ◌≢◌, ◌<◌, ◌^◌, ◌++◌, ◌∷◌, [], ℕ, length};
 ghost use Rattle.std.specs.Prelude.{slice_get};
@@ -36,7 +36,7 @@ use osi_side::laws::an_honest_session_is_explained;
 use osi_spdu::laws::{few_octets_fit, serial_digits};
 
 /// A capture of an end is steps of the end and of the judge. Take any run of an end of this library from its beginning, and any
-/// capture of it at a judge anywhere between the two sides ([`IsSeen`]). What the capture comes to is what these steps come to:
+/// capture of it from any place between the two sides ([`IsSeen`]). What the capture comes to is what these steps come to:
 /// turns of the end, and packets of either side that begin to pass and pass, one after the other. Each unit passes after it was
 /// put, in order, and each packet of the other side that the end uses has passed before. Or what the other side sends can't be
 /// read: then the steps are all that happened until then, and it goes on by other steps, in which a packet may have no units
@@ -55,10 +55,10 @@ pub fn a_capture_of_an_end_is_steps()
 }
 
 /// The transport of an end is never blamed first. Take any run of an end of this library from its beginning: any pieces of whatever
-/// octets arrive, any calls of its user, any shortage of memory, any number of connections. Take any capture of it, at a judge anywhere
-/// between it and the other side ([`IsSeen`]). If a break of transport passed the judge, the first of them is of the other side, be the
-/// end the called one (`called`) or the calling one (`calling`), and whatever classes it offers. If both ends are of this library,
-/// no break of transport passed (`both`).
+/// octets arrive, any calls of its user, any shortage of memory, any number of connections. Take any capture of it, from any place
+/// between it and the other side ([`IsSeen`]). If a break of transport passed, the first of them is of the other side, be the end the
+/// called one (`called`) or the calling one (`calling`), and whatever classes it offers. If both ends are of this library, no break of
+/// transport passed (`both`).
 ///
 /// [`IsSeen`]: ../../osi_honest/specs/Seeing.antt
 pub fn the_transport_of_an_end_is_never_blamed_first()
@@ -80,10 +80,10 @@ pub fn the_transport_of_an_end_is_never_blamed_first()
 }
 
 /// The transport of an end is blamed nowhere. Take any run of an end of this library from its beginning, and any capture of it, as in
-/// [`the_transport_of_an_end_is_never_blamed_first`]. The judge has found of no unit of the end that it breaks a rule, be the end the called
-/// one (`called`) or the calling one (`calling`): not before a break of the other side, and not after it. So it is after a break that a
-/// taker passes over, after one with which all judging ends, or in class 2 that of one connection, and in class 0 after one with which the
-/// judging of the other side ends, or after what nobody can read.
+/// [`the_transport_of_an_end_is_never_blamed_first`]. No unit of the end is found to break a rule, be the end the called one (`called`) or
+/// the calling one (`calling`): not before a break of the other side, and not after it. So it is after a break that a taker passes over,
+/// after one with which all judging ends, or in class 2 that of one connection, and in class 0 after one with which the judging of the
+/// other side ends, or after what nobody can read.
 pub fn the_transport_of_an_end_is_blamed_nowhere()
     ensures called { (local : Local) (begin end : Holding) (turns : List Turn) (capture : Capture) →
         IsFresh false local begin → Run begin turns end → AreOctets capture → IsSeen Direction.Right turns capture →
@@ -177,10 +177,10 @@ pub fn connections_have_the_same_places()
 
 /// No session of an end is blamed first, and neither is its transport. Take any run of an end of this library from its beginning: any
 /// pieces of whatever octets arrive, any calls of its user, any shortage of memory, any number of connections, whatever classes it offers.
-/// Take any capture of it, at a judge anywhere between it and the other side ([`IsSeen`]). The first break of all, of transport or of a
+/// Take any capture of it, from any place between it and the other side ([`IsSeen`]). The first break of all, of transport or of a
 /// session, is of the other side, if there is one, be the end the called one (`called`) or the calling one (`calling`): no moment of the
 /// capture before it has a break ([`IsFirstOf`]). If both ends are of this library, there is none (`both`). So a judge without a bound
-/// ([`IsFed`]) that was fed the capture, and has judged it, never tells such an end as the first (`called_at_a_judge`,
+/// ([`IsFed`]) that was fed the capture never tells such an end as the first, once all that passed is judged (`called_at_a_judge`,
 /// `calling_at_a_judge`, `both_at_a_judge`).
 ///
 /// As long as no break of transport has passed, no session of the end is to blame for what has passed, on any of its connections, open or

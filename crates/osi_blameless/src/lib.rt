@@ -1,17 +1,17 @@
-//! Why a judge on a whole byte connection never blames an end of this library first, in either class and with any number of
+//! Why a judge of a whole byte connection never blames an end of this library first, in either class and with any number of
 //! connections. The crate has definitions and laws; nothing here runs.
 //!
 //! It joins three crates: `osi_judge` says what a capture comes to, octet by octet; `osi_fair` says that no unit which an end
 //! puts breaks a rule of transport; and `osi_honest` says what the session of each connection took and sent.
 //!
-//! - A `Joint` (`specs/Joint`) is an end and a judge anywhere between it and the other side, with the units between them. A
-//!   `Step` is what happens to both, packet by packet.
+//! - A `Joint` (`specs/Joint`) is an end and a judge of what passes anywhere between it and the other side, with the units
+//!   in flight. A `Step` is what happens to both, packet by packet.
 //! - A capture of an end is such steps, up to what the other side sends and nobody can read:
 //!   [`laws::a_capture_of_an_end_is_steps`].
 //! - **The transport of an end is never blamed first.** Steps of a `Joint` are events of a whole end of `osi_fair`, whose carrier
-//!   reports nothing and hands nothing over: what a turn does to the carrier of an end is units that arrive and calls. So as
-//!   long as nobody has broken a rule at the judge, both sides are judged there, and no unit of the end is a break. What comes
-//!   after the first break doesn't change it: [`laws::the_transport_of_an_end_is_never_blamed_first`].
+//!   reports nothing and hands nothing over: what a turn does to the carrier of an end is units that arrive and calls. So as long
+//!   as nobody has broken a rule, both sides are judged, and no unit of the end is a break. What comes after the first break
+//!   doesn't change it: [`laws::the_transport_of_an_end_is_never_blamed_first`].
 //! - **Nor is it blamed after the first break**, called or calling, in either class: what a break of the other side leaves to be judged
 //!   of the end is right, or not judged, or beyond what the rules look at: [`laws::the_transport_of_an_end_is_blamed_nowhere`].
 //! - **The session of an end is not to blame for what a judge shows of it.** `IsShownOf` (`specs/Shown`) says what a judge has joined of a
@@ -28,9 +28,9 @@
 //!   connection: the judge joins nothing more of it, and the others go on as if it weren't there. A break of class 0 ends the judging of
 //!   the other side. The end takes nothing of its packet and is over with it, and the judge joins nothing more of that side. So both go on
 //!   as if the break had not come: [`laws::no_session_of_an_end_is_to_blame_after_a_break`].
-//! - **A judge with a bound for each connection blames no end first either.** `IsCourseOf` (`specs/Bounded`) says what it judges beside a judge
-//!   without one: [`bounded::a_bound_changes_nothing_that_is_judged`]. Of a connection of which more has passed than it judges it says what
-//!   it said before. So in each moment nobody of a side is to blame whom a judge without a bound doesn't blame in it or before it:
+//! - **A judge with a bound for each connection blames no end first either.** `IsCourseOf` (`specs/Bounded`) compares it with a judge
+//!   without one: [`bounded::a_bound_changes_nothing_that_is_judged`]. Of a connection that has reached the bound it says what it said
+//!   before. So at no moment is a session to blame that a judge without a bound doesn't blame then or before:
 //!   [`bounded::no_end_is_blamed_first_within_a_bound`].
 #![tactic(auto)]
 

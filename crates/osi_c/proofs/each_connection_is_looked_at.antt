@@ -1,7 +1,7 @@
 -- If nothing is due of each connection that a judge holds, nothing is due of the connection with any number.
 -- For `is_still`, `due_by`, `due_of_each` and `sessions_due`.
-use Rattle.std.proofs.Common.{◌≡◌, ◌∙◌, refl, sym, ap, subst, ℕ, zero, suc, ◌+◌, ◌<◌, ◌≤◌, ◌⊎◌, inl, inr, arith, List, [], ◌∷◌, ◌++◌, length, get_or}
-use Rattle.std.proofs.Common.{Bool, true, false, Option, Some, None}
+use Rattle.std.proofs.Common.{◌≡◌, ◌∙◌, refl, sym, ap, subst, ℕ, zero, suc, ◌+◌, ◌<◌, ◌≤◌, ◌⊎◌, inl, inr, arith, List, [], ◌∷◌, ◌++◌}
+use Rattle.std.proofs.Common.{length, get_or, Bool, true, false, Option, Some, None}
 use Rattle.std.proofs.lemmas.Bool.{eqb-true}
 use Rattle.std.specs.Prelude.{IfNone, slice_get}
 use Rattle.std.specs.List.{find}
@@ -94,7 +94,8 @@ still_of : (d : Direction) (c : Connection) (j : Joined) → IsStill c → Holds
 still_of Left c j still h k = (still j h k).0
 still_of Right c j still h k = (still j h k).1
 
-silent : (d : Direction) (w : HeldJudge) (told : List Subject) (c : Connection) (j : Joined) → HoldsJoined c j → IsHeard c → HasNoneBy w told c
+silent : (d : Direction) (w : HeldJudge) (told : List Subject) (c : Connection) (j : Joined) → HoldsJoined c j → IsHeard c →
+    HasNoneBy w told c
     → Silent d w told j
 silent d w told c j h k none = elim none [
   | inl still ↦ inl (still_of d c j still h k)

@@ -102,7 +102,8 @@ same_late b old new s late capture h settled = late capture (known_before old ne
 same_none : (old new : HeldJudge) (told : List Subject) (k : Subject) → IsSame old new → HasNone old told k → HasNone new told k
 same_none old new told k s h = elim h [ inl before ↦ inl before | inr nothing ↦ inr (same_nothing old new k s nothing) ]
 
-same_none_if : (old new : HeldJudge) (told : List Subject) (o : Option Subject) → IsSame old new → HasNoneIf old told o → HasNoneIf new told o
+same_none_if : (old new : HeldJudge) (told : List Subject) (o : Option Subject) → IsSame old new → HasNoneIf old told o →
+    HasNoneIf new told o
 same_none_if old new told None s h = h
 same_none_if old new told (Some k) s h = same_none old new told k s h
 
@@ -143,7 +144,7 @@ given old new k n v settled decided turn due shows s told = record {
   text = s.text;
 }
 
--- what is fetched after the judge has judged all that passed
+-- what is fetched once all that passed is judged
 pub kept_after : (old now new : HeldJudge) → ((capture : Capture) → Knows old capture → Knows now capture)
     → now.told.items ≡ old.told.items → now.text ≡ old.text → Keeps now new → Keeps old new
 kept_after old now new knows told text g = record {

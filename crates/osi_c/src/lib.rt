@@ -1,4 +1,4 @@
-//! One end of a byte connection, and the judge of one that passes, for C: the functions that `include/osi.h` declares.
+//! One end of a byte connection, and the judge of a byte connection, for C: the functions that `include/osi.h` declares.
 //!
 //! Each function is a call of [`osi_stack::Stack`] or [`osi_judge::Judge`], and its contract says what that call's contract says, in
 //! the numbers of C. The text of a judge is that of `osi_report`. `OsiEnd` and `OsiJudge` are the slots that a C program

@@ -1,5 +1,6 @@
 -- What has become certain of a text is written while it is read: for the functions of `live`.
-use Rattle.std.proofs.Common.{◌≡◌, ◌∙◌, ◌⊎◌, inl, inr, ℕ, ◌+◌, Option, Some, None, List, [], ◌∷◌, ◌++◌, zero, suc, length, take, refl, sym, ap, arith}
+use Rattle.std.proofs.Common.{◌≡◌, ◌∙◌, ◌⊎◌, inl, inr, ℕ, ◌+◌, Option, Some, None, List, [], ◌∷◌, ◌++◌, zero, suc, length, take, refl, sym}
+use Rattle.std.proofs.Common.{ap, arith}
 use Rattle.std.proofs.lemmas.List.{append_assoc}
 use Rattle.std.specs.Prelude.{IfErr, IfSome, OnErr, Result, Ok, Err}
 use Rattle.std.specs.Io.KnownBytes.{Appends, Keeps}
@@ -78,7 +79,8 @@ take_more (x ∷ xs) ys n =
 begun_after : (old mid new : Option (List ℕ)) (xs ys : List ℕ) → Appends old mid xs → BeginsToAppend mid new ys
     → BeginsToAppend old new (xs ++ ys)
 begun_after old mid new xs ys h (n, k) =
-    (length xs + n, same_appends old new (xs ++ take n ys) (take (length xs + n) (xs ++ ys)) (take_more xs ys n) (appends_both old mid new xs (take n ys) h k))
+    (length xs + n, same_appends old new (xs ++ take n ys) (take (length xs + n) (xs ++ ys)) (take_more xs ys n)
+      (appends_both old mid new xs (take n ys) h k))
 
 part_after : (text : List ℕ) (old mid new : Option (List ℕ)) → Announces text old mid → AnnouncesPart text mid new
     → AnnouncesPart text old new

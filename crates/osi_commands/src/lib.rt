@@ -11,11 +11,10 @@
 //!   [`judge`] hears an input of any length piece by piece, keeps nothing of it, and writes what was found at its end. So
 //!   nothing is written for an input that can't be read, and a write that fails leaves a prefix of the text. [`judge_live`]
 //!   also writes each finding as soon as it is certain, while the input is read.
-//! - [`ToolFault`] says why nothing, or not all, was done. It comes in a [`Failure`], with what the [`Calls`] remembers: whether a
-//!   read failed, and whether a write did. So the contracts can say when a fault is reported. An interrupted call is
-//!   repeated.
+//! - [`ToolFault`] says why nothing, or not all, was done. It comes in a [`Failure`], with the [`Calls`], which say whether a read
+//!   failed, and whether a write did. So the contracts can say when a fault is reported. An interrupted call is repeated.
 //!
-//! Any reader and any writer will do. A [`Calls`] passes beside them from call to call; it is made in each of the four.
+//! Any reader and any writer will do. One [`Calls`] passes beside them from call to call; each of the four functions makes its own.
 //!
 //! What it leaves to others: the script of a capture, and which job comes when (`osi_tool`), and the words of the command
 //! line (`osi_words`).

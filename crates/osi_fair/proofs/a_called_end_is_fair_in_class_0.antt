@@ -106,7 +106,8 @@ by_seen_class : (local : Local) (w : Whole) → w.judge.course.class_seen ≡ So
 by_seen_class local w h h2 = grind arith
 
 module _ (local : Local) (w : Whole) (j : Joined local w) (a : Alone w) where
-  calm_so : w.judge.course.loose ≡ false → w.judge.course.right_stopped ≡ false → w.judge.course.left_stopped ≡ false → IsCalm w.judge.course
+  calm_so : w.judge.course.loose ≡ false → w.judge.course.right_stopped ≡ false → w.judge.course.left_stopped ≡ false →
+      IsCalm w.judge.course
   calm_so firm right left = record { left = left; right = right }
 
   own_so : (v : Value) (rest : List Value) → w.put ≡ v ∷ rest → w.begun ≡ true → (b : Bool) → w.judge.course.left_stopped ≡ b →
@@ -118,7 +119,8 @@ module _ (local : Local) (w : Whole) (j : Joined local w) (a : Alone w) where
       let calm = calm_so firm right was in
       grind (arith, differ, other_kept, mild, passes_stage local w j v rest put begun calm (j.stage calm))
 
-  other_so : (v : Value) (b : Bool) → w.judge.course.left_stopped ≡ b → w.judge.course.loose ≡ false → w.judge.course.right_stopped ≡ false →
+  other_so : (v : Value) (b : Bool) → w.judge.course.left_stopped ≡ b → w.judge.course.loose ≡ false →
+      w.judge.course.right_stopped ≡ false →
       (takes Left v w.judge).state.course.right_stopped ≡ false → (takes Left v w.judge).state.course.left_stopped ≡ true →
       Selected (record w { judge = (takes Left v w.judge).state; coming = w.coming ++ v ∷ [] })
   other_so v true was firm right still left = comes_stopped w (a firm right was) j.apart (j.judged firm) v was

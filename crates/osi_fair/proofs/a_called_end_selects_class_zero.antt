@@ -128,7 +128,8 @@ selecting_begins local d w b seen f = record {
   end = f.end;
 }
 
-pub selected_begins : (d : Direction) (w : Whole) (b : Bool) → Selected w → Selected (record w { begun = b; judge = packet_begins d w.judge })
+pub selected_begins : (d : Direction) (w : Whole) (b : Bool) → Selected w →
+    Selected (record w { begun = b; judge = packet_begins d w.judge })
 selected_begins d w b f = record {
   p = f.p;
   c = begins d f.c;

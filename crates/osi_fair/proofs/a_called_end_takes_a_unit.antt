@@ -230,7 +230,8 @@ module _ (local : Local) (w : Whole) (f : Called local w) (c : IsCalled local w.
         Stand local f.shut s w.coming (units_at q f.tagged) (units_at q f.came) (w.begun && first_at q f.tagged) (f.refs q) x → ⊥
     asked_one q x e h = grind (arith, not_request, first_is, units_at, head, no_list)
 
-    asked_by_place : (q : ℕ) (o : Option Connection) → slice_get w.judge.connections q ≡ o → units_at q f.came ≡ u ∷ units_at q head.later → ⊥
+    asked_by_place : (q : ℕ) (o : Option Connection) → slice_get w.judge.connections q ≡ o →
+        units_at q f.came ≡ u ∷ units_at q head.later → ⊥
     asked_by_place q None e h = no_list u (units_at q head.later) (units_at q f.came) h (f.beyond q e).1
     asked_by_place q (Some x) e h = asked_one q x h (f.stands q x e)
 

@@ -1,5 +1,5 @@
--- A DC of a whole calling end passes that answers a DR which closed nothing: it changes no connection at the judge, or it is that of a line.
--- For the law on a whole end.
+-- A DC of a whole calling end passes that answers a DR which closed nothing: it changes no connection at the judge, or it is that of a
+-- line. For the law on a whole end.
 use Rattle.osi_fair.proofs.Vocabulary.{arith, [], Bool, false, if◌then◌else◌, inl, inr, List, None, Option, refl, Some, subst, sym, true, ℕ}
 use Rattle.osi_fair.proofs.Vocabulary.{◌∷◌, ◌≡◌, eqb-true, not, position, slice_get, ◌||◌, disconnected, Value, Class, Two, Zero, Local}
 use Rattle.osi_fair.proofs.Vocabulary.{first_failed, is_due, is_named, at_found, at_place, none_told, one_told, Outcome, route, route_in}

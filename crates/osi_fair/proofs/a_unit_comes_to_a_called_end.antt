@@ -427,7 +427,8 @@ module _ (local : Local) (w : Whole) (f : Called local w) (apart : AreApart w.ju
       positive = f.positive;
       linked_at = f.linked_at;
       shut_given = f.shut_given;
-      strays = strays_more f.shut w.end f.refs f.home w.judge.course.disconnects.strays (takes Left v w.judge).state.course.disconnects.strays
+      strays = strays_more f.shut w.end f.refs f.home w.judge.course.disconnects.strays
+          (takes Left v w.judge).state.course.disconnects.strays
           f.tagged lasts.strays
           f.strays;
       last = f.last;

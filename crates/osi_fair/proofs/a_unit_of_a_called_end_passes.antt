@@ -217,7 +217,8 @@ module _ (local : Local) (w : Whole) (f : Called local w) (apart : AreApart w.ju
           (λ same. let top = f.tops i e there in let less = above_cc.0 in absurd (omega arith))))
 
       cc_kept : found_on Right w.judge c u ≡ Kept
-      cc_kept = grind (arith, u_cc, judged_so, unused, two_right local h.x h.size h.r c w.judge.course h.selected h.asked.offer h.asked.right)
+      cc_kept = grind (arith, u_cc, judged_so, unused, two_right local h.x h.size h.r c w.judge.course h.selected h.asked.offer
+          h.asked.right)
 
       cc_route : route Right w.judge.course u ≡ Named n
       cc_route = grind (arith, u_cc)
@@ -445,7 +446,8 @@ module _ (local : Local) (w : Whole) (f : Called local w) (apart : AreApart w.ju
       lost_named = grind (arith, keeps, name_so, eq-eqb)
 
       lost_takes : takes Right u w.judge ≡ one_told Right p c u w.judge
-      lost_takes = takes_so u w.judge g.peer p c right (grind (arith, route_two_so, lost_put, keeps)) (name_first g.peer p c at lost_named) at
+      lost_takes = takes_so u w.judge g.peer p c right (grind (arith, route_two_so, lost_put, keeps))
+          (name_first g.peer p c at lost_named) at
 
       lost_conns : (takes Right u w.judge).state.connections ≡ set cs p c
       lost_conns = grind (arith, lost_takes, set)

@@ -88,7 +88,8 @@ data Kind (c : Connection) : Type 0 where
 
 module _ (local : Local) (w : Whole) (f : Followed local w) (sane : IsSane w.judge) (peers : AreNamedApart Right w.judge.connections)
     (newer : Newer w) (v : Value) (ranges : HasFieldsInRange v) (t : Told v w.judge (takes Right v w.judge))
-    (calm_after : IsCalm (takes Right v w.judge).state.course) (none_zero : (takes Right v w.judge).state.course.class ≡ Some Zero → ⊥) where
+    (calm_after : IsCalm (takes Right v w.judge).state.course)
+    (none_zero : (takes Right v w.judge).state.course.class ≡ Some Zero → ⊥) where
   abbrev cs : List Connection
   cs = w.judge.connections
 
@@ -515,7 +516,8 @@ module _ (local : Local) (w : Whole) (f : Followed local w) (sane : IsSane w.jud
     owned = all_so (λ u. IsOwned w.judge u) (λ u. IsOwned (takes Right v w.judge).state u) w.put owned_to f.owned;
     linked = λ lasts r peer link h. let (k, two) = f.linked lasts r peer link h in (tracked_to r k, two);
     answers = all_add (λ u. IsAnswer after.judge.course.loose after.judge.connections w.end u) w.coming v
-        (all_so (λ u. IsAnswer w.judge.course.loose cs w.end u) (λ u. IsAnswer after.judge.course.loose after.judge.connections w.end u) w.coming
+        (all_so (λ u. IsAnswer w.judge.course.loose cs w.end u) (λ u. IsAnswer after.judge.course.loose after.judge.connections w.end u)
+          w.coming
         (λ u h m x e lasts why.
         let (k, row) = h m x e lasts (grind (arith, why_before, lasts_passing (passing Right v) w.judge)) in
         (tracked_to m k, row)) f.answers) (answers_to next_so);
@@ -536,4 +538,5 @@ module _ (local : Local) (w : Whole) (f : Followed local w) (sane : IsSane w.jud
   }
 
   pub other_peers : AreNamedApart Right (takes Right v w.judge).state.connections
-  other_peers = subst (AreNamedApart Right) (sym conns) (right_set w.judge sane.apart peers t.q c t.at v (class_for Right w.judge.course) live)
+  other_peers = subst (AreNamedApart Right) (sym conns) (right_set w.judge sane.apart peers t.q c t.at v
+      (class_for Right w.judge.course) live)

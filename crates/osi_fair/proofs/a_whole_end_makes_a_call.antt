@@ -169,7 +169,8 @@ module _ (local : Local) (w : Whole) (f : Followed local w) (sane : IsSane w.jud
         };
     owned = all_join (λ v. IsOwned w.judge v) w.put units f.owned (units_owned w.judge w.end n units puts);
     linked = λ lasts m q l h. linked_by m q l (m == n) refl h;
-    answers = all_so (λ v. IsAnswer w.judge.course.loose cs w.end v) (λ v. IsAnswer w.judge.course.loose cs t v) w.coming answer_now f.answers;
+    answers = all_so (λ v. IsAnswer w.judge.course.loose cs w.end v) (λ v. IsAnswer w.judge.course.loose cs t v) w.coming answer_now
+        f.answers;
     requests = all_join (λ v. (x : Connect) → v ≡ request x → IsAsking local t w.coming x) w.put units
         (all_so (λ v. (x : Connect) → v ≡ request x → IsAsking local w.end w.coming x) (λ v. (x : Connect) → v ≡ request x →
         IsAsking local t w.coming x) w.put

@@ -330,7 +330,8 @@ module _ (local : Local) (w : Whole) (f : Followed local w) (sane : IsSane w.jud
   by_row : (o : Option Live) → value_at n s.live ≡ o → Followed local after
   by_row o here = grind (arith, at_gone, at_asked, at_linked, at_closing)
 
-pub end_takes : (local : Local) (w : Whole) → Followed local w → IsSane w.judge → AreNamedApart Right w.judge.connections → OffersTwo w.end →
+pub end_takes : (local : Local) (w : Whole) → Followed local w → IsSane w.judge → AreNamedApart Right w.judge.connections →
+    OffersTwo w.end →
     IsOrderly w.end → w.end.local ≡ local → w.end.ended ≡ None → (u : Value) (later : List Value) → w.coming ≡ u ∷ later →
     (react u w.end).ended ≡ None → (IsDr u → (m : ℕ) → closed_by u ≡ Some m → IsLive w.end m ⊎ (w.judge.course.disconnects.strays ≡ true)) →
     SelectsTwo w.end u →

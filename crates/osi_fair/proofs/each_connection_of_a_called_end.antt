@@ -368,7 +368,8 @@ module _ (local : Local) (w : Whole) (f : Called local w) where
     stands = λ p c at.
         let (x, was, is) = after_map (begins d) w.judge.connections p c at in
         subst (λ (e : Connection). StandsBy b p e) (sym is) (k p x (f.stands p x was));
-    beyond = λ p none. f.beyond p (map_none d (slice_get w.judge.connections p) (sym (slice_get-map (begins d) w.judge.connections p) ∙ none));
+    beyond = λ p none. f.beyond p (map_none d (slice_get w.judge.connections p)
+        (sym (slice_get-map (begins d) w.judge.connections p) ∙ none));
     homes = f.homes;
     positive = f.positive;
     linked_at = f.linked_at;

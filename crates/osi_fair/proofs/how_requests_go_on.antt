@@ -20,8 +20,8 @@ use Rattle.osi_fair.proofs.how_a_calling_end_asks.{one_calls, over_calls, over_t
 use Rattle.osi_fair.proofs.what_holds_of_one_item.{HoldsOfEach}
 use Rattle.osi_fair.proofs.what_lasts_at_the_judge.{lasts_passing}
 use Rattle.osi_fair.proofs.while_no_class_is_selected.{AllOver, Answer, Asked, GoesOn, IsDc, IsDone, IsRefusal, Waits, asks_passed}
-use Rattle.osi_fair.proofs.while_no_class_is_selected.{calm_judge, confirmed_judge, confirms, done_begins, done_takes, over_begins, over_still}
-use Rattle.osi_fair.proofs.while_no_class_is_selected.{refuses, says_nothing, waits_begins, waits_takes}
+use Rattle.osi_fair.proofs.while_no_class_is_selected.{calm_judge, confirmed_judge, confirms, done_begins, done_takes, over_begins}
+use Rattle.osi_fair.proofs.while_no_class_is_selected.{over_still, refuses, says_nothing, waits_begins, waits_takes}
 use Rattle.osi_fair.proofs.a_dr_for_what_is_gone.{after_arriving, after_calling}
 
 abbrev AreDcs : List Value → Type 0

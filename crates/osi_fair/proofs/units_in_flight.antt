@@ -1,5 +1,5 @@
--- Units that an end has put and that have not passed the judge, and units that have passed it and that the end has not taken.
--- For the laws on a line: DTs and AKs are counted, and their numbers are those counts modulo 128.
+-- Units that an end has put and that have not passed, and units that have passed and that the end has not taken. For the laws
+-- on a line: DTs and AKs are counted, and their numbers are those counts modulo 128.
 use Rattle.osi_fair.proofs.Vocabulary.{[], arith, Bool, false, length, List, sym, true, ℕ, ◌%◌, ◌++◌, ◌+◌, ◌<◌, ◌∙◌, ◌∷◌, ◌≡◌, ◌≤◌}
 use Rattle.osi_fair.proofs.Vocabulary.{acknowledge, data2, disconnect, disconnected, Value, longest_tsdu, is_closing, is_open, Phase}
 use Rattle.osi_fair.proofs.Vocabulary.{request, confirm, data0, error}

@@ -7,7 +7,8 @@ use Rattle.osi_fair.proofs.Vocabulary.{is_closing, Connection, Left, Half, Acts,
 use Rattle.osi_fair.proofs.Vocabulary.{units_put, units_taken}
 use Rattle.osi_fair.proofs.what_a_link_does.{HaveRoom, room_more, gives_so, takes_so}
 use Rattle.osi_fair.proofs.units_in_flight.{Puts, puts_more, comes_within}
-use Rattle.osi_fair.proofs.what_holds_of_a_line.{Tally, Ordered, linked, PutsAt, TakesAt, Holds, bounds_of, came_of, shut, ends_so, as_judged}
+use Rattle.osi_fair.proofs.what_holds_of_a_line.{Tally, Ordered, linked, PutsAt, TakesAt, Holds, bounds_of, came_of, shut, ends_so}
+use Rattle.osi_fair.proofs.what_holds_of_a_line.{as_judged}
 
 -- a call of the link that makes what was put this
 pub record Moved (r peer limit : ℕ) (noted : ℕ) (judge : Connection) (put coming : List Value) (link : Standing) : Type 0 where
@@ -17,7 +18,8 @@ pub record Moved (r peer limit : ℕ) (noted : ℕ) (judge : Connection) (put co
   pub puts : PutsAt r peer limit tally judge.left judge.right put (Some link)
   pub takes : linked limit tally judge.right coming link
 
-module _ (r peer limit : ℕ) (x : Tally) (noted : ℕ) (judge : Connection) (o : Ordered x noted) (t : as_judged r peer limit x noted judge) where
+module _ (r peer limit : ℕ) (x : Tally) (noted : ℕ) (judge : Connection) (o : Ordered x noted)
+    (t : as_judged r peer limit x noted judge) where
   -- ---- a DT
 
   puts_data : (put coming : List Value) (link after : Standing) (number : ℕ) (end : Bool) (octets : List ℕ)
@@ -104,7 +106,8 @@ module _ (r peer limit : ℕ) (x : Tally) (noted : ℕ) (judge : Connection) (o 
       PutsAt r peer limit x judge.left judge.right put (Some link) → taken link (acknowledge credit destination number) ≡ Ok after →
       Moved r peer limit noted judge (put ++ []) coming after
   takes_ack put coming link after credit destination number h p e =
-      grind (arith, comes_within, puts_same, takes_so link after h.flow (acknowledge credit destination number) h.is e, came_of x judge.right)
+      grind (arith, comes_within, puts_same, takes_so link after h.flow (acknowledge credit destination number) h.is e,
+        came_of x judge.right)
 
   hands_out : (put coming : List Value) (link after : Standing) (tsdu : List ℕ) → linked limit x judge.right coming link →
       PutsAt r peer limit x judge.left judge.right put (Some link) → Hands (Some tsdu) link after →

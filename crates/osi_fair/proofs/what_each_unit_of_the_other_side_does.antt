@@ -98,7 +98,8 @@ module _ (r peer limit : ℕ) (x : Tally) (noted : ℕ) (judge : Connection) (pu
   closed_goes : (unit : Value) (f : Finding) → is_open judge.right.phase ≡ false → Leaves f → Goes unit (after_finding Right f unit judge)
   closed_goes unit f closed leaves = grind (arith, goes_same, never, left_after f unit judge leaves)
 
-  data_by : (destination number : ℕ) (end : Bool) (user : List ℕ) (f : Finding) → Fate (is_open judge.right.phase) (is_tellable Right judge) f →
+  data_by : (destination number : ℕ) (end : Bool) (user : List ℕ) (f : Finding) →
+      Fate (is_open judge.right.phase) (is_tellable Right judge) f →
       reach_of (Some Two) f ≢ reach.Everything → (after_finding Right f (data2 destination number end user) judge).is_judged ≡ true →
       Goes (data2 destination number end user) (after_finding Right f (data2 destination number end user) judge)
   data_by destination number end user f (inl e) some judged = absurd (some e)
@@ -122,7 +123,8 @@ module _ (r peer limit : ℕ) (x : Tally) (noted : ℕ) (judge : Connection) (pu
       (grind (arith, ack_goes, and_first, and_second))
 
   -- a DR
-  disconnect_goes : (destination source reason : ℕ) (user : List ℕ) → is_open judge.right.phase ≡ true → is_silent judge.right.phase ≡ false →
+  disconnect_goes : (destination source reason : ℕ) (user : List ℕ) → is_open judge.right.phase ≡ true →
+      is_silent judge.right.phase ≡ false →
       Goes (disconnect destination source reason user) (sent_on Right (disconnect destination source reason user) judge)
   disconnect_goes destination source reason user live silent = grind (arith, ends_goes)
 
@@ -155,7 +157,8 @@ judged_finding : (course : Course) (in_use : Bool) (judge : Connection) (unit : 
 judged_finding course in_use judge unit judged = ap (λ (b : Bool). if b then found Right course in_use judge unit else NotJudged) judged
 
 pub passes_other_holds : (r peer : ℕ) (course : Course) (in_use : Bool) (unit : Value) (old new : Line) →
-    Acts Left r peer (passes_other course in_use unit) old new → old.judge.is_judged ≡ true → new.judge.is_judged ≡ true → Holds r peer old →
+    Acts Left r peer (passes_other course in_use unit) old new → old.judge.is_judged ≡ true → new.judge.is_judged ≡ true →
+      Holds r peer old →
     Holds r peer new
 passes_other_holds r peer course in_use unit old new (range, named, some, new_is) was judged h =
     let f = found Right course in_use old.judge unit in
@@ -164,7 +167,8 @@ passes_other_holds r peer course in_use unit old new (range, named, some, new_is
     let after : new ≡ record old { judge = after_finding Right f unit old.judge; coming = old.coming ++ unit ∷ [] } = new_is
     ∙ ap (λ (g : Finding). record old { judge = after_finding Right g unit old.judge; coming = old.coming ++ unit ∷ [] }) is in
     let still : (after_finding Right f unit old.judge).is_judged ≡ true = sym (ap (λ (l : Line). l.judge.is_judged) after) ∙ judged in
-    let w = unit_goes r peer h.limit h.tally h.noted old.judge old.put old.coming old.link h.ordered h.judges h.puts h.takes course in_use unit
+    let w = unit_goes r peer h.limit h.tally h.noted old.judge old.put old.coming old.link h.ordered h.judges h.puts h.takes course in_use
+        unit
     range named stop still in
     subst (λ (l : Line). Holds r peer l) (sym after)
     (record {

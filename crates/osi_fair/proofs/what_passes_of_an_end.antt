@@ -34,7 +34,8 @@ begun_same half end octets h = grind arith
 open_if : (put : List Value) (phase : Phase) → is_open phase ≡ true → OpenIfAny put phase
 open_if put phase h = grind arith
 
-module _ (r peer limit : ℕ) (x : Tally) (noted : ℕ) (judge : Connection) (o : Ordered x noted) (t : as_judged r peer limit x noted judge) where
+module _ (r peer limit : ℕ) (x : Tally) (noted : ℕ) (judge : Connection) (o : Ordered x noted)
+    (t : as_judged r peer limit x noted judge) where
   -- a DT
   data_puts : (link : Option Standing) (destination number : ℕ) (end : Bool) (user : List ℕ) (units : List Value) →
       PutsAt r peer limit x judge.left judge.right (data2 destination number end user ∷ units) link →
@@ -90,7 +91,8 @@ is_kept course in_use judge unit judged h = grind (arith, h.kept course in_use)
 
 pub first_is : (judge : Connection) (put units : List Value) (unit : Value) → put ≡ unit ∷ units → IsRightNow Left judge put →
     IsRight Left judge unit
-first_is judge put units unit e h = let f : IsRightNow Left judge (unit ∷ units) = subst (λ (l : List Value). IsRightNow Left judge l) e h in f
+first_is judge put units unit e h = let f : IsRightNow Left judge (unit ∷ units) =
+    subst (λ (l : List Value). IsRightNow Left judge l) e h in f
 
 theirs_same : (unit : Value) (judge : Connection) → (sent_on Left unit judge).right ≡ judge.right
 theirs_same unit judge = grind arith

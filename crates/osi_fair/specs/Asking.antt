@@ -1,4 +1,4 @@
--- The CRs of a calling end: those that its carrier writes, and those that have passed a judge.
+-- The CRs of a calling end: those that its carrier writes, and those that have passed.
 use Rattle.std.specs.Prelude.{ℕ, ◌+◌, List, [], ◌∷◌, ◌++◌}
 use Rattle.std.specs.List.{flat_map}
 use Rattle.osi_tpdu.specs.Value.{Value, request}

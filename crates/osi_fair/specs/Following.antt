@@ -29,7 +29,7 @@ pub record Follows (r peer : ℕ) (taken units : List Value) (old new : State) :
 
 -- ---- the rules of transport
 
--- The judge judges this side in class 2, and the connection at this place is the first that this reference names.
+-- This side is judged in class 2, and the connection at this place is the first that this reference names.
 pub record IsAtPlace (d : Direction) (s : Traffic) (n place : ℕ) (c : AsJudged) : Type 0 where
   pub judged : is_stopped d s.course ≡ false
   pub class : class_for d s.course ≡ Some Two

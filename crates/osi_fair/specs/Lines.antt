@@ -1,4 +1,4 @@
--- One open connection of class 2 as an end has it, and as a judge sees it that is anywhere between the two ends.
+-- One open connection of class 2, as an end has it and as a judge knows it that is fed what passes anywhere between the two ends.
 use Rattle.std.specs.Prelude.{◌≡◌, ◌≢◌, ◌≤◌, ℕ, Bool, true, false, List, [], ◌∷◌, ◌++◌, length, Option, Some, None, IfSome, if◌then◌else◌}
 use Rattle.osi_tpdu.specs.Value.{Value, disconnect, disconnected, destination_of, HasFieldsInRange}
 use Rattle.osi_class.specs.Limits.{longest_tsdu}
@@ -22,13 +22,13 @@ use Rattle.osi_rules.specs.Traffic.{connection_after, found}
 pub record Line : Type 0 where
   -- the link of the end; none once the end has closed the connection
   pub link : Option Standing
-  -- the units that the end has put and that have not passed the judge, the oldest first; each goes in a packet of its own
+  -- the units that the end has put and that have not passed, the oldest first; each goes in a packet of its own
   pub put : List Value
   -- the first of them has begun to pass
   pub begun : Bool
   -- what the judge knows of the connection
   pub judge : Connection
-  -- the units of the other side that have passed the judge and that the end has not taken, the oldest first
+  -- the units of the other side that have passed and that the end has not taken, the oldest first
   pub coming : List Value
 
 -- ---- what happens
@@ -116,9 +116,9 @@ ActsAlong d r peer old (act ∷ acts) new = (mid : Line) × Acts d r peer act ol
 abbrev pub opened_half : (reference credit : ℕ) → Half
 opened_half reference credit = record { phase = Open; reference = reference; next = 0; awaited = 0; credit = credit; begun = 0 }
 
--- The CC has passed the judge, and nothing after it. The link is that of an end which knows the CC, although a calling end may
--- take it later: until then the link does nothing. `size`: the most octets of a unit; `window`: the credit that the end
--- gave the other side; `credit`: what it got.
+-- The CC has passed, and nothing after it. The link is that of an end which knows the CC, although a calling end may take it
+-- later: until then the link does nothing. `size`: the most octets of a unit; `window`: the credit that the end gave the other
+-- side; `credit`: what it got.
 pub record IsOpened (d : Direction) (r peer : ℕ) (line : Line) : Type 0 where
   pub size : ℕ
   pub window : ℕ

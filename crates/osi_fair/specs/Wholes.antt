@@ -1,5 +1,5 @@
--- A whole end of a byte connection with a judge anywhere between it and the other side: its carrier, what the rules of transport
--- know, and the units between them. `Lines` has the same of one connection.
+-- A whole end of a byte connection, and a judge that is fed what passes anywhere between it and the other side: the carrier of
+-- the end, what the rules of transport know, and the units in flight. `Lines` has the same of one connection.
 use Rattle.std.specs.Prelude.{◌≡◌, ◌≢◌, ◌≤◌, Bool, true, false, List, [], ◌∷◌, ◌++◌, length, None}
 use Rattle.std.specs.List.{AllByRecursion}
 use Rattle.osi_tpdu.specs.Value.{Value, HasFieldsInRange}
@@ -17,13 +17,13 @@ use Rattle.osi_fair.specs.Putting.{put_by, put_for}
 pub record Whole : Type 0 where
   -- the carrier of the end
   pub end : State
-  -- the units that it has put and that have not passed the judge, the oldest first; each goes in a packet of its own
+  -- the units that it has put and that have not passed, the oldest first; each goes in a packet of its own
   pub put : List Value
   -- the first of them has begun to pass
   pub begun : Bool
   -- what the judge knows
   pub judge : Traffic
-  -- the units of the other side that have passed the judge and that the end has not taken, the oldest first
+  -- the units of the other side that have passed and that the end has not taken, the oldest first
   pub coming : List Value
 
 pub data Event : Type 0 where

@@ -177,10 +177,10 @@ pub fn a_connection_keeps_its_place()
         is_named (other d) n c ≡ true → (own d c).reference ≡ n }
 {}
 
-/// The CRs of a calling end have new references. Take any run of its carrier, any calls and any octets, and a judge that its CRs
-/// pass in order. The next of them gives a reference that the end uses for no connection at the judge (`unused`), and that none
-/// has which is not judged any more (`judged`). So once class 2 is known to be the class, this CR is right, or there are more
-/// connections than the rules look at (`right`).
+/// The CRs of a calling end have new references. Take any run of its carrier, any calls and any octets. Its CRs pass in order.
+/// The next of them gives a reference that the end uses for no connection at the judge (`unused`), and that none has which is
+/// not judged any more (`judged`). So once class 2 is known to be the class, this CR is right, or there are more connections
+/// than the rules look at (`right`).
 pub fn a_new_reference_is_not_in_use()
     ensures unused { (local : Local) (acts : List Done) (passings : List Passing) (r : ℕ) (rest : List ℕ) →
         all_written acts (fresh_state true local) ≡ all_asked passings ++ r ∷ rest →
@@ -262,8 +262,8 @@ pub fn what_a_carrier_puts()
 {}
 
 /// No CR of a calling end is blamed. Take any run of a whole end from its beginning (`specs/Wholes`): any calls of its user,
-/// whatever units the other side sends, memory that runs out at any time, and a judge anywhere between the two ends. Then each of
-/// its CRs is right as it passes, or there are more connections than the rules look at, as long as this side is judged.
+/// whatever units the other side sends, memory that runs out at any time, and a capture taken anywhere between the two ends. Then
+/// each of its CRs is right as it passes, or there are more connections than the rules look at, as long as this side is judged.
 pub fn no_request_is_blamed()
     ensures { (local : Local) (events : List Event) (w : Whole) (c : Connect) (rest : List Value) →
         HappenAlong Direction.Left (begin true local) events w → w.begun ≡ true → w.put ≡ request c ∷ rest →
@@ -285,12 +285,12 @@ pub fn a_dr_for_what_is_gone_closed_nothing()
 {}
 
 /// A whole calling end is fair. Take any run of it, whatever classes it offers: any calls of its user, whatever units the other side
-/// sends, however many connections, memory that runs out at any time, and a judge anywhere between the two ends. Then each unit of
-/// the end that passes is right: a CR, and what it puts on an open connection of either class; or it is a CR and there are more
-/// connections than the rules look at; or it is not judged, since a DR has passed that closed nothing, or a connection has lost its
-/// judgement because the other side broke a rule. This holds as long as the other side is judged, however many connections have lost
-/// their judgement (`judged`). In class 0 each unit of the end is right as long as the end itself is judged: also after the other side
-/// has broken a rule, and isn't judged any more (`in_class_0`).
+/// sends, however many connections, memory that runs out at any time, and a capture taken anywhere between the two ends. Then each
+/// unit of the end that passes is right: a CR, and what it puts on an open connection of either class; or it is a CR and there are
+/// more connections than the rules look at; or it is not judged, since a DR has passed that closed nothing, or a connection has lost
+/// its judgement because the other side broke a rule. This holds as long as the other side is judged, however many connections have
+/// lost their judgement (`judged`). In class 0 each unit of the end is right as long as the end itself is judged: also after the other
+/// side has broken a rule, and isn't judged any more (`in_class_0`).
 pub fn a_calling_end_is_fair()
     ensures judged { (local : Local) (events : List Event) (w : Whole) (unit : Value) (rest : List Value) →
         HappenAlong Direction.Left (begin true local) events w → w.begun ≡ true → w.put ≡ unit ∷ rest →
@@ -306,11 +306,11 @@ pub fn a_calling_end_is_fair()
 {}
 
 /// A whole called end is fair. Take any run of it, whatever classes it offers: any calls of its user, whatever units the other side
-/// sends, however many connections, memory that runs out at any time, and a judge anywhere between the two ends. Then each unit of
-/// the end that passes is right: a CC, a DR that refuses a CR, and what it puts on an open connection of either class; or it is not
-/// judged, since a DR has passed that closed nothing, or a connection has lost its judgement because the other side broke a rule.
-/// This holds as long as the other side is judged, however many connections have lost their judgement (`judged`). In class 0 each unit of
-/// the end is right as long as the end itself is judged: also after the other side has broken a rule, and isn't judged any more
+/// sends, however many connections, memory that runs out at any time, and a capture taken anywhere between the two ends. Then each unit
+/// of the end that passes is right: a CC, a DR that refuses a CR, and what it puts on an open connection of either class; or it is not
+/// judged, since a DR has passed that closed nothing, or a connection has lost its judgement because the other side broke a rule. This
+/// holds as long as the other side is judged, however many connections have lost their judgement (`judged`). In class 0 each unit of the
+/// end is right as long as the end itself is judged: also after the other side has broken a rule, and isn't judged any more
 /// (`in_class_0`).
 pub fn a_called_end_is_fair()
     ensures judged { (local : Local) (events : List Event) (w : Whole) (unit : Value) (rest : List Value) →
@@ -326,14 +326,14 @@ pub fn a_called_end_is_fair()
 {}
 
 /// What a carrier does with a packet, with or without enough memory, is events of its whole end: the units of the packet arrive
-/// (`packet`), or it can't be read, and the carrier ends (`fault`); and so is a call of its user (`call`). What these events
-/// put is what the carrier writes. It is so too as the carrier is fed a piece of its stream, however that is cut and with or
-/// without enough memory: the units arrive that the packets have which the piece completes, or the carrier ends; unless it ends,
-/// it holds the rest for the next piece (`piece`, over `specs/Pieces`). And it is so of any calls one after the other: the carrier
-/// is fed pieces of a stream, reports events, hands over octets to send, and its user makes calls (`run`, over `specs/Calls`). The
-/// units of the packets in the stream arrive, in order, and what the events put is all that the carrier writes in these calls. Its
-/// whole end keeps the events that were reported and the octets that were sent: no effect depends on these. So the laws on whole
-/// ends speak of every run of a carrier, with a judge at work between any two of its calls.
+/// (`packet`), or it can't be read, and the carrier ends (`fault`); and so is a call of its user (`call`). What these events put
+/// is what the carrier writes. It is so too as the carrier is fed a piece of its stream, however that is cut and with or without
+/// enough memory: the units arrive that the packets have which the piece completes, or the carrier ends; unless it ends, it holds
+/// the rest for the next piece (`piece`, over `specs/Pieces`). And it is so of any calls one after the other: the carrier is fed
+/// pieces of a stream, reports events, hands over octets to send, and its user makes calls (`run`, over `specs/Calls`). The units
+/// of the packets in the stream arrive, in order, and what the events put is all that the carrier writes in these calls. Its whole
+/// end keeps the events that were reported and the octets that were sent: no effect depends on these. So the laws on whole ends
+/// speak of every run of a carrier, with units that pass between any two of its calls.
 pub fn a_packet_is_events()
     ensures packet { (d : Direction) (octets : List ℕ) (units later : List Value) (w : Whole) (new : State) → Takes w.end octets new →
         units_of octets ≡ Ok units → w.coming ≡ units ++ later → Becomes d w new }

@@ -1,13 +1,12 @@
 //! Why the rules of transport never blame an end of this library, in class 2 and in class 0. The crate has definitions and laws;
 //! nothing here runs.
 //!
-//! It joins two crates that know nothing of each other: `osi_rules`, which says of each transport unit that passes a judge
-//! whether its sender was right to send it, and `osi_carrier`, which is the transport of an end. `osi_honest` has the like for
-//! sessions.
+//! It joins two crates that know nothing of each other: `osi_rules`, which says of each transport unit that passes whether its
+//! sender was right to send it, and `osi_carrier`, which is the transport of an end. `osi_honest` has the like for sessions.
 //!
-//! The difficulty is time. An end acts on what it has taken, and the rules judge it by what has passed. A judge is anywhere between
-//! the two ends, so a unit of the end passes later than the end put it, and a unit of the other side passes earlier than the end
-//! takes it.
+//! The difficulty is time. An end acts on what it has taken, and the rules judge it by what has passed. A capture may be taken
+//! anywhere between the two ends, so a unit of the end passes later than the end put it, and a unit of the other side passes
+//! earlier than the end takes it.
 //!
 //! - **What was right stays right** if more of the other side has passed: [`laws::what_was_right_stays_right`]. `IsLater`
 //!   (`specs/Later`) says what "more" is: later numbers, an AK that acknowledges DTs that were sent, an edge that has not moved

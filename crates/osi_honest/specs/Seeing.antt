@@ -1,4 +1,4 @@
--- What a judge anywhere between the two ends shows of one of them, by the turns of this end.
+-- What a capture shows of an end, by the turns of this end. It may be taken anywhere between the two ends.
 use Rattle.std.specs.Prelude.{◌≡◌, ◌<◌, ◌≤◌, ◌+◌, ℕ, Bool, List, [], ◌∷◌, ◌++◌, length}
 use Rattle.std.specs.List.{flat_map}
 use Rattle.osi_class.specs.declared.terms.Local.{Local}

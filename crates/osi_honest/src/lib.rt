@@ -11,7 +11,7 @@
 //! - A `History` (`specs/Talking.antt`) is what a session took and sent, each TSDU with how many it had taken by then. It
 //!   is a run of the session as `osi_side` has it, also if a capture shows less of it:
 //!   [`laws::what_a_session_said_is_explained`], [`laws::what_a_capture_shows_is_a_run`].
-//! - What a judge between the two ends shows of such an end is `IsSeen` (`specs/Seeing.antt`).
+//! - What a capture shows of such an end, taken anywhere between the two ends, is `IsSeen` (`specs/Seeing.antt`).
 //!
 //! In class 2 many connections share the byte connection, and an end keeps data back until it has credit. So what a session sends
 //! is counted at the link of its connection:

@@ -47,8 +47,8 @@ pub use Rattle.osi_judge.specs.Blaming.{IsEarliest, IsFirstOf, IsFoundOf, IsMark
 pub use Rattle.osi_judge.specs.Blaming.{IsToBlameAt, IsToldOf, NobodyElse, NobodyElseIs, NobodyIs, SomeIs, SomeoneIs}
 pub use Rattle.osi_judge.specs.Blaming.IsBreakOf.{of_session, of_transport}
 pub use Rattle.osi_judge.specs.Bounds.{IsWithin}
-pub use Rattle.osi_judge.specs.Connections.{Joined, Sessions, adds, adds_all, adds_if, all_begin, asked, asked_at, changed, has_number, meant}
-pub use Rattle.osi_judge.specs.Connections.{kept_on, numbered, packet_begins, placed, source_of, spoken, taken, taken_at}
+pub use Rattle.osi_judge.specs.Connections.{Joined, Sessions, adds, adds_all, adds_if, all_begin, asked, asked_at, changed, has_number}
+pub use Rattle.osi_judge.specs.Connections.{meant, kept_on, numbered, packet_begins, placed, source_of, spoken, taken, taken_at}
 pub use Rattle.osi_judge.specs.Courses.{Course, Moment, applied, breaks, cause_of, changes, earlier, first_after, first_by, first_of, halts}
 pub use Rattle.osi_judge.specs.Courses.{is_break, marked, marks_of, moment_of, moved, noted_by, number_at, number_of, packet_by, reached}
 pub use Rattle.osi_judge.specs.Courses.{unit_passes, units_pass, unread, unread_mark, unread_moment, way_of}

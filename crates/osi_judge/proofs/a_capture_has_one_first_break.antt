@@ -1,10 +1,10 @@
 -- A judge tells the first break of all, and a capture has one: for the law of the first break, and for the call that tells it.
 use Rattle.std.proofs.Common.{arith}
-use Rattle.osi_judge.proofs.Vocabulary.{◌≡◌, ◌∙◌, ◌⊎◌, inl, inr, refl, sym, ap, subst, ℕ, zero, suc, List, [], ◌∷◌, ◌++◌, Option, Some, None}
-use Rattle.osi_judge.proofs.Vocabulary.{slice_get, Direction, First, Judge, Proceedings, IsToBlame, IsBlameless, AreBlameless, AreBlamelessBut}
-use Rattle.osi_judge.proofs.Vocabulary.{NobodyIs, IsToBlameAt, IsSpotless, AreSpotless, IsBreakOf, BreaksFirst, IsFirstOf, IsEarliest}
-use Rattle.osi_judge.proofs.Vocabulary.{IsStill, of_transport, of_session, Joined, Sessions, Moment, HoldsBy, HoldsState, IsJudged, first_in}
-use Rattle.osi_judge.proofs.Vocabulary.{Streamed, State}
+use Rattle.osi_judge.proofs.Vocabulary.{◌≡◌, ◌∙◌, ◌⊎◌, inl, inr, refl, sym, ap, subst, ℕ, zero, suc, List, [], ◌∷◌, ◌++◌, Option, Some}
+use Rattle.osi_judge.proofs.Vocabulary.{None, slice_get, Direction, First, Judge, Proceedings, IsToBlame, IsBlameless, AreBlameless}
+use Rattle.osi_judge.proofs.Vocabulary.{AreBlamelessBut, NobodyIs, IsToBlameAt, IsSpotless, AreSpotless, IsBreakOf, BreaksFirst, IsFirstOf}
+use Rattle.osi_judge.proofs.Vocabulary.{IsEarliest, IsStill, of_transport, of_session, Joined, Sessions, Moment, HoldsBy, HoldsState}
+use Rattle.osi_judge.proofs.Vocabulary.{IsJudged, first_in, Streamed, State}
 use Rattle.osi_judge.proofs.who_is_to_blame.{not_both}
 
 -- ---- what a judge tells

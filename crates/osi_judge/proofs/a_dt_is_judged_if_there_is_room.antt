@@ -1,9 +1,9 @@
 -- A DT is added to its connection if there is room for it, and if not, nothing of the connection is judged any more.
 -- For the function that adds a DT to a connection.
-use Rattle.osi_judge.proofs.Vocabulary.{◌≡◌, ◌∙◌, ℕ, ◌+◌, Bool, true, false, List, length, arith, once, room_in, Seen, Direction, Left, Right, Connection}
-use Rattle.osi_judge.proofs.Vocabulary.{Over, seen_called, seen_calling}
-use Rattle.osi_judge.proofs.Vocabulary.{offset_of, Joined, adds, adds_all, kept_on, line_in, lined, other, spoken, HoldsBoth, HoldsJoined, IsHeard}
-use Rattle.osi_judge.proofs.Vocabulary.{Lined, is_unheard, Spoken, kept_of, fits, is_over}
+use Rattle.osi_judge.proofs.Vocabulary.{◌≡◌, ◌∙◌, ℕ, ◌+◌, Bool, true, false, List, length, arith, once, room_in, Seen, Direction, Left}
+use Rattle.osi_judge.proofs.Vocabulary.{Right, Connection, Over, seen_called, seen_calling}
+use Rattle.osi_judge.proofs.Vocabulary.{offset_of, Joined, adds, adds_all, kept_on, line_in, lined, other, spoken, HoldsBoth, HoldsJoined}
+use Rattle.osi_judge.proofs.Vocabulary.{IsHeard, Lined, is_unheard, Spoken, kept_of, fits, is_over}
 use Rattle.osi_judge.specs.Lines.{kept_by}
 use Rattle.osi_judge.proofs.what_is_kept_of_a_side_is_what_passed.{begun_holds, flipped, heard_by_other}
 

@@ -1,9 +1,9 @@
 -- What a judge holds of both directions and of what has passed: for the calls of a judge.
 use Rattle.std.proofs.Common.{arith}
 use Rattle.osi_judge.proofs.Vocabulary.{◌≡◌, ◌∙◌, refl, sym, ℕ, Bool, true, false, if◌then◌else◌, List, [], ◌∷◌, length, Capture, of, other}
-use Rattle.osi_judge.proofs.Vocabulary.{piece, Direction, Left, Right, Judge, Proceedings, HoldsPart, HoldsOpen, HoldsStream, HoldsNow, HoldsBy}
-use Rattle.osi_judge.proofs.Vocabulary.{due_if, HoldsState, IsFed, unfed, fed, Streamed, counted, gathered, State, stream_of, with_stream}
-use Rattle.osi_judge.proofs.Vocabulary.{begun, octet_passes, after, comes_to}
+use Rattle.osi_judge.proofs.Vocabulary.{piece, Direction, Left, Right, Judge, Proceedings, HoldsPart, HoldsOpen, HoldsStream, HoldsNow}
+use Rattle.osi_judge.proofs.Vocabulary.{HoldsBy, due_if, HoldsState, IsFed, unfed, fed, Streamed, counted, gathered, State, stream_of}
+use Rattle.osi_judge.proofs.Vocabulary.{with_stream, begun, octet_passes, after, comes_to}
 use Rattle.osi_judge.proofs.a_piece_comes_to_what_its_octets_do.{looks, after_more}
 
 -- ---- the other direction

@@ -2,9 +2,10 @@
 -- for the connections of a byte connection.
 use Rattle.osi_judge.proofs.Vocabulary.{◌≡◌, ℕ, zero, suc, ◌+◌, ◌<◌, ◌≤◌, List, [], ◌∷◌, ◌++◌, length, take, drop, map, get_or, set, arith}
 use Rattle.std.specs.Borrow.{Bor}
-use Rattle.osi_judge.proofs.Vocabulary.{refl, ap, sym, Option, Some, None, add-one, cond, ◌==◌, find-append, find, option_map, option_or, subst, number_of}
-use Rattle.osi_judge.proofs.Vocabulary.{slice_get, Connection, Past, Found, Room, Joined, Sessions, asked, changed, placed, has_number}
-use Rattle.osi_judge.proofs.Vocabulary.{option_copied, numbered, HoldsJoined, HoldsFound, HoldAll, HoldsPast, HoldsPastOf, AllPast, Placed, Replaced}
+use Rattle.osi_judge.proofs.Vocabulary.{refl, ap, sym, Option, Some, None, add-one, cond, ◌==◌, find-append, find, option_map, option_or}
+use Rattle.osi_judge.proofs.Vocabulary.{subst, number_of, slice_get, Connection, Past, Found, Room, Joined, Sessions, asked, changed}
+use Rattle.osi_judge.proofs.Vocabulary.{placed, has_number, option_copied, numbered, HoldsJoined, HoldsFound, HoldAll, HoldsPast}
+use Rattle.osi_judge.proofs.Vocabulary.{HoldsPastOf, AllPast, Placed, Replaced}
 
 pub all_length : (cs : List Connection) (js : List Joined) → HoldAll cs js → length cs ≡ length js
 all_length [] [] h = refl

@@ -1,10 +1,10 @@
 -- What passes later comes after the moments that have passed: for the law of the first break.
 use Rattle.std.proofs.Common.{arith}
 use Rattle.osi_judge.proofs.Vocabulary.{◌≡◌, ◌∙◌, refl, sym, ap, ℕ, Bool, true, false, if◌then◌else◌, List, [], ◌∷◌, ◌++◌, append_assoc}
-use Rattle.osi_judge.proofs.Vocabulary.{length, Result, Ok, Err, append-nil, units_of, Value, TpduFault, Capture, of, Direction, Left, Right}
-use Rattle.osi_judge.proofs.Vocabulary.{Cause, Course, Moment, way_of, cause_of, marked, moved, unit_passes, units_pass, unread_mark}
-use Rattle.osi_judge.proofs.Vocabulary.{unread_moment, packet_by, Front, partial, faulty, whole, front_of, Streamed, counted, gathered, State}
-use Rattle.osi_judge.proofs.Vocabulary.{stream_of, with_stream, looked_at, begun, octet_passes, begin, after, comes_to}
+use Rattle.osi_judge.proofs.Vocabulary.{length, Result, Ok, Err, append-nil, units_of, Value, TpduFault, Capture, of, Direction, Left}
+use Rattle.osi_judge.proofs.Vocabulary.{Right, Cause, Course, Moment, way_of, cause_of, marked, moved, unit_passes, units_pass, unread_mark}
+use Rattle.osi_judge.proofs.Vocabulary.{unread_moment, packet_by, Front, partial, faulty, whole, front_of, Streamed, counted, gathered}
+use Rattle.osi_judge.proofs.Vocabulary.{State, stream_of, with_stream, looked_at, begun, octet_passes, begin, after, comes_to}
 use Rattle.osi_rules.specs.Traffic as traffic
 use Rattle.osi_judge.proofs.a_piece_comes_to_what_its_octets_do.{looks, after_more}
 use Rattle.osi_judge.proofs.no_break_was_before_the_first.{noted_past, marked_past}

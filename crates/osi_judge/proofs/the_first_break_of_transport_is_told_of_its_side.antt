@@ -1,11 +1,11 @@
 -- The break of transport that is told as the first is the one that is told of its side: for the law of the first break.
 use Rattle.std.proofs.Common.{arith}
-use Rattle.osi_judge.proofs.Vocabulary.{◌≡◌, refl, ℕ, Bool, if◌then◌else◌, is_some, List, [], ◌∷◌, length, Option, Some, None, Result, Reach}
-use Rattle.osi_judge.proofs.Vocabulary.{Told, Value, TpduFault, Capture, of, Direction, Left, Right, Cause, First, Transport, Mark, Marks}
-use Rattle.osi_judge.proofs.Vocabulary.{Judge, Proceedings, IsMarkOf, Course, way_of, marks_of, marked, moved, reached, changes, breaks, halts}
-use Rattle.osi_judge.proofs.Vocabulary.{earlier, first_of, first_by, noted_by, unit_passes, units_pass, unread, unread_mark, unread_moment}
-use Rattle.osi_judge.proofs.Vocabulary.{packet_by, IsFirst, HoldsBy, HoldsState, IsJudged, first_in, Streamed, counted, gathered, State}
-use Rattle.osi_judge.proofs.Vocabulary.{stream_of, with_stream, begun, octet_passes, begin, after, comes_to}
+use Rattle.osi_judge.proofs.Vocabulary.{◌≡◌, refl, ℕ, Bool, if◌then◌else◌, is_some, List, [], ◌∷◌, length, Option, Some, None, Result}
+use Rattle.osi_judge.proofs.Vocabulary.{Reach, Told, Value, TpduFault, Capture, of, Direction, Left, Right, Cause, First, Transport, Mark}
+use Rattle.osi_judge.proofs.Vocabulary.{Marks, Judge, Proceedings, IsMarkOf, Course, way_of, marks_of, marked, moved, reached, changes}
+use Rattle.osi_judge.proofs.Vocabulary.{breaks, halts, earlier, first_of, first_by, noted_by, unit_passes, units_pass, unread, unread_mark}
+use Rattle.osi_judge.proofs.Vocabulary.{unread_moment, packet_by, IsFirst, HoldsBy, HoldsState, IsJudged, first_in, Streamed, counted}
+use Rattle.osi_judge.proofs.Vocabulary.{gathered, State, stream_of, with_stream, begun, octet_passes, begin, after, comes_to}
 use Rattle.osi_judge.proofs.Vocabulary.{begin_within, Room}
 use Rattle.osi_rules.specs.Traffic as traffic
 use Rattle.osi_judge.proofs.a_piece_comes_to_what_its_octets_do.{looks}

@@ -1,8 +1,8 @@
 -- What a judge keeps of the session of a side is what is known of it, once it has heard all that the other side said; and by that it is
 -- found. For what is told of a connection in the crates above.
-use Rattle.osi_judge.proofs.Vocabulary.{subst, List, ℕ, arith, Direction, Connection, Joined, HoldsJoined, IsHeard, IsSession, line_in, Seen}
-use Rattle.osi_judge.proofs.Vocabulary.{other, spoken, told, heard, begin_of, IsFound, HasRoom, Observed, found_as, room_as, found_of_tsdus}
-use Rattle.osi_judge.proofs.Vocabulary.{room_of_tsdus}
+use Rattle.osi_judge.proofs.Vocabulary.{subst, List, ℕ, arith, Direction, Connection, Joined, HoldsJoined, IsHeard, IsSession, line_in}
+use Rattle.osi_judge.proofs.Vocabulary.{Seen, other, spoken, told, heard, begin_of, IsFound, HasRoom, Observed, found_as, room_as}
+use Rattle.osi_judge.proofs.Vocabulary.{found_of_tsdus, room_of_tsdus}
 use Rattle.osi_judge.proofs.what_is_kept_of_a_side_is_what_passed.{heard_at}
 
 pub session_at : (d : Direction) (c : Connection) (j : Joined) → HoldsJoined c j → IsHeard c → IsSession d j (line_in d c).side

@@ -1,7 +1,7 @@
 -- Of a whole packet the units are still to pass that have not passed, each once: for the functions that let a packet pass.
 use Rattle.osi_judge.proofs.Vocabulary.{◌≡◌, ◌∙◌, sym, ap, subst, ℕ, zero, suc, ◌+◌, ◌-◌, ◌<◌, List, [], ◌∷◌, drop, arith, add-one, Option}
-use Rattle.osi_judge.proofs.Vocabulary.{None, drop-nil, units_left, GivesUnit, Value, Units, Tpdu, Direction, Proceedings, Course, units_pass}
-use Rattle.osi_judge.proofs.Vocabulary.{HoldsCourse, IsDue, unit_due, Comes, OwesUnits, OwesLast}
+use Rattle.osi_judge.proofs.Vocabulary.{None, drop-nil, units_left, GivesUnit, Value, Units, Tpdu, Direction, Proceedings, Course}
+use Rattle.osi_judge.proofs.Vocabulary.{units_pass, HoldsCourse, IsDue, unit_due, Comes, OwesUnits, OwesLast}
 
 -- ---- the first units are left out
 

@@ -1,11 +1,12 @@
 -- What is kept of a connection is no more than its bound, and a TSDU takes no room with the outline of the one before it: for the law
 -- that says so.
 use Rattle.osi_judge.proofs.Vocabulary.{◌≡◌, subst, ℕ, zero, suc, ◌+◌, ◌≤◌, Bool, if◌then◌else◌, cond, arith, List, [], ◌∷◌, ◌++◌}
-use Rattle.osi_judge.proofs.Vocabulary.{length, map, set, Option, Some, leb-true, length-append, map-append, find, slice_get, Meaning, Value}
-use Rattle.osi_judge.proofs.Vocabulary.{Capture, Direction, Room, All, Octets, Over, kept_of, kept_on, IsWithin, Joined, Sessions}
+use Rattle.osi_judge.proofs.Vocabulary.{length, map, set, Option, Some, leb-true, length-append, map-append, find, slice_get, Meaning}
+use Rattle.osi_judge.proofs.Vocabulary.{Value, Capture, Direction, Room, All, Octets, Over, kept_of, kept_on, IsWithin, Joined, Sessions}
 use Rattle.osi_judge.proofs.Vocabulary.{packet_begins, adds, adds_all, has_number, numbered, taken, taken_at, after, begin_within, heard}
-use Rattle.osi_judge.proofs.Vocabulary.{true, false, ap, append_assoc, is_same, once, once_behind, room_in, outline, outlines, outline_no_longer, added}
-use Rattle.osi_judge.proofs.Vocabulary.{Spoken, begun_octets, asked, changed, meant, placed, source_of, refl, None, offset_of}
+use Rattle.osi_judge.proofs.Vocabulary.{true, false, ap, append_assoc, is_same, once, once_behind, room_in, outline, outlines}
+use Rattle.osi_judge.proofs.Vocabulary.{outline_no_longer, added, Spoken, begun_octets, asked, changed, meant, placed, source_of, refl}
+use Rattle.osi_judge.proofs.Vocabulary.{None, offset_of}
 use Rattle.osi_rules.specs.declared.findings.Meaning.TheVariants as meaning
 use Rattle.osi_judge.specs.Connections.{count, user_of}
 use Rattle.osi_judge.specs.Lines.{kept_by}

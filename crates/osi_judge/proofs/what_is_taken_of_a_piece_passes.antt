@@ -2,9 +2,9 @@
 -- none but the last completes it; or no packet begins with the first, and the others are counted.
 use Rattle.osi_judge.proofs.Vocabulary.{◌≡◌, ◌∙◌, refl, sym, ap, ℕ, ◌+◌, ◌<◌, ◌≤◌, ◌==◌, ◌⊎◌, Bool, true, false, if◌then◌else◌, List, []}
 use Rattle.osi_judge.proofs.Vocabulary.{◌∷◌, ◌++◌, length, take, arith, le-ltb, lt-ltb, length-append, BadVersion, BadLength, of, piece}
-use Rattle.osi_judge.proofs.Vocabulary.{Direction, BadPacket, Proceedings, Course, unread, HoldsAll, IsPart, HoldsOpen, HoldsStream, partial}
-use Rattle.osi_judge.proofs.Vocabulary.{faulty, whole, front_of, Streamed, counted, gathered, ended, are_none, begins_at, wanted, used_of}
-use Rattle.osi_judge.proofs.Vocabulary.{State, stream_of, with_stream, looked_at, begun, octets_pass, octet_passes, after, GoesOn}
+use Rattle.osi_judge.proofs.Vocabulary.{Direction, BadPacket, Proceedings, Course, unread, HoldsAll, IsPart, HoldsOpen, HoldsStream}
+use Rattle.osi_judge.proofs.Vocabulary.{partial, faulty, whole, front_of, Streamed, counted, gathered, ended, are_none, begins_at, wanted}
+use Rattle.osi_judge.proofs.Vocabulary.{used_of, State, stream_of, with_stream, looked_at, begun, octets_pass, octet_passes, after, GoesOn}
 use Rattle.osi_judge.specs.Courses.{packet_begins}
 use Rattle.osi_judge.proofs.a_piece_comes_to_what_its_octets_do.{piece_passes, counted_more, offset_more, same_stream}
 use Rattle.osi_judge.proofs.a_piece_comes_to_what_its_octets_do.{stream_again, looks, going}

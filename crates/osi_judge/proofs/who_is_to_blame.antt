@@ -2,10 +2,11 @@
 -- For the functions that give a unit to a connection, and for those that look whether a session broke the protocol.
 use Rattle.osi_judge.proofs.Vocabulary.{◌≡◌, refl, sym, subst, ℕ, zero, suc, ◌<◌, ◌≤◌, inl, Bool, true, false, List, [], ◌∷◌, ◌++◌}
 use Rattle.osi_judge.proofs.Vocabulary.{length, map, take, get_or, set, Option, Some, None, arith, take-append-le, slice_get, Seen, other}
-use Rattle.osi_judge.proofs.Vocabulary.{done, IsFound, IsFew, HasRoom, broke_session, begin_of, Direction, Left, Right, Finding, Kept, Broke}
-use Rattle.osi_judge.proofs.Vocabulary.{TooMany, Strays, never_strays, no_crowd, Connection, IsFoundOf, IsBlameless, IsToBlame, AreBlameless}
-use Rattle.osi_judge.proofs.Vocabulary.{AreBlamelessBut, NobodyIs, NobodyElseIs, Blames, Room, Joined, Sessions, asked, asked_at, placed}
-use Rattle.osi_judge.proofs.Vocabulary.{changed, packet_begins, all_begin, line_in, HoldsJoined, HoldAll, IsSession, Observed}
+use Rattle.osi_judge.proofs.Vocabulary.{done, IsFound, IsFew, HasRoom, broke_session, begin_of, Direction, Left, Right, Finding, Kept}
+use Rattle.osi_judge.proofs.Vocabulary.{Broke, TooMany, Strays, never_strays, no_crowd, Connection, IsFoundOf, IsBlameless, IsToBlame}
+use Rattle.osi_judge.proofs.Vocabulary.{AreBlameless, AreBlamelessBut, NobodyIs, NobodyElseIs, Blames, Room, Joined, Sessions, asked}
+use Rattle.osi_judge.proofs.Vocabulary.{asked_at, placed, changed, packet_begins, all_begin, line_in, HoldsJoined, HoldAll, IsSession}
+use Rattle.osi_judge.proofs.Vocabulary.{Observed}
 use Rattle.osi_side.specs.Explaining.{Told}
 use Rattle.osi_side.specs.Kept.{kept}
 use Rattle.osi_side.specs.declared.findings.Finding.TheVariants.{Left as Astray}

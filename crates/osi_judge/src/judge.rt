@@ -1,4 +1,4 @@
-//! A byte connection, judged while it passes.
+//! The judge of a byte connection, which is fed what passes.
 
 ghost use Rattle.std.specs.Prelude.{◌≡◌, ◌≤◌, ◌<◌, None, Some, true, [], length, take};
 ghost use Rattle.std.specs.Prelude.{if◌then◌else◌, IfOk, IsOk, OnOk, OnErr};
@@ -26,8 +26,8 @@ use crate::streams::{Shape, Stream, look};
 use osi_side::{Direction, Reading};
 use std::alloc::{AllocError, Global};
 
-/// A byte connection, judged while it passes (RFC 1006, X.224 classes 0 and 2, X.225). You feed it pieces of both
-/// directions in the order in which they passed.
+/// The judge of a byte connection (RFC 1006, X.224 classes 0 and 2, X.225). You feed it pieces of both directions
+/// in the order in which they passed.
 #[derive(Drop)]
 pub struct Judge {
     left: Stream,

@@ -18,12 +18,12 @@ use osi_blameless::laws::{
 };
 use osi_report::laws::{a_text_has_one_finding, what_is_printed_of_a_side_is_found};
 
-/// Nothing that `osi judge` prints says of an end of this library that it broke the protocol or left the profile. Take any run of an
-/// end from its beginning: any pieces of whatever octets arrive, any calls of its user, any shortage of memory, any number of
-/// connections, in either class. Take any capture of it, at a judge anywhere between it and the other side ([`IsSeen`]), and any text of
-/// this capture, which says which side called: a called end is right (`called`), a calling one left (`calling`). Then no line of the
-/// judgement of this text blames the end: no line of a connection or of its transport, none that says after which packet a side is not
-/// judged, and not the last line ([`BlameNowhere`]).
+/// Nothing that `osi judge` prints says of an end of this library that it broke the protocol or left the profile. Take any run of an end
+/// from its beginning: any pieces of whatever octets arrive, any calls of its user, any shortage of memory, any number of connections,
+/// in either class. Take any capture of it, from any place between it and the other side ([`IsSeen`]), and any text of this capture,
+/// which says which side called: a called end is right (`called`), a calling one left (`calling`). Then no line of the judgement of this
+/// text blames the end: no line of a connection or of its transport, none that says after which packet a side is not judged, and not the
+/// last line ([`BlameNowhere`]).
 ///
 /// It is assumed that fewer than 2^64 units have passed: a judge counts no further.
 ///

@@ -1,8 +1,8 @@
 -- The text of a report is added one part after the other, and one connection after the other: for the functions of `report_texts`.
-use Rattle.osi_report.proofs.Vocabulary.{◌≡◌, ◌∙◌, refl, sym, ap, ℕ, ◌+◌, Bool, true, false, ◌&&◌, ◌||◌, List, [], ◌∷◌, ◌++◌, length, arith, subst}
-use Rattle.osi_report.proofs.Vocabulary.{flat_map, append-nil, append_assoc, flat_map-append, Sessions, numbered, count, State, offset_of}
-use Rattle.osi_report.proofs.Vocabulary.{Pair, Last, Transport, AddsPair, AddsPairs, AddsReport, Report, IsLast, all_keep, carried}
-use Rattle.osi_report.proofs.Vocabulary.{pair_lines, read_lines, transport_lines, last_line, last_status, some_over, Together}
+use Rattle.osi_report.proofs.Vocabulary.{◌≡◌, ◌∙◌, refl, sym, ap, ℕ, ◌+◌, Bool, true, false, ◌&&◌, ◌||◌, List, [], ◌∷◌, ◌++◌, length, arith}
+use Rattle.osi_report.proofs.Vocabulary.{subst, flat_map, append-nil, append_assoc, flat_map-append, Sessions, numbered, count, State}
+use Rattle.osi_report.proofs.Vocabulary.{offset_of, Pair, Last, Transport, AddsPair, AddsPairs, AddsReport, Report, IsLast, all_keep}
+use Rattle.osi_report.proofs.Vocabulary.{carried, pair_lines, read_lines, transport_lines, last_line, last_status, some_over, Together}
 use Rattle.osi_report.specs.Adding.{AddsUnjudged}
 use Rattle.osi_report.specs.Quiet.{lines_if, unjudged_text}
 use Rattle.osi_side.specs.declared.directions.Direction.TheVariants as side
@@ -30,9 +30,11 @@ place_of : (n m : ℕ) → m ≡ n → n ≡ 0 + m
 place_of n m e = omega (arith, e)
 
 pub more_added : (judged : Bool) (ss : Sessions) (n : ℕ) (old mid new : List ℕ) (some all : Together) (p : Pair)
-    → AddsPairs judged ss n old mid some → AddsPair judged (numbered n ss) mid new p → all.keeps ≡ (some.keeps && p.keeps) → all.over ≡ (some.over || p.over)
+    → AddsPairs judged ss n old mid some → AddsPair judged (numbered n ss) mid new p → all.keeps ≡ (some.keeps && p.keeps) →
+      all.over ≡ (some.over || p.over)
     → AddsPairs judged ss (n + 1) old new all
-more_added judged ss n old mid new some all p h k e o = let place : n ≡ 0 + length h.pairs = place_of n (length h.pairs) h.as_many in record {
+more_added judged ss n old mid new some all p h k e o = let place : n ≡ 0 + length h.pairs = place_of n (length h.pairs) h.as_many in
+    record {
   pairs = h.pairs ++ p ∷ [];
   as_many = one_longer h.pairs p ∙ ap (λ (z : ℕ). z + 1) h.as_many;
   each = grind (arith, more_pairs);

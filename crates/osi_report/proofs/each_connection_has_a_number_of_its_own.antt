@@ -7,8 +7,8 @@ use Rattle.osi_report.proofs.Vocabulary.{Reach, units_of, Value, TpduFault, offs
 use Rattle.osi_report.proofs.Vocabulary.{BadPacket, Mark, IsToBlame, SomeIs, SomeoneIs, Joined, Sessions, count, numbered, has_number}
 use Rattle.osi_report.proofs.Vocabulary.{asked_at, changed, packet_begins, meant, taken, taken_at, source_of, Course, marked, reached}
 use Rattle.osi_report.proofs.Vocabulary.{noted_by, unit_passes, units_pass, unread, packet_by, Front, partial, faulty, whole}
-use Rattle.osi_report.proofs.Vocabulary.{Streamed, counted, gathered, State, stream_of, with_stream, looked_at, begun, octet_passes, begin_within}
-use Rattle.osi_report.proofs.Vocabulary.{after, looks, subst, Room, IsReached}
+use Rattle.osi_report.proofs.Vocabulary.{Streamed, counted, gathered, State, stream_of, with_stream, looked_at, begun, octet_passes}
+use Rattle.osi_report.proofs.Vocabulary.{begin_within, after, looks, subst, Room, IsReached}
 use Rattle.osi_rules.specs.declared.findings.Meaning.TheVariants as meaning
 use Rattle.osi_rules.specs.declared.findings.Told.{Told}
 use Rattle.osi_side.specs.declared.directions.Direction.TheVariants.{Left}

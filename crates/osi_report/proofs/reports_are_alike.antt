@@ -26,11 +26,13 @@ kept_alike : (w v : Observed) (s t : Stands) → w.heard ≡ v.heard → w.membe
     → StandsBehind v.heard (foremost v.members) t → s ≡ t
 kept_alike w v s t u m h k = grind (arith, one_stands)
 
-place_alike : (d : Direction) (j : Joined) (w v : Observed) (i l o p : ℕ) (b e : Violation) → i ≡ l → Strayed d j w i o b → Strayed d j v l p e
+place_alike : (d : Direction) (j : Joined) (w v : Observed) (i l o p : ℕ) (b e : Violation) → i ≡ l → Strayed d j w i o b →
+    Strayed d j v l p e
     → o ≡ p
 place_alike d j w v i l o p b e same h k = some_same o p (sym h.place ∙ ap (place_in (spoken d j).said) same ∙ k.place)
 
-one_told : (d : Direction) (j : Joined) (w v : Observed) (t u : Outcome) → IsSession d j w → IsSession d j v → SaysSo d j w t → SaysSo d j v u
+one_told : (d : Direction) (j : Joined) (w v : Observed) (t u : Outcome) → IsSession d j w → IsSession d j v → SaysSo d j w t →
+    SaysSo d j v u
     → t ≡ u
 one_told d j w v (what.Kept n s p) (what.Kept m r q) h k (f, a, x) (g, b, y) =
     let one = same_session d j w v h k in

@@ -44,7 +44,8 @@ to_blame d j w h b =
     }
 
 -- and only of such a session a line says so
-says_blame : (d : Direction) (j : Joined) (w : Observed) (t : Outcome) → SaysSo d j w t → blames_told t ≡ true → broke_session w.finding ≡ true
+says_blame : (d : Direction) (j : Joined) (w : Observed) (t : Outcome) → SaysSo d j w t → blames_told t ≡ true →
+    broke_session w.finding ≡ true
 says_blame d j w (what.Kept n s owes) h b = absurd (cc)
 says_blame d j w (what.Broke o by) (i, f, x) b = grind arith
 says_blame d j w (what.Left o by) (i, f, x) b = grind arith

@@ -113,7 +113,8 @@ counted_by side.Left s h = grind arith
 counted_by side.Right s h = grind arith
 
 -- nothing is judged then, and nobody is blamed
-quiet_by : (d : Direction) (empty late : Bool) (s : State) (lines : List ℕ) (status : ℕ) → Judges (unjudged_by empty true late) s lines status
+quiet_by : (d : Direction) (empty late : Bool) (s : State) (lines : List ℕ) (status : ℕ) →
+    Judges (unjudged_by empty true late) s lines status
     → BlameNowhere d lines × (status ≡ 1)
 quiet_by d true late s lines status h = (not_judged _ _ h.pairs NoOctets h.told refl, h.answered)
 quiet_by d false late s lines status h = (not_judged _ _ h.pairs OneDirection h.told refl, h.answered)
@@ -123,7 +124,8 @@ text_of : (left right : Transport) (ps : List Pair) (why : Last) → unjudged_te
 unfolding unjudged_text
 text_of left right ps why = refl
 
-ends_by : (empty late : Bool) (s : State) (lines : List ℕ) (status : ℕ) → empty ≡ false → Judges (unjudged_by empty true late) s lines status
+ends_by : (empty late : Bool) (s : State) (lines : List ℕ) (status : ℕ) → empty ≡ false →
+    Judges (unjudged_by empty true late) s lines status
     → (front : List ℕ) × (lines ≡ front ++ last_line OneDirection)
 ends_by true late s lines status e h = absurd (cc)
 ends_by false late s lines status e h = (_, h.told ∙ text_of _ _ h.pairs OneDirection)

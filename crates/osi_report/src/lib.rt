@@ -1,4 +1,4 @@
-//! The text of a dispute: what was found of the two sides of a capture, as lines.
+//! The text of a judgement: what was found of the two sides of a capture, as lines.
 //!
 //! Two systems don't understand each other, each maker blames the other, and there is a capture of both
 //! directions. [`judge_text`] reads it as a text of hexadecimal digits, in which each line is a piece of one

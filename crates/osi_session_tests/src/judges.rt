@@ -1,4 +1,4 @@
-//! Judges on a byte connection: what a bound counts, and what is read and kept if memory is ample.
+//! Judges of byte connections: what a bound counts, and what is read and kept if memory is ample.
 
 use crate::checks::{Checks, OUT_OF_MEMORY};
 use crate::sessions::cut;

@@ -16,10 +16,11 @@
 //! a judgement or a transcript, and `osi_witness` finds the script of a capture. Its own part is small:
 //!
 //! - `job` is the `Job` that the words name.
-//! - `show`, `judge`, `judge_live`, `pair` and `witness` each do one, with any reader and any writer: they read all of the input,
-//!   make the whole text, and then write it; `judge_live` writes each finding before, as soon as it is certain. So nothing is written for an input that can't be read, and a write that fails leaves a
-//!   prefix of the text. The input has at most 16,777,216 octets; that of `judge` may have any length, and is judged while
-//!   it is read. `do_job` (`doing.rt`) does the one that a `Job` names.
+//! - `show`, `judge`, `judge_live`, `pair` and `witness` each do one, with any reader and any writer: they read all of
+//!   the input, make the whole text, and then write it; `judge_live` writes each finding before, as soon as it is
+//!   certain. So nothing is written for an input that can't be read, and a write that fails leaves a prefix of the
+//!   text. The input has at most 16,777,216 octets; that of `judge` may have any length, and is judged while it is
+//!   read. `do_job` (`doing.rt`) does the one that a `Job` names.
 //! - `Ending` (`endings.rt`) is the status and the line on standard error.
 //!
 //! The contract of `do_job` says that exactly the text of its job is written, and for each fault when it comes and

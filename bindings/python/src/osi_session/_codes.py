@@ -262,8 +262,8 @@ class Spelling(IntEnum):
     OCTETS_LEFT_OVER = 7
 
 
-class TapSide(IntEnum):
-    """A side of a byte connection that a ``Judge`` watches."""
+class JudgedSide(IntEnum):
+    """A side of a byte connection that a ``Judge`` is fed."""
 
     LEFT = 0
     """The side that opened the byte connection, and sent the CR."""
@@ -271,9 +271,9 @@ class TapSide(IntEnum):
     """The other side."""
 
     @property
-    def other(self) -> TapSide:
+    def other(self) -> JudgedSide:
         """The other side."""
-        return TapSide(1 - self)
+        return JudgedSide(1 - self)
 
 
 class VerdictKind(IntEnum):

@@ -5,7 +5,7 @@ import inspect
 from typing import Any, Dict, Tuple, Type
 
 from . import _calls, _verdicts
-from ._codes import Direction, Phase, Reason, TapSide
+from ._codes import Direction, JudgedSide, Phase, Reason
 from ._library import IndicationOfC, VerdictOfC, native
 from ._values import KINDS, Data, Ending, Fed, Indication, Minor, MinorConfirmed
 
@@ -58,7 +58,7 @@ def _chosen() -> Tuple[Type[Any], Type[Any]]:
             "phases": [Phase(number) for number in range(len(Phase))],
             "received": Direction.RECEIVED,
             "sent": Direction.SENT,
-            "tap_side": TapSide,
+            "judged_side": JudgedSide,
             "verdict": _verdict,
         },
         _texts(_calls.Calls),

@@ -8,7 +8,7 @@ from dataclasses import dataclass
 from typing import Any, Iterator, Optional
 
 from ._calls import address_of, checked, octets_of
-from ._codes import Code, Rule, Said, TapSide, VerdictKind
+from ._codes import Code, JudgedSide, Rule, Said, VerdictKind
 from ._library import NO_CONNECTION, VERDICT_TEXT, JudgeSlot, Octets, VerdictOfC, library
 
 
@@ -16,7 +16,7 @@ from ._library import NO_CONNECTION, VERDICT_TEXT, JudgeSlot, Octets, VerdictOfC
 class Verdict:
     """A verdict on a side of a byte connection."""
 
-    side: TapSide
+    side: JudgedSide
     kind: VerdictKind
     said: Said
     """What was sent."""
@@ -24,7 +24,7 @@ class Verdict:
     """The rule that it broke."""
     offset: int
     """The offset of the packet, in the direction of ``by``, from 0. A TSDU has that of its last packet."""
-    by: TapSide
+    by: JudgedSide
     """The side that sent the packet. If nothing more of both sides is judged, it may be the other one."""
     connection: Optional[int]
     """The number of the connection in the order of the CRs, from 0; None if it is of no single one."""
@@ -37,12 +37,12 @@ class Verdict:
     def of(cls, shown: VerdictOfC) -> Verdict:
         """The verdict that the library shows."""
         return cls(
-            TapSide(shown.side),
+            JudgedSide(shown.side),
             VerdictKind(shown.kind),
             Said(shown.said),
             Rule(shown.rule),
             shown.offset,
-            TapSide(shown.by),
+            JudgedSide(shown.by),
             None if shown.connection == NO_CONNECTION else shown.connection,
             shown.left or None,
             shown.right or None,
@@ -78,12 +78,12 @@ class JudgeCalls:
         with self._lock:
             return int(function(byref(self._slot), *arguments))
 
-    def feed(self, side: TapSide, piece: bytes) -> Iterator[Verdict]:
-        """Feeds octets of a side, in the order in which they passed the tap, cut in any way, and returns an iterator
+    def feed(self, side: JudgedSide, piece: bytes) -> Iterator[Verdict]:
+        """Feeds octets of a side, in the order in which they passed, cut in any way, and returns an iterator
         over the verdicts that are certain by then. They are fed even if you don't iterate. SLOT_EMPTY, NO_MEMORY (the
         octets before have passed)."""
         octets, used = octets_of(piece), c_size_t()
-        checked(self._call(self._osi.osi_judge_feed, TapSide(side), address_of(octets), len(octets), byref(used)))
+        checked(self._call(self._osi.osi_judge_feed, JudgedSide(side), address_of(octets), len(octets), byref(used)))
         return self.verdicts()
 
     def verdicts(self) -> Iterator[Verdict]:
@@ -99,7 +99,7 @@ class JudgeCalls:
             checked(code)
             yield Verdict.of(shown)
 
-    def verdict(self, connection: Optional[int], side: TapSide) -> Verdict:
+    def verdict(self, connection: Optional[int], side: JudgedSide) -> Verdict:
         """The verdict by what has passed so far, whether it is certain or not: on the session of a side of the connection
         with this number; or, with None, on the transport of a side: its first break, else the packet after which nothing
         more of it is judged, else KEPT. SLOT_EMPTY, NO_MEMORY, NO_SUCH_CONNECTION (none has this number so far)."""
@@ -107,7 +107,7 @@ class JudgeCalls:
         if not 0 <= number <= NO_CONNECTION:
             raise ValueError(f"no number of a connection: {number}")
         shown = VerdictOfC()
-        checked(self._call(self._osi.osi_judge_verdict, number, TapSide(side), byref(shown)))
+        checked(self._call(self._osi.osi_judge_verdict, number, JudgedSide(side), byref(shown)))
         return Verdict.of(shown)
 
     def connections(self) -> int:

@@ -4,7 +4,7 @@
 use super::*;
 use crate::judges::{KINDS, RULES, SAID};
 use crate::{
-    Classes, Direction, Ending, Error, Indication, Phase, Refusal, Side, TapSide, Tokens, Trace, Units,
+    Classes, Direction, Ending, Error, Indication, JudgedSide, Phase, Refusal, Side, Tokens, Trace, Units,
 };
 use std::collections::BTreeMap;
 use std::env;
@@ -230,7 +230,7 @@ fn verdicts_are_the_numbers_of_c() {
     assert_eq!(rules.collect::<BTreeMap<_, _>>(), values(&of_c, "OSI_RULE_"));
     let said = SAID.iter().map(|said| (c_name("OSI_SAID_", &variant(said)), *said as u32));
     assert_eq!(said.collect::<BTreeMap<_, _>>(), values(&of_c, "OSI_SAID_"));
-    for side in [TapSide::Left, TapSide::Right] {
+    for side in [JudgedSide::Left, JudgedSide::Right] {
         assert_eq!(of_c[&c_name("OSI_", &variant(side))], [side as usize]);
     }
 }

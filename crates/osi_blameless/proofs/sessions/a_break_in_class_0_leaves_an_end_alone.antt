@@ -1,6 +1,5 @@
--- With a break of the other side in class 0, an end and a judge begin to go on as if it had not come, for the end takes no packet of it; and
--- so they go on, step by step.
--- For the law that no session of an end is to blame after such a break.
+-- With a break of the other side in class 0, an end and a judge begin to go on as if it had not come, for the end takes no packet of it;
+-- and so they go on, step by step. For the law that no session of an end is to blame after such a break.
 use Rattle.osi_blameless.proofs.Vocabulary.{◌≡◌, ◌∙◌, inl, inr, refl, sym, ap, subst, ℕ, ◌^◌, ◌<◌, ◌≤◌, Bool, true, false, List, [], ◌∷◌}
 use Rattle.osi_blameless.proofs.Vocabulary.{◌++◌, map, length, Some, arith, append_assoc, Result, Ok, AllByRecursion, append-nil, IsOctets}
 use Rattle.osi_blameless.proofs.Vocabulary.{units_of, Value, data0, written, TpduFault, Class, Zero, Local, other, Direction, is_applied}

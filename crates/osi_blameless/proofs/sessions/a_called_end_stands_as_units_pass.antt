@@ -3,9 +3,9 @@
 -- For the session of each connection of an end.
 use Rattle.osi_blameless.proofs.Vocabulary.{[], ap, false, length, List, refl, Some, subst, sym, true, ℕ, ◌++◌, ◌<◌, ◌^◌, ◌∙◌, ◌∷◌, ◌≡◌}
 use Rattle.osi_blameless.proofs.Vocabulary.{append-nil, AllByRecursion, slice_get, units_of, Value, Local, Left, Right, AllProper, Life}
-use Rattle.osi_blameless.proofs.Vocabulary.{stage_at, CanBeWritten, Continues, Deeds, then_did, units_in, units_read, all_units, Turn, Joined}
-use Rattle.osi_blameless.proofs.Vocabulary.{reference_of, spoken, units_pass, heard, Traffic as State, begins_other, begins_own, Joint}
-use Rattle.osi_blameless.proofs.Vocabulary.{passes_other, passes_own, Steps, TakesTurn, arith, packet_begins, IsOngoing}
+use Rattle.osi_blameless.proofs.Vocabulary.{stage_at, CanBeWritten, Continues, Deeds, then_did, units_in, units_read, all_units, Turn}
+use Rattle.osi_blameless.proofs.Vocabulary.{Joined, reference_of, spoken, units_pass, heard, Traffic as State, begins_other, begins_own}
+use Rattle.osi_blameless.proofs.Vocabulary.{Joint, passes_other, passes_own, Steps, TakesTurn, arith, packet_begins, IsOngoing}
 use Rattle.osi_honest.specs.Courses.{Course}
 use Rattle.osi_judge.specs.Courses.{Course as Passed}
 use Rattle.osi_blameless.proofs.small_facts_that_many_lemmas_use.{can_more as all_more}

@@ -1,6 +1,6 @@
--- Until class 2 is selected all connections of a called end stand at a judge: while it has selected no class, while its CC of class 0 waits,
--- and after that CC. So nobody of the end is to blame.
--- For the laws that no session of an end is blamed first, nor after a break of the other side.
+-- Until class 2 is selected all connections of a called end stand at a judge: while it has selected no class, while its CC of class 0
+-- waits, and after that CC. So nobody of the end is to blame. For the laws that no session of an end is blamed first, nor after a break of
+-- the other side.
 use Rattle.osi_blameless.proofs.Vocabulary.{arith, ◌≡◌, ◌∙◌, ◌⊎◌, inl, inr, refl, sym, ap, subst, ℕ, ◌^◌, ◌<◌, Bool, true, false}
 use Rattle.osi_blameless.proofs.Vocabulary.{if◌then◌else◌, List, [], ◌∷◌, ◌++◌, length, Some, None, slice_get, AllByRecursion, append-nil}
 use Rattle.osi_blameless.proofs.Vocabulary.{units_of, Connect, Value, confirm, Two, Zero, Local, Left, Right, AsSent, AsParts, CalledLaw}

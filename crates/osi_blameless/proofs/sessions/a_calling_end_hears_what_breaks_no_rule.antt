@@ -2,12 +2,12 @@
 -- and after any other unit what is left over at a connection that is judged stays; a CC gives a reference for which nothing waits. So all
 -- its connections stand after a packet of the other side; and nobody of the end is to blame at those that have lost their judgement.
 -- For all connections of an end and a judge.
-use Rattle.osi_blameless.proofs.Vocabulary.{arith, ◌≡◌, ◌∙◌, refl, sym, ap, subst, ℕ, Bool, true, false, List, [], ◌∷◌, ◌++◌, map, Some, None}
-use Rattle.osi_blameless.proofs.Vocabulary.{append_assoc, slice_get, AllByRecursion, append-nil, HasFieldsInRange, Value, acknowledge}
-use Rattle.osi_blameless.proofs.Vocabulary.{confirm, data0, data2, destination_of, disconnect, disconnected, error, Connect, request, written}
-use Rattle.osi_blameless.proofs.Vocabulary.{Zero, Local, Left, Right, Connection, is_applied, is_refused, State, class_for, is_stopped, takes}
-use Rattle.osi_blameless.proofs.Vocabulary.{Whole, next_joined, IsOwned, IsOngoing, Deeds, CanBeWritten, Joined, Sessions, Course}
-use Rattle.osi_blameless.proofs.Vocabulary.{unit_passes, units_pass, HaveSamePlaces}
+use Rattle.osi_blameless.proofs.Vocabulary.{arith, ◌≡◌, ◌∙◌, refl, sym, ap, subst, ℕ, Bool, true, false, List, [], ◌∷◌, ◌++◌, map, Some}
+use Rattle.osi_blameless.proofs.Vocabulary.{None, append_assoc, slice_get, AllByRecursion, append-nil, HasFieldsInRange, Value, acknowledge}
+use Rattle.osi_blameless.proofs.Vocabulary.{confirm, data0, data2, destination_of, disconnect, disconnected, error, Connect, request}
+use Rattle.osi_blameless.proofs.Vocabulary.{written, Zero, Local, Left, Right, Connection, is_applied, is_refused, State, class_for}
+use Rattle.osi_blameless.proofs.Vocabulary.{is_stopped, takes, Whole, next_joined, IsOwned, IsOngoing, Deeds, CanBeWritten, Joined}
+use Rattle.osi_blameless.proofs.Vocabulary.{Sessions, Course, unit_passes, units_pass, HaveSamePlaces}
 use Rattle.osi_rules.specs.declared.directions.Direction.TheVariants as way
 use Rattle.osi_rules.specs.declared.findings.Reach.TheVariants as reach
 use Rattle.osi_fair.specs.Wholes as wholes

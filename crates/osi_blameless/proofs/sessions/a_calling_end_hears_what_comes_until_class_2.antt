@@ -2,12 +2,12 @@
 -- class 0 DTs for its one connection. For the session of the connection of an end in class 0.
 use Rattle.osi_blameless.proofs.Vocabulary.{◌≡◌, ◌∙◌, refl, sym, ap, subst, ℕ, ◌<◌, ◌≤◌, Bool, true, false, List, [], ◌∷◌}
 use Rattle.osi_blameless.proofs.Vocabulary.{◌++◌, map, Option, Some, None, is_some, arith, append_assoc, ◌&&◌, ◌||◌, nat_le, AllByRecursion}
-use Rattle.osi_blameless.proofs.Vocabulary.{le-leb, lt-ltb, append-nil, Connect, HasFieldsInRange, Value, acknowledge, confirm, data0, data2}
-use Rattle.osi_blameless.proofs.Vocabulary.{disconnect, disconnected, error, request, written, unit_parts, Part, Class, Two, Zero, Local}
-use Rattle.osi_blameless.proofs.Vocabulary.{EndReason, Direction, Left, Right, Connection, Finding, TooMany, Reach, is_applied, is_refused}
-use Rattle.osi_blameless.proofs.Vocabulary.{State, class_for, class_of, is_stopped, stops_by, takes, stops_are_said, has_given, Whole}
-use Rattle.osi_blameless.proofs.Vocabulary.{zero_stays, Holds, holds_next, lasts_passing, Deeds, amid, past, stage_at, stage_over, Sessions}
-use Rattle.osi_blameless.proofs.Vocabulary.{taken, Course, unit_passes, units_pass, way_of}
+use Rattle.osi_blameless.proofs.Vocabulary.{le-leb, lt-ltb, append-nil, Connect, HasFieldsInRange, Value, acknowledge, confirm, data0}
+use Rattle.osi_blameless.proofs.Vocabulary.{data2, disconnect, disconnected, error, request, written, unit_parts, Part, Class, Two, Zero}
+use Rattle.osi_blameless.proofs.Vocabulary.{Local, EndReason, Direction, Left, Right, Connection, Finding, TooMany, Reach, is_applied}
+use Rattle.osi_blameless.proofs.Vocabulary.{is_refused, State, class_for, class_of, is_stopped, stops_by, takes, stops_are_said, has_given}
+use Rattle.osi_blameless.proofs.Vocabulary.{Whole, zero_stays, Holds, holds_next, lasts_passing, Deeds, amid, past, stage_at, stage_over}
+use Rattle.osi_blameless.proofs.Vocabulary.{Sessions, taken, Course, unit_passes, units_pass, way_of}
 use Rattle.osi_carrier.specs.State.{State as Carrier}
 use Rattle.osi_rules.specs.declared.directions.Direction.TheVariants as way
 use Rattle.osi_fair.specs.Naming.{unit as passing}

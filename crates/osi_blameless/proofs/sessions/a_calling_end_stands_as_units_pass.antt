@@ -1,12 +1,12 @@
--- A calling end of class 2 and a judge: what passes leaves all connections of the end standing, and so does a turn; and nobody of the end is
--- to blame at those that have lost their judgement.
--- For the session of each connection of an end.
-use Rattle.osi_blameless.proofs.Vocabulary.{[], ap, false, inl, inr, length, List, refl, Some, subst, sym, true, ℕ, ◌++◌, ◌<◌, ◌^◌, ◌∙◌, ◌∷◌}
-use Rattle.osi_blameless.proofs.Vocabulary.{◌≡◌, ◌⊎◌, append-nil, AllByRecursion, slice_get, units_fit, units_found, units_of, Value, Part}
-use Rattle.osi_blameless.proofs.Vocabulary.{Local, Left, Right, AllProper, early, Life, stage_at, CanBeWritten, Continues, Deeds, then_did}
-use Rattle.osi_blameless.proofs.Vocabulary.{units_in, units_read, all_units, Turn, Joined, reference_of, spoken, units_pass, heard, Tracked}
-use Rattle.osi_blameless.proofs.Vocabulary.{IsOngoing, begins_other, begins_own, Joint, passes_other, passes_own, Steps, TakesTurn, Direction}
-use Rattle.osi_blameless.proofs.Vocabulary.{takes, unit_passes, Connection, is_closing, HaveSamePlaces, arith, number_is, packet_begins}
+-- A calling end of class 2 and a judge: what passes leaves all connections of the end standing, and so does a turn; and nobody of the end
+-- is to blame at those that have lost their judgement. For the session of each connection of an end.
+use Rattle.osi_blameless.proofs.Vocabulary.{[], ap, false, inl, inr, length, List, refl, Some, subst, sym, true, ℕ, ◌++◌, ◌<◌, ◌^◌, ◌∙◌}
+use Rattle.osi_blameless.proofs.Vocabulary.{◌∷◌, ◌≡◌, ◌⊎◌, append-nil, AllByRecursion, slice_get, units_fit, units_found, units_of, Value}
+use Rattle.osi_blameless.proofs.Vocabulary.{Part, Local, Left, Right, AllProper, early, Life, stage_at, CanBeWritten, Continues, Deeds}
+use Rattle.osi_blameless.proofs.Vocabulary.{then_did, units_in, units_read, all_units, Turn, Joined, reference_of, spoken, units_pass}
+use Rattle.osi_blameless.proofs.Vocabulary.{heard, Tracked, IsOngoing, begins_other, begins_own, Joint, passes_other, passes_own, Steps}
+use Rattle.osi_blameless.proofs.Vocabulary.{TakesTurn, Direction, takes, unit_passes, Connection, is_closing, HaveSamePlaces, arith}
+use Rattle.osi_blameless.proofs.Vocabulary.{number_is, packet_begins}
 use Rattle.osi_honest.specs.Courses.{Course}
 use Rattle.osi_judge.specs.Courses.{Course as Passed}
 use Rattle.osi_blameless.proofs.small_facts_that_many_lemmas_use.{can_more as all_more, ranges_of}
@@ -165,8 +165,8 @@ module _ (local : Local) (two : local.class2 ≡ true) (proper : AllProper) wher
         can = grind (arith, all_more);
       }
 
-  -- So it is if at each connection that may open the CC has passed the judge, or nothing of what has come is for it; and if it has passed at
-  -- each that the other side has closed.
+  -- So it is if at each connection that may open the CC has passed, or nothing of what has come is for it; and if it has passed at each
+  -- that the other side has closed.
   pub turns_stand_early : (turn : Turn) (old new : Joint) (t : TakesTurn turn old new) (deeds : ℕ → Deeds)
       (on : Continues true deeds old.holding turn new.holding) →
       ((r : ℕ) → 0 < r → Life true r (stage_at r old.holding.end.carrier) on.took on.put (stage_at r new.holding.end.carrier)) →

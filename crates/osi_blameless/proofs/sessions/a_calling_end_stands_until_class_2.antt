@@ -6,8 +6,8 @@ use Rattle.osi_blameless.proofs.Vocabulary.{HasFieldsInRange, Value, acknowledge
 use Rattle.osi_blameless.proofs.Vocabulary.{request, Fits, units_fit, units_found, Part, Zero, Local, Direction, Left, Right, State, takes}
 use Rattle.osi_blameless.proofs.Vocabulary.{Holding, Event, HappenAlong, Whole, fresh_apart, no_item, left_class, Holds, holds_first}
 use Rattle.osi_blameless.proofs.Vocabulary.{holds_next, Deeds, no_deeds, units_in, units_read, IsFresh, AllProper, amid, stage_at, Joined}
-use Rattle.osi_blameless.proofs.Vocabulary.{Sessions, spoken, taken, packet_begins, units_pass, heard, parts_of, HaveSamePlaces, Joint, Steps}
-use Rattle.osi_blameless.proofs.Vocabulary.{begin, begins_other, begins_own, passes_other, passes_own}
+use Rattle.osi_blameless.proofs.Vocabulary.{Sessions, spoken, taken, packet_begins, units_pass, heard, parts_of, HaveSamePlaces, Joint}
+use Rattle.osi_blameless.proofs.Vocabulary.{Steps, begin, begins_other, begins_own, passes_other, passes_own}
 use Rattle.osi_carrier.specs.State.{State as Carrier}
 use Rattle.osi_rules.specs.declared.directions.Direction.TheVariants as way
 use Rattle.osi_fair.specs.Wholes as wholes

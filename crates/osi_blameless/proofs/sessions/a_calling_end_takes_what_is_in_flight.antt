@@ -1,10 +1,10 @@
--- What a calling end takes in a turn at a connection is the first of what is left over for it, if its CC has passed the judge, or nothing of
--- what has come is for it, or it can open no more. And a DR in flight to it stays there as long as the end has it open.
--- For all connections of an end and a judge.
+-- What a calling end takes in a turn at a connection is the first of what is left over for it, if its CC has passed, or nothing of what has
+-- come is for it, or it can open no more. And a DR in flight to it stays there as long as the end has it open. For all connections of an
+-- end and a judge.
 use Rattle.osi_blameless.proofs.Vocabulary.{◌≡◌, ◌∙◌, ◌⊎◌, inl, inr, refl, sym, ap, subst, ℕ, ◌<◌, ◌≤◌, true, List, [], ◌++◌, Some, None}
 use Rattle.osi_blameless.proofs.Vocabulary.{arith, is_some, AllByRecursion, le-leb, lt-ltb, Value, Part, Local, IsOngoing, Continues, Deeds}
-use Rattle.osi_blameless.proofs.Vocabulary.{then_did, units_in, Turn, Life, amid, early, past, stage_at, stage_over, Course, Joint, TakesTurn}
-use Rattle.osi_blameless.proofs.Vocabulary.{HaveSamePlaces}
+use Rattle.osi_blameless.proofs.Vocabulary.{then_did, units_in, Turn, Life, amid, early, past, stage_at, stage_over, Course, Joint}
+use Rattle.osi_blameless.proofs.Vocabulary.{TakesTurn, HaveSamePlaces}
 use Rattle.osi_carrier.specs.State.{State as Carrier}
 use Rattle.osi_honest.proofs.courses.how_long_a_connection_is_open.{Stage}
 use Rattle.osi_blameless.proofs.a_carrier_does_events.{none_of}

@@ -2,11 +2,11 @@
 -- end puts after the CC is for this connection, and it takes nothing there yet.
 -- For the session of the connection of a called end in class 0.
 use Rattle.osi_blameless.proofs.Vocabulary.{◌≡◌, ◌∙◌, refl, sym, ap, subst, ℕ, zero, suc, ◌-◌, ◌<◌, Bool, true, false, List, [], ◌∷◌, ◌++◌}
-use Rattle.osi_blameless.proofs.Vocabulary.{map, Option, Some, None, arith, inl, inr, ◌⊎◌, ◌==◌, ◌≢◌, nat_lt, AllByRecursion, eq-eqb, lt-ltb}
-use Rattle.osi_blameless.proofs.Vocabulary.{Connect, Value, confirm, written, parts_in, Part, Zero, Local, unit_octets, Right, State}
-use Rattle.osi_blameless.proofs.Vocabulary.{Selecting, zero_puts, IsFirm, picked_join, AreApart, Continues, Deeds, then_did, units_in, Marked}
-use Rattle.osi_blameless.proofs.Vocabulary.{all_units, is_of_link, Turn, AllProper, Life, early, stage_at, all_units_more, none_mark}
-use Rattle.osi_blameless.proofs.Vocabulary.{taken_more, CanBeWritten, Joint, TakesTurn, turns, parts_of}
+use Rattle.osi_blameless.proofs.Vocabulary.{map, Option, Some, None, arith, inl, inr, ◌⊎◌, ◌==◌, ◌≢◌, nat_lt, AllByRecursion, eq-eqb}
+use Rattle.osi_blameless.proofs.Vocabulary.{lt-ltb, Connect, Value, confirm, written, parts_in, Part, Zero, Local, unit_octets, Right}
+use Rattle.osi_blameless.proofs.Vocabulary.{State, Selecting, zero_puts, IsFirm, picked_join, AreApart, Continues, Deeds, then_did}
+use Rattle.osi_blameless.proofs.Vocabulary.{units_in, Marked, all_units, is_of_link, Turn, AllProper, Life, early, stage_at, all_units_more}
+use Rattle.osi_blameless.proofs.Vocabulary.{none_mark, taken_more, CanBeWritten, Joint, TakesTurn, turns, parts_of}
 use Rattle.std.proofs.lemmas.List.Concat.{flat_map-append}
 use Rattle.osi_carrier.specs.State.{State as Carrier}
 use Rattle.osi_judge.specs.Courses.{Course as Passed}

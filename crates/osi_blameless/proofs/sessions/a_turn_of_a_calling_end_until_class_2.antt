@@ -2,11 +2,11 @@
 -- in class 0, and what it takes there is the first of what is in flight. For the session of the connection of an end in class 0.
 use Rattle.osi_blameless.proofs.Vocabulary.{◌≡◌, ◌∙◌, refl, sym, ap, subst, ℕ, zero, suc, ◌<◌, ◌≤◌, Bool, true, false, List, [], ◌∷◌, ◌++◌}
 use Rattle.osi_blameless.proofs.Vocabulary.{Option, Some, None, arith, is_some, append_assoc, inl, inr, ◌⊎◌, ◌&&◌, ◌==◌, nat_le, nat_lt}
-use Rattle.osi_blameless.proofs.Vocabulary.{slice_get, AllByRecursion, eq-eqb, eqb-true, le-leb, lt-ltb, Connect, Value, confirm, Class, Two}
-use Rattle.osi_blameless.proofs.Vocabulary.{Zero, Local, Left, Right, Connection, is_open, State, has_given, Whole, unlike, IsFirm, AreApart}
-use Rattle.osi_blameless.proofs.Vocabulary.{Opens, Continues, Deeds, then_did, units_in, Marked, all_units, is_of_link, Turn, AllProper, Life}
-use Rattle.osi_blameless.proofs.Vocabulary.{amid, early, opens_by, past, stage_at, stage_over, stays, all_units_more, none_mark, Joined}
-use Rattle.osi_blameless.proofs.Vocabulary.{reference_of, Joint, TakesTurn, IsOneOf}
+use Rattle.osi_blameless.proofs.Vocabulary.{slice_get, AllByRecursion, eq-eqb, eqb-true, le-leb, lt-ltb, Connect, Value, confirm, Class}
+use Rattle.osi_blameless.proofs.Vocabulary.{Two, Zero, Local, Left, Right, Connection, is_open, State, has_given, Whole, unlike, IsFirm}
+use Rattle.osi_blameless.proofs.Vocabulary.{AreApart, Opens, Continues, Deeds, then_did, units_in, Marked, all_units, is_of_link, Turn}
+use Rattle.osi_blameless.proofs.Vocabulary.{AllProper, Life, amid, early, opens_by, past, stage_at, stage_over, stays, all_units_more}
+use Rattle.osi_blameless.proofs.Vocabulary.{none_mark, Joined, reference_of, Joint, TakesTurn, IsOneOf}
 use Rattle.osi_carrier.specs.State.{State as Carrier}
 use Rattle.osi_fair.proofs.how_requests_go_on.{Stage}
 use Rattle.osi_honest.proofs.courses.how_long_a_connection_is_open.{Stage as Time}
@@ -14,7 +14,8 @@ use Rattle.osi_judge.specs.Courses.{Course as Passed}
 use Rattle.osi_blameless.proofs.a_carrier_does_events.{none_of}
 use Rattle.osi_blameless.proofs.what_is_put_is_what_is_written.{written_join}
 use Rattle.osi_blameless.proofs.sessions.a_calling_end_hears_what_comes_until_class_2.{IsGone, IsNotTwo, IsZeroAt, StandsEarly, known_below}
-use Rattle.osi_blameless.proofs.sessions.a_calling_end_stands_until_class_2.{StandsUntilTwo, early_higher, first, runs_staged, undone_higher}
+use Rattle.osi_blameless.proofs.sessions.a_calling_end_stands_until_class_2.{StandsUntilTwo, early_higher, first, runs_staged}
+use Rattle.osi_blameless.proofs.sessions.a_calling_end_stands_until_class_2.{undone_higher}
 use Rattle.osi_blameless.proofs.sessions.a_calling_end_takes_nothing_before_its_cc.{quiet_turn}
 use Rattle.osi_blameless.proofs.sessions.a_dt_of_class_0_has_one_place.{IsOnly, both_named, other_none}
 use Rattle.osi_blameless.proofs.sessions.a_turn_does_what_its_deeds_say.{turn_leaves, turn_uses}

@@ -21,7 +21,8 @@ use Rattle.osi_blameless.proofs.sessions.what_holds_of_a_lost_connection.{IsLost
 use Rattle.osi_blameless.proofs.sessions.what_holds_of_a_lost_connection.{part_applied, was_judged}
 use Rattle.osi_blameless.proofs.sessions.what_stands_of_a_connection.{IsLike, IsUnsaid, Known, Stands, is_next, lives, names_it, no_next}
 use Rattle.osi_blameless.proofs.sessions.what_stands_of_a_connection.{past, stands_begins, stands_none, stands_other_begins}
-use Rattle.osi_blameless.proofs.sessions.what_stands_of_a_connection.{stands_other_none, stands_other_part, stands_part, unnamed, waiting_for}
+use Rattle.osi_blameless.proofs.sessions.what_stands_of_a_connection.{stands_other_none, stands_other_part, stands_part, unnamed}
+use Rattle.osi_blameless.proofs.sessions.what_stands_of_a_connection.{waiting_for}
 use Rattle.osi_blameless.proofs.sessions.a_dt_of_class_0_has_one_place.{named_open}
 
 -- ---- what a unit leaves of the half of a side

@@ -1,8 +1,8 @@
 -- What holds of an end and a judge as long as all is judged: each step keeps it. For the sessions of an end after breaks of the other side.
-use Rattle.osi_blameless.proofs.Vocabulary.{arith, ◌≡◌, sym, subst, ℕ, ◌^◌, ◌<◌, List, length, Some, slice_get, AllByRecursion, Value, Class}
-use Rattle.osi_blameless.proofs.Vocabulary.{Local, other, Direction, Deeds, all_did, Turn, AllProper, IsSane, turn_sane, CanBeWritten, Joined}
-use Rattle.osi_blameless.proofs.Vocabulary.{spoken, units_pass, heard, Joint, Step, Steps, TakesTurn, begins_other, begins_own, passes_other}
-use Rattle.osi_blameless.proofs.Vocabulary.{passes_own, turns, calls_from}
+use Rattle.osi_blameless.proofs.Vocabulary.{arith, ◌≡◌, sym, subst, ℕ, ◌^◌, ◌<◌, List, length, Some, slice_get, AllByRecursion, Value}
+use Rattle.osi_blameless.proofs.Vocabulary.{Class, Local, other, Direction, Deeds, all_did, Turn, AllProper, IsSane, turn_sane}
+use Rattle.osi_blameless.proofs.Vocabulary.{CanBeWritten, Joined, spoken, units_pass, heard, Joint, Step, Steps, TakesTurn, begins_other}
+use Rattle.osi_blameless.proofs.Vocabulary.{begins_own, passes_other, passes_own, turns, calls_from}
 use Rattle.osi_fair.specs.Wholes as wholes
 use Rattle.osi_blameless.proofs.small_facts_that_many_lemmas_use.{can_more}
 use Rattle.osi_blameless.proofs.steps_are_events.{IsFollowed, step_followed}

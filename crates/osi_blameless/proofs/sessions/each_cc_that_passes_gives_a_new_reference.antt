@@ -1,9 +1,9 @@
 -- At a judge each CC of a called end that passes gives a new reference; and this stays so with each step.
 -- For all connections of a called end and a judge.
 use Rattle.osi_blameless.proofs.Vocabulary.{◌∙◌, refl, sym, subst, ℕ, ◌<◌, ◌≤◌, false, List, [], ◌∷◌, ◌++◌, arith, AllByRecursion, Connect}
-use Rattle.osi_blameless.proofs.Vocabulary.{Value, acknowledge, confirm, data0, data2, disconnect, disconnected, error, request, Right, takes}
-use Rattle.osi_blameless.proofs.Vocabulary.{Whole, Turn, AllProper, CanBeWritten, Sessions, Course, units_pass, way_of, Joint, Step, Steps}
-use Rattle.osi_blameless.proofs.Vocabulary.{TakesTurn, begins_other, begins_own, passes_other, passes_own, turns, HaveSamePlaces}
+use Rattle.osi_blameless.proofs.Vocabulary.{Value, acknowledge, confirm, data0, data2, disconnect, disconnected, error, request, Right}
+use Rattle.osi_blameless.proofs.Vocabulary.{takes, Whole, Turn, AllProper, CanBeWritten, Sessions, Course, units_pass, way_of, Joint, Step}
+use Rattle.osi_blameless.proofs.Vocabulary.{Steps, TakesTurn, begins_other, begins_own, passes_other, passes_own, turns, HaveSamePlaces}
 use Rattle.osi_fair.specs.Wholes as wholes
 use Rattle.osi_blameless.proofs.a_carrier_does_events.{happen_join}
 use Rattle.osi_blameless.proofs.steps_are_events.{IsFollowed, own_first, step_followed}

@@ -2,10 +2,10 @@
 -- For all connections of an end and a judge.
 use Rattle.osi_blameless.proofs.Vocabulary.{◌≡◌, ◌∙◌, ◌⊎◌, inl, inr, refl, sym, ap, subst, ℕ, ◌<◌, ◌≤◌, Bool, false, List, [], ◌∷◌, ◌++◌}
 use Rattle.osi_blameless.proofs.Vocabulary.{length, Some, arith, slice_get, AllByRecursion, Connect, Value, acknowledge, confirm, data0}
-use Rattle.osi_blameless.proofs.Vocabulary.{data2, disconnect, disconnected, error, request, Direction, Left, Right, State, meaning_if, meant}
-use Rattle.osi_blameless.proofs.Vocabulary.{takes, Whole, after_add, after_set, Turn, AllProper, Room, Joined, Sessions, all_begin, asked}
-use Rattle.osi_blameless.proofs.Vocabulary.{reference_of, taken, Course, unit_passes, units_pass, way_of, Joint, Step, Steps, TakesTurn}
-use Rattle.osi_blameless.proofs.Vocabulary.{begins_other, begins_own, passes_other, passes_own, turns, HaveSamePlaces}
+use Rattle.osi_blameless.proofs.Vocabulary.{data2, disconnect, disconnected, error, request, Direction, Left, Right, State, meaning_if}
+use Rattle.osi_blameless.proofs.Vocabulary.{meant, takes, Whole, after_add, after_set, Turn, AllProper, Room, Joined, Sessions, all_begin}
+use Rattle.osi_blameless.proofs.Vocabulary.{asked, reference_of, taken, Course, unit_passes, units_pass, way_of, Joint, Step, Steps}
+use Rattle.osi_blameless.proofs.Vocabulary.{TakesTurn, begins_other, begins_own, passes_other, passes_own, turns, HaveSamePlaces}
 use Rattle.osi_fair.specs.Wholes as wholes
 use Rattle.osi_judge.specs.Connections.{packet_begins}
 use Rattle.osi_judge.specs.Connections as joined

@@ -4,12 +4,12 @@
 use Rattle.osi_blameless.proofs.Vocabulary.{[], ap, append_assoc, arith, Bool, false, is_some, List, map, None, Option, refl, Some, subst}
 use Rattle.osi_blameless.proofs.Vocabulary.{suc, sym, true, ℕ, ◌++◌, ◌<◌, ◌==◌, ◌∙◌, ◌∷◌, ◌≡◌, eq-eqb, AllByRecursion, slice_get, confirm}
 use Rattle.osi_blameless.proofs.Vocabulary.{Connect, data0, disconnect, request, Value, written, Standing, Local, value_at, closing, Live}
-use Rattle.osi_blameless.proofs.Vocabulary.{linked, Carrier, has_given, Traffic as State, Connection, Left, amid, early, Life, opens_by, past}
-use Rattle.osi_blameless.proofs.Vocabulary.{Time as Stage, stage_at, stays, all_units_more, Opens, Continues, Deeds, all_units, Marked, Turn}
-use Rattle.osi_blameless.proofs.Vocabulary.{Sessions, Followed, is_tracked, IsOwned, Row, Tracked, each_picked, first_kept, is_dc, IsDc}
-use Rattle.osi_blameless.proofs.Vocabulary.{IsOngoing, names, those, those_join, Line, Whole, Joint, TakesTurn, HaveSamePlaces, AreGiven}
-use Rattle.osi_blameless.proofs.Vocabulary.{AreApart, BeforeOpen, WhileOpen, stage_by, Awaiting, FirstOf, HasNoCc, asked_so, goes, le-leb}
-use Rattle.osi_blameless.proofs.Vocabulary.{lt-ltb}
+use Rattle.osi_blameless.proofs.Vocabulary.{linked, Carrier, has_given, Traffic as State, Connection, Left, amid, early, Life, opens_by}
+use Rattle.osi_blameless.proofs.Vocabulary.{past, Time as Stage, stage_at, stays, all_units_more, Opens, Continues, Deeds, all_units}
+use Rattle.osi_blameless.proofs.Vocabulary.{Marked, Turn, Sessions, Followed, is_tracked, IsOwned, Row, Tracked, each_picked, first_kept}
+use Rattle.osi_blameless.proofs.Vocabulary.{is_dc, IsDc, IsOngoing, names, those, those_join, Line, Whole, Joint, TakesTurn, HaveSamePlaces}
+use Rattle.osi_blameless.proofs.Vocabulary.{AreGiven, AreApart, BeforeOpen, WhileOpen, stage_by, Awaiting, FirstOf, HasNoCc, asked_so, goes}
+use Rattle.osi_blameless.proofs.Vocabulary.{le-leb, lt-ltb}
 use Rattle.osi_carrier.specs.State.{asked}
 use Rattle.osi_fair.specs.Wholes.{begin}
 use Rattle.osi_honest.proofs.courses.the_first_cc_opens_a_connection.{awaits, opens_so}
@@ -22,8 +22,8 @@ use Rattle.osi_blameless.proofs.sessions.a_whole_end_runs_along.{calling_followe
 use Rattle.osi_blameless.proofs.sessions.connections_have_the_same_places.{at_same}
 use Rattle.osi_blameless.proofs.sessions.each_unit_of_a_turn_has_one_connection.{HasHome, IsMarked, known}
 use Rattle.osi_blameless.proofs.sessions.nothing_is_done_before_a_cr_passes.{IsNotCc, same_units}
-use Rattle.osi_blameless.proofs.sessions.what_a_turn_puts_goes_to_its_peer.{GoesTo, IsPutFor, all_back, all_of_both, all_so, goes_to, one_of}
-use Rattle.osi_blameless.proofs.sessions.what_a_turn_puts_goes_to_its_peer.{turn_marked, whole_lasts}
+use Rattle.osi_blameless.proofs.sessions.what_a_turn_puts_goes_to_its_peer.{GoesTo, IsPutFor, all_back, all_of_both, all_so, goes_to}
+use Rattle.osi_blameless.proofs.sessions.what_a_turn_puts_goes_to_its_peer.{one_of, turn_marked, whole_lasts}
 
 -- ---- a connection that is open at the judge has a home there
 

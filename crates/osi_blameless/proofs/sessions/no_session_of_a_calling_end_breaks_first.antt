@@ -3,8 +3,8 @@
 -- For the law that no session of an end is blamed first.
 use Rattle.osi_blameless.proofs.Vocabulary.{[], List, Some, true, ℕ, ◌++◌, ◌∷◌, ◌≡◌, units_fit, units_found, HasFieldsInRange, Value, Zero}
 use Rattle.osi_blameless.proofs.Vocabulary.{Local, Holding, AsSent, AsParts, CalledLaw, CallerLaw, Left, Right, AllProper, Deeds, no_deeds}
-use Rattle.osi_blameless.proofs.Vocabulary.{then_did, units_in, IsFresh, Turn, none, unit_passes, units_pass, fresh_apart, no_item, IsOngoing}
-use Rattle.osi_blameless.proofs.Vocabulary.{Joint, passes_other, passes_own, Steps, TakesTurn, arith, begin}
+use Rattle.osi_blameless.proofs.Vocabulary.{then_did, units_in, IsFresh, Turn, none, unit_passes, units_pass, fresh_apart, no_item}
+use Rattle.osi_blameless.proofs.Vocabulary.{IsOngoing, Joint, passes_other, passes_own, Steps, TakesTurn, arith, begin}
 use Rattle.osi_fair.specs.Wholes as wholes
 use Rattle.osi_judge.specs.Courses.{Course as Passed}
 use Rattle.osi_blameless.proofs.small_facts_that_many_lemmas_use.{all_front, ranges_of}

@@ -2,12 +2,13 @@
 -- by which nobody of the end is to blame, as long as one class is not selected.
 -- For the law that no session of an end is to blame after a break.
 use Rattle.osi_blameless.proofs.Vocabulary.{◌≡◌, ◌∙◌, ◌⊎◌, inl, inr, refl, sym, ap, subst, ℕ, Bool, true, false, Ok, List, [], ◌∷◌, ◌++◌}
-use Rattle.osi_blameless.proofs.Vocabulary.{Option, Some, None, append_assoc, arith, AllByRecursion, append-nil, units_of, Value, Class, Two}
-use Rattle.osi_blameless.proofs.Vocabulary.{Zero, Local, Capture, other, Direction, Finding, Broke, TooMany, Reach, is_applied, reach_of}
-use Rattle.osi_blameless.proofs.Vocabulary.{class_for, is_stopped, takes, End, Holding, Deeds, all_did, no_deeds, IsFresh, Turn, AllProper}
-use Rattle.osi_blameless.proofs.Vocabulary.{fresh_sane, fresh_course, Known, Cause, unit_passes, units_pass, way_of, after, comes_to, Joint}
-use Rattle.osi_blameless.proofs.Vocabulary.{Step, Steps, StepsAlong, TakesTurn, begin, begins_other, begins_own, passes_other, passes_own}
-use Rattle.osi_blameless.proofs.Vocabulary.{turns, TurnsBad, calls_from, IsNoPacket, IsUnread, LaterAlong, spoilt, stops_last}
+use Rattle.osi_blameless.proofs.Vocabulary.{Option, Some, None, append_assoc, arith, AllByRecursion, append-nil, units_of, Value, Class}
+use Rattle.osi_blameless.proofs.Vocabulary.{Two, Zero, Local, Capture, other, Direction, Finding, Broke, TooMany, Reach, is_applied}
+use Rattle.osi_blameless.proofs.Vocabulary.{reach_of, class_for, is_stopped, takes, End, Holding, Deeds, all_did, no_deeds, IsFresh, Turn}
+use Rattle.osi_blameless.proofs.Vocabulary.{AllProper, fresh_sane, fresh_course, Known, Cause, unit_passes, units_pass, way_of, after}
+use Rattle.osi_blameless.proofs.Vocabulary.{comes_to, Joint, Step, Steps, StepsAlong, TakesTurn, begin, begins_other, begins_own}
+use Rattle.osi_blameless.proofs.Vocabulary.{passes_other, passes_own, turns, TurnsBad, calls_from, IsNoPacket, IsUnread, LaterAlong, spoilt}
+use Rattle.osi_blameless.proofs.Vocabulary.{stops_last}
 use Rattle.osi_rules.specs.declared.findings.Reach.TheVariants as reach
 use Rattle.osi_rules.specs.declared.findings.Rule.TheVariants as rule
 use Rattle.osi_fair.specs.Pieces.{units_in}
@@ -319,7 +320,8 @@ module _ (known : Known) (barred : Class) (d : Direction) (local : Local)
       (λ no. absurd (let n : false ≡ true = no in cc)) was.few a in
       alone now (never_alone known barred d local fair fair_alone Inv k has_begun (grind arith) false step old new later a now never)
 
-  judge_stays : (step : Step) → IsOfJudge step → (deeds : ℕ → Deeds) (old new : Joint) → Steps d step old new → IsWithout barred new.course →
+  judge_stays : (step : Step) → IsOfJudge step → (deeds : ℕ → Deeds) (old new : Joint) → Steps d step old new →
+      IsWithout barred new.course →
       Stays deeds old → Stays deeds new
   judge_stays step judge deeds old new does within s =
       step_stays step deeds deeds old new does within (λ g never. judge_so step judge old new does within deeds g never) s
@@ -346,7 +348,8 @@ module _ (known : Known) (barred : Class) (d : Direction) (local : Local)
       along_so steps deeds mid new more does within
       (judge_stays (passes_own at v) tt deeds old mid one (along_within steps mid new more within) s)
   along_so (begins_other ∷ steps) deeds old new (mid, one, more) does within s =
-      along_so steps deeds mid new more does within (judge_stays begins_other tt deeds old mid one (along_within steps mid new more within) s)
+      along_so steps deeds mid new more does within (judge_stays begins_other tt deeds old mid one
+        (along_within steps mid new more within) s)
   along_so (passes_other at octets units ∷ steps) deeds old new (mid, one, more) does within s =
       along_so steps deeds mid new more does within
       (judge_stays (passes_other at octets units) tt deeds old mid one (along_within steps mid new more within) s)

@@ -1,5 +1,4 @@
--- Each DT and each AK of class 2 that comes to a called end is for a connection whose CC has passed the judge. So nothing is in flight to the
--- others.
+-- Each DT and each AK of class 2 that comes to a called end is for a connection whose CC has passed. So nothing is in flight to the others.
 -- For all connections of a called end and a judge.
 use Rattle.osi_blameless.proofs.Vocabulary.{[], ap, arith, false, List, None, refl, Some, sym, ℕ, ◌<◌, ◌∙◌, ◌∷◌, ◌≡◌, ◌≤◌, AllByRecursion}
 use Rattle.osi_blameless.proofs.Vocabulary.{slice_get, acknowledge, confirm, data0, data2, destination_of, disconnect, disconnected, error}

@@ -2,7 +2,8 @@
 -- For the session of each connection of an end.
 use Rattle.osi_blameless.proofs.Vocabulary.{arith, ◌≡◌, ◌≢◌, sym, subst, ℕ, ◌^◌, ◌<◌, Bool, true, false, [], ◌++◌, length, Some, slice_get}
 use Rattle.osi_blameless.proofs.Vocabulary.{Value, Zero, other, Direction, class_for, is_stopped, takes, Deeds, then_did, Turn, Joined}
-use Rattle.osi_blameless.proofs.Vocabulary.{spoken, way_of, heard, Joint, Steps, TakesTurn, begins_other, begins_own, passes_own, calls_from}
+use Rattle.osi_blameless.proofs.Vocabulary.{spoken, way_of, heard, Joint, Steps, TakesTurn, begins_other, begins_own, passes_own}
+use Rattle.osi_blameless.proofs.Vocabulary.{calls_from}
 use Rattle.osi_honest.specs.Courses.{Course}
 use Rattle.osi_judge.specs.Courses.{Course as Passed}
 use Rattle.osi_blameless.proofs.no_unit_of_a_whole_end_is_a_break.{IsNoBreak}

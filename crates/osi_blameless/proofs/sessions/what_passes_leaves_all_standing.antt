@@ -1,6 +1,5 @@
--- What passes of class 2 leaves all connections of an end standing at a judge: a unit of the end that is no break, and one of the other side
--- after which a connection may have lost its judgement.
--- For the session of each connection of an end.
+-- What passes of class 2 leaves all connections of an end standing at a judge: a unit of the end that is no break, and one of the other
+-- side after which a connection may have lost its judgement. For the session of each connection of an end.
 use Rattle.osi_blameless.proofs.Vocabulary.{◌≡◌, ◌∙◌, arith, refl, sym, subst, ℕ, Bool, true, false, if◌then◌else◌, List, [], ◌∷◌, ◌++◌}
 use Rattle.osi_blameless.proofs.Vocabulary.{Option, Some, None, inr, slice_get, Connect, Value, acknowledge, confirm, data0, data2}
 use Rattle.osi_blameless.proofs.Vocabulary.{disconnect, disconnected, error, request, parts_in, Part, Class, Two, Zero, other, Direction}

@@ -1,6 +1,5 @@
 -- Two readings of the front of one stream as packets: one goes on where the other ends. And of two prefixes of a stream the shorter
--- is a prefix of the longer.
--- For the packets that an end takes, and for what a judge shows of it.
+-- is a prefix of the longer. For the packets that an end takes, and for what a capture shows of it.
 use Rattle.osi_honest.proofs.Vocabulary.{[], ap, append_assoc, arith, List, refl, subst, sym, ℕ, ◌++◌, ◌∙◌, ◌∷◌, ◌≡◌}
 use Rattle.osi_honest.proofs.Vocabulary.{append_cancel_left, one_packet, ArePackets, length, ◌≤◌, IsPrefix}
 

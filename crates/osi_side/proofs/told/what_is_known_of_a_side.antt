@@ -93,7 +93,8 @@ left_by_stays : (w : Observed) (told : List Told) (x : Told) (i : ℕ) → i < l
 left_by_stays w told x i l (t, s, inl (b, e, k)) = (t, stood_stays w told x i t l s, inl (b, e, broke_stays w.begin w.heard told x i k))
 left_by_stays w told x i l (t, s, inr (e, k)) = grind (arith, take_front told (x ∷ []) (i + 1) (omega arith), stood_stays w told x i t l s)
 
-stays_by : (f : Finding) (w : Observed) (told : List Told) (x : Told) → (f ≡ Kept → ⊥) → ObservesBy f w told → ObservesBy f w (told ++ x ∷ [])
+stays_by : (f : Finding) (w : Observed) (told : List Told) (x : Told) → (f ≡ Kept → ⊥) → ObservesBy f w told →
+    ObservesBy f w (told ++ x ∷ [])
 stays_by f w told x n k =
     grind (arith, broke_stays, stood_stays, length-append, take_front, kept_still, astray_still, left_by_stays, crowded_stays)
 
@@ -105,7 +106,8 @@ pub left_as : (w n : Observed) (told : List Told) (x : Told) (i : ℕ) → w.fin
     → Observes n (told ++ x ∷ [])
 left_as w n told x i f e k = grind (arith, stays_by)
 
-pub too_many_as : (w n : Observed) (told : List Told) (x : Told) → w.finding ≡ TooMany → n ≡ w → Observes w told → Observes n (told ++ x ∷ [])
+pub too_many_as : (w n : Observed) (told : List Told) (x : Told) → w.finding ≡ TooMany → n ≡ w → Observes w told →
+    Observes n (told ++ x ∷ [])
 too_many_as w n told x f e k = grind (arith, stays_by)
 
 -- the remarks of one TSDU more

@@ -9,4 +9,5 @@ returns-in-Ok-clause-told c = λ whole rest k.
     (c.in-Ok.ensures.told whole rest k)
 
 pub returns-in-Err-BadHex-clause-bad_hex : goal.returns-in-Err-BadHex-clause-bad_hex
-returns-in-Err-BadHex-clause-bad_hex c = λ is whole rest k. not_failed c.args.hearing.now whole rest (c.news.ensures.sound fault.BadHex (cc)) k
+returns-in-Err-BadHex-clause-bad_hex c = λ is whole rest k. not_failed c.args.hearing.now whole rest
+    (c.news.ensures.sound fault.BadHex (cc)) k

@@ -7,7 +7,8 @@ use Rattle.osi_judge.proofs.connections.Connection.add_all.Goals as goal
 pub returns-in-Left-clause-ok : goal.returns-in-Left-clause-ok
 returns-in-Left-clause-ok c =
     on_ok c.add_last.result c.add_last.ensures.ok (λ k j h.
-    left_added c.args.direction c.args.self.now c.add_last.new.own c.add_last.new.other j c.args.at c.args.end c.args.octets.now c.in-Left.is h
+    left_added c.args.direction c.args.self.now c.add_last.new.own c.add_last.new.other j c.args.at c.args.end c.args.octets.now
+      c.in-Left.is h
     (k seen_calling seen_called j.left j.right h.sides))
 
 pub returns-in-Left-clause-err : goal.returns-in-Left-clause-err
@@ -24,7 +25,8 @@ returns-in-Left-clause-err c = on_err c.add_last.result c.add_last.ensures.err (
 pub returns-in-Right-clause-ok : goal.returns-in-Right-clause-ok
 returns-in-Right-clause-ok c =
     on_ok c.add_last-in-Right.result c.add_last-in-Right.ensures.ok (λ k j h.
-    right_added c.args.direction c.args.self.now c.add_last-in-Right.new.own c.add_last-in-Right.new.other j c.args.at c.args.end c.args.octets.now
+    right_added c.args.direction c.args.self.now c.add_last-in-Right.new.own c.add_last-in-Right.new.other j c.args.at c.args.end
+      c.args.octets.now
     c.in-Right.is h (k seen_called seen_calling j.right j.left (flipped h.sides)))
 
 pub returns-in-Right-clause-err : goal.returns-in-Right-clause-err

@@ -1,7 +1,7 @@
-/* Two ends whose users make random calls, under three taps: at the left end, in the middle, and at the right end. What one end sends
- * passes the taps and arrives in pieces of any length, at any time. Whatever a tap sees, its judge blames nobody.
+/* Two ends whose users make random calls, and three judges of what passes between them: at the left end, in the middle, and at the
+ * right end. What one end sends passes and arrives in pieces of any length, at any time. No judge blames anybody.
  *
- *     taps [--runs N] [--seed N] [--round N]     the same seed and round give the same run again */
+ *     blameless [--runs N] [--seed N] [--round N]     the same seed and round give the same run again */
 #include "hostile.h"
 #include "pairs.h"
 
@@ -10,7 +10,7 @@
 #include <string.h>
 
 #define STEPS 300
-#define TAPS 3
+#define PLACES 3
 
 /* What one side has sent: its octets, and how many of them have passed the middle and have arrived. */
 struct way {
@@ -20,16 +20,16 @@ struct way {
 
 static osi_end ends[2] = {OSI_END, OSI_END};
 static struct way ways[2];
-static osi_judge judges[TAPS] = {OSI_JUDGE, OSI_JUDGE, OSI_JUDGE};
-static const char *const tap_names[TAPS] = {"at left", "in the middle", "at right"};
+static osi_judge judges[PLACES] = {OSI_JUDGE, OSI_JUDGE, OSI_JUDGE};
+static const char *const place_names[PLACES] = {"at left", "in the middle", "at right"};
 static struct text history;
-static uint64_t octets_seen, connections_asked, further[TAPS];
+static uint64_t octets_seen, connections_asked, further[PLACES];
 
-/* A tap sees octets of a side. */
-static void sees(int tap, int side, const char *octets, size_t length)
+/* Octets of a side pass the judge at a place. */
+static void goes_by(int place, int side, const char *octets, size_t length)
 {
     size_t used;
-    if (osi_judge_feed(&judges[tap], side == LEFT ? OSI_LEFT : OSI_RIGHT, (const uint8_t *)octets, length, &used) != OSI_OK)
+    if (osi_judge_feed(&judges[place], side == LEFT ? OSI_LEFT : OSI_RIGHT, (const uint8_t *)octets, length, &used) != OSI_OK)
         abort();
 }
 
@@ -41,7 +41,7 @@ static void moved(const char *what, int side, size_t length)
 
 /* ---- octets on their way */
 
-/* All that an end has to send is sent. The tap beside it sees it. */
+/* All that an end has to send is sent. It passes the place beside it. */
 static void sends(int side)
 {
     struct way *way = &ways[side];
@@ -50,7 +50,7 @@ static void sends(int side)
     text_grow(&way->octets, there.length + 1);
     if (there.length > 0)
         memcpy(way->octets.at + way->octets.length, there.at, there.length);
-    sees(side == LEFT ? 0 : 2, side, (const char *)there.at, there.length);
+    goes_by(side == LEFT ? 0 : 2, side, (const char *)there.at, there.length);
     way->octets.length += there.length;
     octets_seen += there.length;
     moved("sent", side, there.length);
@@ -67,7 +67,7 @@ static void passes(int side)
 {
     struct way *way = &ways[side];
     size_t length = some_of(way->octets.length - way->passed);
-    sees(1, side, way->octets.at + way->passed, length);
+    goes_by(1, side, way->octets.at + way->passed, length);
     way->passed += length;
     moved("passes", side, length);
 }
@@ -79,7 +79,7 @@ static void is_shown(osi_end *end)
         holds(shown.tag != OSI_BAD_UNIT && shown.tag != OSI_PEER_ABORT, "a user is told of a fault\n%s", history.at);
 }
 
-/* Octets of a side arrive at the other end. The tap beside that one sees those that it uses. */
+/* Octets of a side arrive at the other end. Those that it uses pass the place beside it. */
 static void arrives(int side)
 {
     struct way *way = &ways[side];
@@ -89,7 +89,7 @@ static void arrives(int side)
         osi_fed fed;
         if (osi_feed(&ends[1 - side], (const uint8_t *)way->octets.at + way->arrived, length, &fed) != OSI_OK)
             abort();
-        sees(side == LEFT ? 2 : 0, side, way->octets.at + way->arrived, fed.used);
+        goes_by(side == LEFT ? 2 : 0, side, way->octets.at + way->arrived, fed.used);
         is_shown(&ends[1 - side]);
         way->arrived += fed.used;
         length -= fed.used;
@@ -142,15 +142,15 @@ static void step(void)
 
 /* ---- a run */
 
-static void judge_says(int tap)
+static void judge_says(int place)
 {
     osi_verdict v;
     char line[OSI_VERDICT_TEXT];
-    while (osi_judge_next(&judges[tap], &v) == OSI_OK) {
+    while (osi_judge_next(&judges[place], &v) == OSI_OK) {
         osi_verdict_text(&v, line, sizeof line);
         bool blames = v.kind == OSI_VERDICT_BROKE || v.kind == OSI_VERDICT_LEAVES;
-        holds(!blames, "a tap %s blames an end: %s\n%s", tap_names[tap], line, history.at);
-        further[tap] += !blames;
+        holds(!blames, "a judge %s blames an end: %s\n%s", place_names[place], line, history.at);
+        further[place] += !blames;
     }
 }
 
@@ -166,15 +166,15 @@ static void live_once(uint32_t class)
     }
     if (osi_caller(&ends[LEFT], &terms[LEFT]) || osi_called(&ends[RIGHT], &terms[RIGHT]))
         abort();
-    for (int tap = 0; tap < TAPS; tap++)
-        if (osi_judge_new(&judges[tap]))
+    for (int place = 0; place < PLACES; place++)
+        if (osi_judge_new(&judges[place]))
             abort();
     connects();
     for (int i = 0; i < STEPS; i++)
         step();
-    for (int tap = 0; tap < TAPS; tap++) {
-        judge_says(tap);
-        osi_judge_free(&judges[tap]);
+    for (int place = 0; place < PLACES; place++) {
+        judge_says(place);
+        osi_judge_free(&judges[place]);
     }
     osi_free(&ends[LEFT]);
     osi_free(&ends[RIGHT]);
@@ -188,8 +188,8 @@ int main(int count, char **words)
         any_begin(rounds.seed, round);
         live_once(round % 2 == 0 ? 0 : 2);
     }
-    printf("taps: %llu octets of %llu connections; judged no further: %llu, %llu and %llu\n", (unsigned long long)octets_seen,
+    printf("blameless: %llu octets of %llu connections; judged no further: %llu, %llu and %llu\n", (unsigned long long)octets_seen,
            (unsigned long long)connections_asked, (unsigned long long)further[0], (unsigned long long)further[1],
            (unsigned long long)further[2]);
-    return counts("taps");
+    return counts("blameless");
 }

@@ -1,10 +1,10 @@
 /*
- * Watches a byte connection between two other programs, and prints a verdict as soon as it is certain; at the end, what `osi judge`
- * prints. Its input is what a tap writes: a line of hexadecimal digits for each piece, in the order in which the pieces passed.
+ * Judges a byte connection between two other programs, and prints a verdict as soon as it is certain; at the end, what `osi judge`
+ * prints. Its input is a capture as text: a line of hexadecimal digits for each piece, in the order in which the pieces passed.
  * A line that begins with a tab is of the side that was called, and one that begins with # is a comment.
  *
- *     cc -std=c99 $(pkg-config --cflags osi-session) watch.c $(pkg-config --libs osi-session) -o watch
- *     ./watch < disputes/restart.follow
+ *     cc -std=c99 $(pkg-config --cflags osi-session) judge.c $(pkg-config --libs osi-session) -o judge
+ *     ./judge < disputes/restart.follow
  */
 #include <osi.h>
 #include <stdio.h>
@@ -73,7 +73,7 @@ int main(void)
     if (goes_on)
         print_text(&judge);
     else
-        fprintf(stderr, "watch: there is no memory\n");
+        fprintf(stderr, "judge: there is no memory\n");
     osi_judge_free(&judge);
     return goes_on ? 0 : 2;
 }

@@ -1,7 +1,7 @@
 #!/usr/bin/env python3
 """Measures the memory of `osi-capture watch`: 100,000 streams in turn, and beside them one with 1,000,000 TSDUs of data.
 
-The judge is one that keeps nothing, so this measures what the watch itself keeps: python3 bench/watch.py [STREAMS]
+The judge is one that keeps nothing, so this measures what the command itself keeps: python3 bench/streams.py [STREAMS]
 """
 import os
 import sys
