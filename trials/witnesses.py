@@ -21,7 +21,7 @@ os.environ.setdefault("OSI_SESSION_DIR", os.path.join(TOP, "build"))
 from counts import Counts
 from ladders.judged import read
 from ladders.transcript import BadInput
-from runs import OTHER, SIDES, played, run_at_random
+from runs import OTHER, SIDES, Run, played, run_at_random
 
 UNFINISHED = re.compile(r"# (left|right) packet \d+: no call of a script sends this\n\Z")
 # The captures in which a side kept the protocol by a unit that no call of a script sends.
@@ -85,7 +85,8 @@ ANSWER = b"\x1a\x00"
 def is_same(had, ran, is_cut):
     """Whether a side sends the TSDUs of the capture, or the first of them if the script stops. It may have answered an AB since."""
     held, sent = [octets for _, octets in had], [octets for _, octets in ran]
-    return sent in (held, held + [ANSWER]) or is_cut and held[:len(sent)] == sent
+    told = sent[:-1] if sent[-1:] == [ANSWER] else sent
+    return sent in (held, held + [ANSWER]) or is_cut and told == held[:len(told)]
 
 
 def streams(pieces):
@@ -184,12 +185,38 @@ class Connections:
         return [connection for connection in self.found if connection["left"]]
 
 
+# A TSDU that an end sends by itself, or that goes on with the data of a call: a CN, an AA, and a part of data that is not the first.
+UNCALLED = re.compile(rb"\x0d|\x1a|\x01\x00\x01\x03\x19\x01[\x00\x02]", re.S)
+
+
+def as_called(tsdus, calls):
+    """TSDUs with how many of the other side's had passed when their call was made: they may have waited for credit since."""
+    calls = iter(calls)
+    return [(before if UNCALLED.match(octets) else min(before, next(calls, before)), octets) for before, octets in tsdus]
+
+
+def played_on(script, side):
+    """What two ends send that play a script, on each connection, as it is seen at the end of a side."""
+    run, seen, calls, passed = Run(side), Connections([]), {}, 0
+    for line in script.splitlines():
+        words = line.split(" ")
+        if words[0] == side:
+            number = int(words[1]) - 1
+            calls.setdefault(number, []).append(seen.counts(OTHER[side])[number])
+        if not line.startswith("#"):
+            run.line(line)
+        for piece in run.pieces[passed:]:
+            seen.pass_piece(*piece)
+        passed = len(run.pieces)
+    run.close()
+    for number, connection in enumerate(seen.found):
+        connection[side] = as_called(connection[side], calls.get(number, []))
+    return seen.found
+
+
 def played_at(script):
     """What two ends send that play a script, on each connection on which left sends something: each side as it is seen at its end."""
-    runs = {side: played(script, side) for side in SIDES}
-    found = {side: Connections(run.pieces).found for side, run in runs.items()}
-    for run in runs.values():
-        run.close()
+    found = {side: played_on(script, side) for side in SIDES}
     nothing = {"left": [], "right": []}
     right = found["right"] + [nothing] * len(found["left"])
     return [{"left": at_left, "right": at_right} for at_left, at_right in zip(found["left"], right) if at_left["left"]]

@@ -5,12 +5,13 @@ addresses alone. So a checksum is wrong only if most of the same direction are r
 """
 import functools
 import os
+import zlib
 from collections import Counter
 
-from . import frames
+from . import frames, tshark
 from .records import Odd
 
-HEAD, SUM = 12, slice(16, 18)
+HEAD = 12
 
 
 class Sums(frames.Reader):
@@ -23,12 +24,14 @@ class Sums(frames.Reader):
     def of_tcp(self, number, time, frame, addresses, at, end):
         """Notes whether the checksum of a segment is right."""
         segment, way = frame[at:end], addresses + frame[at:at + 4]
-        if end > len(frame) or len(segment) <= max(20, (segment[HEAD] >> 4) * 4):
-            return
-        before = int.from_bytes(addresses, "big") + frames.TCP + len(segment)
-        if (before + int.from_bytes(segment + b"\0" * (len(segment) % 2), "big")) % 0xFFFF == 0:
+        if end <= len(frame) and len(segment) > max(20, (segment[HEAD] >> 4) * 4):
+            self.note(number, way, frames.is_right(addresses, segment))
+
+    def note(self, number, way, is_right):
+        """Notes a checksum of a direction; None is one that says nothing."""
+        if is_right:
             self.right[way] += 1
-        elif int.from_bytes(segment[SUM], "big") % 0xFFFF != before % 0xFFFF:
+        elif is_right is not None:
             self.wrong.setdefault(way, []).append(number)
 
     def damaged(self):
@@ -37,7 +40,7 @@ class Sums(frames.Reader):
 
 
 def damaged(path):
-    """The numbers of the frames of a file that were damaged; none, if tshark has to read it."""
+    """The numbers of the frames of a file that were damaged."""
     try:
         now = os.stat(path)
     except OSError:
@@ -53,6 +56,16 @@ def read(path, *_):
         for octets in frames.chunks(path):
             for _ in found.feed(octets):
                 pass
-    except (Odd, OSError, EOFError):
+    except (Odd, OSError, EOFError, zlib.error):
+        return of_tshark(path)
+    return of_tshark(path) if found.odd else found.damaged()
+
+
+def of_tshark(path):
+    """The same of a file that tshark has to read; none without it."""
+    found = Sums()
+    if not tshark.is_there():
         return set()
+    for number, way, is_right in tshark.sums(path):
+        found.note(number, way, is_right)
     return found.damaged()

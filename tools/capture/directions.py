@@ -1,6 +1,7 @@
 """One direction of a TCP connection: its octets in the order of their sequence numbers, and what of them is missing."""
 import heapq
 from bisect import bisect_right
+from collections import OrderedDict
 
 SPACE = 2 ** 32
 # How many octets wait for one that is missing, before it counts as lost.
@@ -10,8 +11,13 @@ MOST_WAITING = 16_777_216
 IN_FLIGHT, SPARE, SPARE_SEGMENTS = 1_048_576, 65_536, 512
 # A segment of one octet that comes so many seconds after its octet was acknowledged is a keepalive, whose octet may be any.
 QUIET = 1.0
+# Another segment of one octet is data if it has two of three signs: its sender pushed it (PSH), it came within that time after another
+# segment of the stream, and the octet before or after it came alone, too. If its octet had been acknowledged, it would need more.
+SIGNS, KNOWN = 2, -9
 # How far ahead of the octets that passed the number of an empty segment may be.
 NEAR = 16_777_216
+# How many frames with wrong checksums are remembered of a direction.
+MOST_HURT = 4_096
 
 
 class Piece:
@@ -29,13 +35,14 @@ def distance(first, second):
 
 
 class Chunk:
-    """Octets of a segment that have not passed: their place in the direction, and what the segment acknowledges."""
+    """Octets of a segment that have not passed: their place in the direction, and what the segment acknowledges. Of a segment of one
+    octet also its signs of being data."""
 
-    __slots__ = ("start", "octets", "acknowledged", "frame", "time")
+    __slots__ = ("start", "octets", "acknowledged", "frame", "time", "signs")
 
-    def __init__(self, start, segment):
-        self.start, self.octets, self.acknowledged = start, segment.octets, segment.acknowledged
-        self.frame, self.time = segment.frame, segment.time
+    def __init__(self, start, segment, octets, signs):
+        self.start, self.octets, self.acknowledged = start, octets, segment.acknowledged
+        self.frame, self.time, self.signs = segment.frame, segment.time, signs
 
     def __lt__(self, other):
         return (self.start, self.frame) < (other.start, other.frame)
@@ -55,13 +62,18 @@ class Direction:
         self.is_here = self.has_first = False
         # Whether octets before the first ones are acknowledged.
         self.has_more = False
-        # Where the direction ends (FIN), how far it was sent, and the frame that first told of octets that have not passed.
-        self.last, self.sent, self.beyond = None, 0, None
+        # Where the direction ends (FIN), how far it was sent, the frame that first told of octets that have not passed, and the first that
+        # has octets after the end.
+        self.last, self.sent, self.beyond, self.after = None, 0, None, None
         # How far the other end acknowledged it, and when it did last.
         self.heard, self.heard_at = 0, None
         # What passed, with the places at which it begins, as far as it is kept; the place before which octets were forgotten that nobody
         # had acknowledged; and the first place at which octets were sent again as others, with both frames.
         self.passed, self.starts, self.forgotten, self.doubt = [], [], 0, None
+        # The frames of octets that may be those of keepalives, by their places; and if the last octet came alone, the signs of its segment.
+        self.alone, self.signs = {}, None
+        # How many checksums are right and how many wrong, and the last frames with wrong ones; of a watch alone.
+        self.right, self.wrong, self.hurt = 0, 0, OrderedDict()
         # The frames and times at which it was ended or reset, and how many octets of a frame were captured, if not all.
         self.ended = self.reset = self.cut = None
 
@@ -93,10 +105,45 @@ class Direction:
             self.note_number(segment)
         if segment.is_last:
             self.ended = self.ended or (segment.frame, segment.time)
-            self.last = self.place(segment.sequence + len(segment.octets) + segment.missing)
+            self.end_at(self.place(segment.sequence + segment.is_first + len(segment.octets) + segment.missing))
+        if segment.is_right is not None:
+            self.note_sum(segment)
         if segment.missing:
             self.cut = self.cut or segment.captured
             self.hear(segment.sequence + len(segment.octets) + segment.missing, segment.frame)
+
+    def note_sum(self, segment):
+        """Notes whether the checksum of a segment is right."""
+        self.right += segment.is_right
+        self.wrong += not segment.is_right
+        if not segment.is_right:
+            self.hurt[segment.frame] = True
+            if len(self.hurt) > MOST_HURT:
+                self.hurt.popitem(last=False)
+
+    def is_hurt(self, frame):
+        """Whether a frame was damaged on its way: its checksum is wrong, and most others are right."""
+        return frame in self.hurt and self.wrong < self.right
+
+    def end_at(self, place):
+        """Notes where the direction ends. (An end before what passed is one of another connection.)"""
+        if place < self.count:
+            return
+        self.last = place
+        if any(chunk.end > place for chunk in self.waiting):
+            for chunk in self.waiting:
+                chunk.octets = self.up_to_end(chunk.start, chunk.octets, chunk.frame)
+            self.waiting = [chunk for chunk in self.waiting if chunk.octets]
+            self.held = sum(len(chunk.octets) for chunk in self.waiting)
+            heapq.heapify(self.waiting)
+
+    def up_to_end(self, place, octets, frame):
+        """Octets without those after the end, which nobody receives. One alone in the place of FIN is that of a keepalive."""
+        if self.last is None or place + len(octets) <= self.last:
+            return octets
+        if self.after is None and not (place == self.last and len(octets) == 1):
+            self.after = frame
+        return octets[:max(self.last - place, 0)]
 
     def note_number(self, segment):
         """Notes that what comes before an empty segment was sent."""
@@ -104,14 +151,14 @@ class Direction:
             self.hear(segment.sequence, segment.frame)
 
     def acknowledge(self, number, frame, time):
-        """Notes that the other end has received the octets up to a sequence number."""
-        self.hear(number, frame)
-        place = self.place(number)
+        """Notes that the other end has received the octets up to a sequence number; its place."""
+        place = self.hear(number, frame)
         if place > self.heard:
             self.heard, self.heard_at = place, time
+        return place
 
     def hear(self, number, frame):
-        """Notes that octets up to a sequence number were sent."""
+        """Notes that octets up to a sequence number were sent; its place."""
         if self.next is None:
             self.next = number % SPACE
         sent = self.place(number)
@@ -119,16 +166,23 @@ class Direction:
             self.sent = sent
             if self.beyond is None and sent > self.count:
                 self.beyond = frame
+        return sent
 
     def keep(self, segment):
         """Keeps the octets of a segment until they pass, unless they have."""
-        start = (segment.sequence + segment.is_first) % SPACE
-        place = self.place(start)
+        place = self.place((segment.sequence + segment.is_first) % SPACE)
+        octets = self.up_to_end(place, segment.octets, segment.frame)
         if place < self.count:
-            self.compare(place, segment.octets, segment.frame)
-        if place + len(segment.octets) > self.count and not self.is_keepalive(place, segment):
-            heapq.heappush(self.waiting, Chunk(place, segment))
-            self.held += len(segment.octets)
+            self.compare(place, octets, segment.frame)
+        if octets and place + len(octets) > self.count and not self.is_keepalive(place, segment):
+            heapq.heappush(self.waiting, Chunk(place, segment, octets, self.signs_of(segment)))
+            self.held += len(octets)
+
+    def signs_of(self, segment):
+        """Of a segment of one octet, how many signs of being data it has by itself; of any other one None."""
+        if len(segment.octets) != 1 or segment.is_first:
+            return None
+        return KNOWN if self.place(segment.sequence) < self.sent else segment.is_pushed + segment.is_soon
 
     def is_keepalive(self, place, segment):
         """Whether a segment sends the last octet again, though it was acknowledged, so that it may be another octet."""
@@ -153,6 +207,9 @@ class Direction:
                     self.doubt = first, piece.frame, frame
                 return
             at += 1
+        if self.alone and len(octets) > 1:
+            for each in [each for each in self.alone if place <= each < last]:
+                del self.alone[each]
 
     def head(self):
         """The octets that wait and are the next ones, or None."""
@@ -173,17 +230,31 @@ class Direction:
             self.compare(chunk.start, octets, chunk.frame)
             octets = octets[self.count - chunk.start:]
         piece = Piece(chunk.frame, chunk.time, self.count, octets)
-        self.go_on(piece)
+        self.go_on(piece, chunk.signs)
         return piece
 
-    def go_on(self, piece):
-        """Takes octets that have passed."""
+    def go_on(self, piece, signs=None):
+        """Takes octets that have passed; if they are the one octet of a segment, with its signs of being data."""
+        if signs is not None:
+            self.look_at_one(piece, signs)
+        self.signs = signs
         self.passed.append(piece)
         self.starts.append(piece.start)
         self.count += len(piece.octets)
         self.next = (self.next + len(piece.octets)) % SPACE
         if self.beyond is not None and self.count >= self.sent:
             self.beyond = None
+
+    def look_at_one(self, piece, signs):
+        """Notes whether an octet that came alone may be that of a keepalive, in whose place the capture lacks another one; and the octet
+        before it, if that came alone, isn't."""
+        if self.signs is not None:
+            if self.signs + 1 >= SIGNS:
+                self.alone.pop(piece.start - 1, None)
+            signs += 1
+        # (An octet that is forgotten stays doubtful, so any later ones don't matter.)
+        if signs < SIGNS and not (self.alone and next(iter(self.alone)) < self.starts[0]):
+            self.alone[piece.start] = piece.frame
 
     def forget(self):
         """Forgets what passed and won't be sent again."""
@@ -193,6 +264,8 @@ class Direction:
         going = max(bisect_right(self.starts, limit) - 1, acknowledged - SPARE_SEGMENTS)
         if going > SPARE_SEGMENTS or going > 0 and self.starts[going] - self.starts[0] > SPARE:
             del self.passed[:going], self.starts[:going]
+            for each in [each for each in self.alone if each < self.starts[0]][1:]:
+                del self.alone[each]
             if self.starts[0] > heard:
                 self.forgotten = self.starts[0]
 

@@ -9,7 +9,7 @@ import struct
 import zlib
 
 from .records import CHUNK, Odd, Records
-from .tshark import ACK, FIN, RESET, SYN, Segment
+from .tshark import ACK, FIN, PUSH, RESET, SYN, Segment
 
 ETHERNET, IP_4, IP_6, UNKNOWN = 1, 0x0800, 0x86DD, 0
 # Where the type of the frame's content is, and where the content begins, by link.
@@ -30,7 +30,7 @@ EXTENSIONS = (0, 43, 60)
 PLAIN_PORTS = {53, 67, 68, 69, 123, 137, 138, 161, 162, 319, 320, 514, 546, 547, 1900, 5353, 5355}
 # The errors of ICMP that quote a packet.
 QUOTES = {ICMP: (3, 4, 5, 11, 12), ICMP_6: (1, 2, 3, 4)}
-HEAD = struct.Struct(">IIBB")
+HEAD, SUM = struct.Struct(">IIBB"), slice(16, 18)
 
 
 class Way:
@@ -45,10 +45,10 @@ class Way:
 
 
 class Reader:
-    """Reads segments. With `port` only those at this port, and only these have streams."""
+    """Reads segments. With `port` only those at this port, and only these have streams; with `has_sums` their checksums are checked."""
 
-    def __init__(self, is_live=False, port=None):
-        self.ways, self.count, self.is_live, self.port, self.odd = {}, 0, is_live, port, None
+    def __init__(self, is_live=False, port=None, has_sums=False):
+        self.ways, self.count, self.is_live, self.port, self.has_sums, self.odd = {}, 0, is_live, port, has_sums, None
         self.records = Records()
 
     def feed(self, octets):
@@ -93,7 +93,10 @@ class Reader:
         way.is_begun = True
         if flags & (FIN | RESET):
             way.is_ended = True
-        return made_of(number, time, way, sequence, acknowledged, flags, frame[begin:end], end - begin)
+        made = made_of(number, time, way, sequence, acknowledged, flags, frame[begin:end], end - begin)
+        if self.has_sums and begin < end <= len(frame):
+            made.is_right = is_right(addresses, frame[at:end])
+        return made
 
     def way(self, key):
         """A new direction, and that back; None if it isn't at the port."""
@@ -140,7 +143,17 @@ def made_of(number, time, way, sequence, acknowledged, flags, octets, length):
     made.tell(flags, acknowledged)
     if length > len(octets):
         made.missing = length - len(octets)
+    if len(octets) == 1:
+        made.is_pushed = bool(flags & PUSH)
     return made
+
+
+def is_right(addresses, segment):
+    """Whether the checksum of a segment is right. None if it is the sum of the addresses alone, since the card has still to write it."""
+    before = int.from_bytes(addresses, "big") + TCP + len(segment)
+    if (before + int.from_bytes(segment + b"\0" * (len(segment) % 2), "big")) % 0xFFFF == 0:
+        return True
+    return False if int.from_bytes(segment[SUM], "big") % 0xFFFF != before % 0xFFFF else None
 
 
 def address_of(octets):
@@ -239,9 +252,9 @@ def chunks(path):
                 yield piece
 
 
-def segments(path, cut):
+def segments(path, cut, has_sums=False):
     """The segments of a file, one by one; `Odd` if tshark has to read it. If it ends within a packet, `cut` is called."""
-    reader = Reader()
+    reader = Reader(has_sums=has_sums)
     try:
         for octets in chunks(path):
             yield from reader.feed(octets)

@@ -99,15 +99,17 @@ class Judged:
         self.limit = f"judged up to {gap}" if gap else None
         self.gap = gap
         self.verdict = verdicts.printed(judge(Parts(self.parts)))
-        if self.verdict.first and hasattr(stream, "path"):
-            self.leave_damaged(damage.damaged(stream.path), judge)
+        if self.verdict.first and isinstance(stream, streams.Stream):
+            self.leave_doubtful(judge)
 
-    def leave_damaged(self, numbers, judge):
-        """Judges only what passed before the first frame that was damaged, if there is one among these."""
-        place = next((place for place, (_, piece) in enumerate(self.parts) if piece.frame in numbers), None)
+    def leave_doubtful(self, judge):
+        """Judges only what passed before the first frame that was damaged, or whose octet may be that of a keepalive, if there is one."""
+        hurt = damage.damaged(self.stream.path) if hasattr(self.stream, "path") else self.stream.hurt()
+        alone = self.stream.alone()
+        place = next((place for place, (_, piece) in enumerate(self.parts) if piece.frame in hurt or piece.frame in alone), None)
         if place is not None:
             side, piece = self.parts[place]
-            self.parts, self.gap = self.parts[:place], streams.Damage(side, piece.frame)
+            self.parts, self.gap = self.parts[:place], (streams.Damage if piece.frame in hurt else streams.Alone)(side, piece.frame)
             self.limit = f"judged up to {self.gap}"
             self.verdict = verdicts.printed(judge(Parts(self.parts)))
 

@@ -2,11 +2,13 @@
 from .streams import CODES, SIDES, is_packet, packets
 
 # The units of X.225 by their SI with which a session begins: CN or AB of the caller; RF, AC, OA or AB of the other side.
-CALLS, ANSWERS = {13, 25}, {12, 14, 16, 25}
+CALLS, ANSWERS = (b"\x0d", b"\x19"), (b"\x0c", b"\x0e", b"\x10", b"\x19")
 # What the first TSDU of an application begins with that has no session below it.
 BEGINS = ((b"\x32", "S7comm"), (b"\x72", "S7comm-plus"), (b"\x7f\x65", "RDP (T.125)"), (b"\x21\x80", "RDP (T.125)"),
            (b"\x16\x03", "TLS"))
 DATA, REQUESTS, RECORD = 0xF0, (0xE0, 0xD0), b"\x16\x03"
+# What a load balancer writes in front of a connection, if it uses the PROXY protocol of version 1 or 2.
+BALANCERS = (b"PROXY ", b"\r\n\r\n\0\r\nQUIT\n")
 MOST = 65_536
 
 
@@ -16,6 +18,8 @@ def of(stream):
     left, right = (fronts[side] for side in SIDES)
     if not any(octets[:1] == b"\3" for octets in (left, right)):
         return "no TPKT" if left or right else None
+    if left.startswith(BALANCERS):
+        return "the PROXY protocol of a load balancer"
     return below_transport(left, right) or of_requests(left, right) or of_first_data(left, right)
 
 
@@ -66,21 +70,29 @@ def is_negotiation(octets):
 def of_first_data(left, right):
     """The protocol by the first octets above transport of both sides. A session is one that begins as a session does: data of another
     protocol may begin as any other unit of X.225."""
-    begins = [first_data(octets) for octets in (left, right)]
-    first = next(filter(None, begins), b"")
+    (call, is_whole), (answer, _) = (first_data(octets) for octets in (left, right))
+    first = call or answer
     known = next((name for begin, name in BEGINS if first.startswith(begin)), None)
-    if known or not first or any(begin and begin[0] in opening for begin, opening in zip(begins, (CALLS, ANSWERS))):
+    if known or not first or answer[:1] in ANSWERS or call[:1] in CALLS and (not answer or is_as_long_as_told(call, is_whole)):
         return known
     return f"a protocol whose data begins with {first[:2].hex()}"
 
 
+def is_as_long_as_told(octets, is_whole):
+    """Whether a session unit, or its first octets if it isn't whole, is as long as its length indicator says."""
+    if len(octets) < 2 or octets[1] == 255:
+        return len(octets) > 1
+    return len(octets) == 2 + octets[1] if is_whole else len(octets) < 2 + octets[1]
+
+
 def first_data(octets):
-    """The first octets above transport, or the record of TLS that comes in place of a packet; none if there are none."""
+    """What the first data unit has above transport, and whether that is a whole TSDU; or the record of TLS that comes in place of a
+    packet."""
     at = 0
     for unit in units(octets):
         if unit is None:
-            return octets[at:at + 2] if at and octets.startswith(RECORD, at) else b""
+            return (octets[at:at + 2] if at and octets.startswith(RECORD, at) else b""), False
         at += 4 + len(unit)
         if len(unit) > 2 and unit[1] & 0xF0 == DATA and len(unit) > 1 + unit[0]:
-            return unit[1 + unit[0]:][:2]
-    return b""
+            return unit[1 + unit[0]:], unit[unit[0]] >= 0x80
+    return b"", False

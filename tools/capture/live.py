@@ -6,7 +6,7 @@ import signal
 import subprocess
 import sys
 
-from . import frames, tshark
+from . import damage, frames, tshark
 from .records import CHUNK
 from .tshark import BadInput
 
@@ -37,7 +37,7 @@ class Source:
 
     def of_pipe(self, pipe):
         """The segments at the port of a capture that comes through a pipe."""
-        self.reader = frames.Reader(True, self.asked.port)
+        self.reader = frames.Reader(True, self.asked.port, True)
         for octets in self.chunks(pipe):
             try:
                 yield from self.reader.feed(octets) if octets else [None]
@@ -65,9 +65,9 @@ class Source:
         try:
             for _ in frames.segments(name, lambda: None):
                 pass
-            found = frames.segments(name, lambda: tshark.tell_cut(name))
+            found = frames.segments(name, lambda: tshark.tell_cut(name), True)
         except frames.Odd:
-            found = tshark.segments(name)
+            found = with_sums(name)
         for segment in found:
             if self.is_stopped:
                 return
@@ -91,3 +91,11 @@ class Source:
             self.program.wait()
         if self.reader is not None and self.reader.odd:
             print(f"osi-capture: not every frame was read: {self.reader.odd}", file=sys.stderr)
+
+
+def with_sums(name):
+    """The segments of a file that tshark reads, and of those with octets whether the checksum is right."""
+    hurt = damage.damaged(name)
+    for segment in tshark.segments(name):
+        segment.is_right = segment.frame not in hurt if segment.octets else None
+        yield segment

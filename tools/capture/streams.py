@@ -5,7 +5,7 @@ out of order the later octets wait, also those of the other direction that the c
 once. Octets that the capture doesn't have leave a gap: then that direction ends before it, and the other one before what acknowledges
 any of them.
 """
-from .directions import MOST_WAITING, NEAR, Direction, Piece
+from .directions import MOST_WAITING, NEAR, QUIET, Direction, Piece
 
 SIDES = ("left", "right")
 CONNECT_REQUEST, CONNECT_CONFIRM, DISCONNECT_REQUEST, ERROR = 0xE0, 0xD0, 0x80, 0x70
@@ -57,6 +57,26 @@ class Damage(Gap):
         return f"frame {self.frame}, which was damaged on its way from {self.side} (its TCP checksum is wrong)"
 
 
+class Alone(Gap):
+    """An octet that may be that of a keepalive, and no part of what was sent: its side, and the frame."""
+
+    def __init__(self, side, frame):
+        super().__init__(side, None, frame, None)
+
+    def __str__(self):
+        return f"frame {self.frame}, whose one octet may be that of a keepalive of {self.side}"
+
+
+class After(Gap):
+    """Octets after the end of a direction: its side, and the frame."""
+
+    def __init__(self, side, frame):
+        super().__init__(side, None, frame, None)
+
+    def __str__(self):
+        return f"frame {self.frame}, in which {self.side} sent octets after its end (FIN)"
+
+
 class Order(Gap):
     """Octets of both sides that acknowledge each other, so that some were sent again, and the capture lacks their first copy: their side,
     the frame up to which the order is known, and that which had them again."""
@@ -76,7 +96,7 @@ class Stream:
     def __init__(self, number, ends):
         self.number, self.ends, self.pieces, self.opener, self.requester = number, ends, [], None, None
         self.directions = {end: Direction() for end in ends}
-        self.is_over = self.is_other = False
+        self.is_over = self.is_other = self.is_crossed = False
         self.last, self.early = None, []
 
     def take(self, segment):
@@ -84,17 +104,24 @@ class Stream:
         own, far = self.directions.get(segment.source), self.directions.get(segment.target)
         if own is None or far is None or own is far:
             return
+        if len(segment.octets) == 1:
+            segment.is_soon = self.last is not None and abs(segment.time - self.last[1]) < QUIET
         self.last = segment.frame, segment.time
         if self.early is None:
             self.go_on(segment, own, far)
             return
         self.early.append(segment)
         if segment.is_first:
-            self.opener = segment.target if segment.is_answer else segment.source
+            self.note_opener(segment.target if segment.is_answer else segment.source)
             own.begin(segment)
         is_refused = segment.is_reset and self.opener not in (None, segment.source)
         if is_refused or len(self.early) >= EARLY or (own.has_first and far.has_first):
             self.settle()
+
+    def note_opener(self, end):
+        """Notes who opened the connection; if both did at once, it is known only by the CR who called."""
+        self.is_crossed = self.is_crossed or self.opener not in (None, end)
+        self.opener = None if self.is_crossed else end
 
     def settle(self):
         """Finds where directions begin whose first segment isn't there, and takes the first segments."""
@@ -112,10 +139,12 @@ class Stream:
 
     def go_on(self, segment, own, far):
         """Takes a segment, now that it is known where both directions begin."""
+        # What acknowledges octets before the first one is of another connection (RFC 5961 section 5).
+        if segment.acknowledged is not None and far.acknowledge(segment.acknowledged, segment.frame, segment.time) < 0 and far.has_first:
+            return
         own.note(segment)
-        if segment.acknowledged is not None:
-            far.acknowledge(segment.acknowledged, segment.frame, segment.time)
         if self.is_over or self.is_other:
+            self.look_again(segment, own)
             return
         # A reset may have a text, which is no part of what was sent (RFC 1122, 4.2.2.12).
         if segment.octets and not segment.is_reset:
@@ -125,10 +154,16 @@ class Stream:
         if own.held > MOST_WAITING:
             self.finish()
 
+    def look_again(self, segment, own):
+        """Compares what is sent again with what passed, of a stream that is over."""
+        if self.is_over and segment.octets and not segment.is_reset:
+            own.compare(own.place(segment.sequence), segment.octets, segment.frame)
+            self.leave_doubt()
+
     def take_octets(self, segment, own, far):
         """Lets the octets of a segment pass if they are the next ones and nothing is missing; else keeps them."""
         if own.waiting or segment.sequence != own.next or segment.is_first or not far.has_passed(segment.acknowledged) or \
-                own.is_keepalive(own.count, segment):
+                len(segment.octets) == 1 or own.last is not None:
             own.keep(segment)
             return
         piece = Piece(segment.frame, segment.time, own.count, segment.octets)
@@ -212,10 +247,27 @@ class Stream:
         """The first gap, or None: octets that are lost, or of which it isn't known what they were."""
         found = [each for each in (self.doubt(), self.order()) if each]
         for side, end in self.by_end().items():
+            if self.directions[end].after:
+                found.append(After(side, self.directions[end].after))
             lost = self.lost(end)
             if lost:
                 found.append(Gap(side, lost, self.directions[end].first_after(), self.directions[end].cut))
         return min(found, key=lambda gap: gap.frame, default=None)
+
+    def alone(self):
+        """The frames of octets that may be those of keepalives."""
+        return {frame for direction in self.directions.values() for frame in direction.alone.values()}
+
+    def hurt(self):
+        """The frames that were damaged on their way, of a stream whose checksums are looked at while it passes."""
+        return {frame for direction in self.directions.values() for frame in direction.hurt if direction.is_hurt(frame)}
+
+    def unsure(self, source, piece):
+        """Why a piece of an end isn't surely what was sent; or None."""
+        side, direction = SIDES[source != self.left()], self.directions[source]
+        if direction.is_hurt(piece.frame):
+            return Damage(side, piece.frame)
+        return Alone(side, piece.frame) if piece.start in direction.alone else None
 
     def lost(self, end):
         """How many octets of an end are missing: before others of its own, or before what the other end sent when it had received them."""

@@ -125,22 +125,24 @@ def pcap_of(frames, link=RAW_IP, order=">", is_nano=False, cut=None, times=None)
     return b"".join(made)
 
 
-def pcapng_of(*sections, link=RAW_IP):
-    """A pcapng with a section for each list of frames, as files that are merged have them; a millisecond between two frames."""
+def pcapng_of(*sections, link=RAW_IP, order="<", options=b"", units=1):
+    """A pcapng with a section for each list of frames, as files that are merged have them; a millisecond between two frames. `options`
+    are those of the interfaces, and `units` how many units their times have in a microsecond."""
     made, place = [], 0
     for frames in sections:
-        made += [block(0x0A0D0D0A, struct.pack("<IHHq", 0x1A2B3C4D, 1, 0, -1)), block(1, struct.pack("<HHI", link, 0, 0))]
+        made += [block(0x0A0D0D0A, struct.pack(order + "IHHq", 0x1A2B3C4D, 1, 0, -1), order),
+                 block(1, struct.pack(order + "HHI", link, 0, 0) + options, order)]
         for frame in frames:
-            time = 1_000_000_000_000_000 + place * 1_000
-            made.append(block(6, struct.pack("<IIIII", 0, time >> 32, time % SPACE, len(frame), len(frame)) + frame))
+            time = (1_000_000_000_000_000 + place * 1_000) * units
+            made.append(block(6, struct.pack(order + "IIIII", 0, time >> 32, time % SPACE, len(frame), len(frame)) + frame, order))
             place += 1
     return b"".join(made)
 
 
-def block(kind, body):
+def block(kind, body, order="<"):
     """A block of a pcapng."""
     body += bytes(-len(body) % 4)
-    return struct.pack("<II", kind, 12 + len(body)) + body + struct.pack("<I", 12 + len(body))
+    return struct.pack(order + "II", kind, 12 + len(body)) + body + struct.pack(order + "I", 12 + len(body))
 
 
 def told(segment):
@@ -245,6 +247,11 @@ class Forms(Room):
         frames = whole()[0]
         self.same(pcapng_of(frames[:7], frames[7:]))
 
+    def test_a_pcapng_of_either_order_of_octets_and_with_nanoseconds(self):
+        frames = whole()[0]
+        self.same(pcapng_of(frames, order=">"))
+        self.same(pcapng_of(frames, options=struct.pack("<HHB3xHH", 9, 1, 9, 0, 0), units=1_000))
+
     def test_ipv6(self):
         self.same(pcap_of(Frames(addresses=IPV6).open().talk().close().frames))
 
@@ -252,6 +259,7 @@ class Forms(Room):
         frames = whole()[0]
         content = pcap_of(frames[:8])
         self.assertEqual(self.passed(content[:-5]), whole()[1][:4])
+        self.assertEqual(self.passed(pcapng_of(frames[:8])[:-5]), whole()[1][:4])
 
     def test_streams_that_pass_at_the_same_time(self):
         one, other = whole()[0], Frames(ports={"left": 41_000, "right": 102}).open().talk().close().frames

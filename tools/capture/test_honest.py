@@ -2,17 +2,25 @@
 what was sent, without `osi`: if it is a part of it in its order, then no verdict on it blames an end that kept the protocol."""
 import contextlib
 import io
+import itertools
 import random
 import struct
 import types
 import unittest
 from unittest import mock
 
-from . import asking, directions, frames, judging, kinds, pcap, reports, streams, watching
-from .test_frames import (AC, ACK, CC, CN, CR, DT, ETHERNET, FIN, FIRST, PUSH, RESET, SPACE, SYN, TOKENS, Frames, Room, data, fragments,
+from . import asking, directions, frames, judging, kinds, pcap, reports, streams, tshark, watching
+from .test_frames import (AC, ACK, CC, CN, CR, DT, ETHERNET, FIN, FIRST, IPV4, PUSH, RESET, SPACE, SYN, TOKENS, Frames, Room, data, fragments,
                           linked, packet, pcap_of, segment_of, stream_of, whole)
 
 BLAMING = "left 1 broke packet 50 Data BadState\nleft broke the protocol first, packet 50: Data BadState\n"
+
+
+def blamed(parts):
+    """What a judge prints that blames whoever sends the word `wrong`."""
+    rows = str(parts).split("\n")
+    sides = ("".join(row for row in rows if row.startswith("\t") == is_right) for is_right in (False, True))
+    return BLAMING if any(b"wrong".hex() in side.replace("\t", "") for side in sides) else "both kept the protocol\n"
 
 
 def in_turns(parts):
@@ -24,6 +32,13 @@ def in_turns(parts):
         elif octets:
             found.append((side, octets))
     return found
+
+
+def sure(stream):
+    """What passed before the first octet that may be that of a keepalive: what a side may be blamed for."""
+    alone = stream.alone()
+    return itertools.takewhile(lambda part: part is not None,
+                               ((side, piece.octets) if piece.frame not in alone else None for side, piece in stream.by_side()))
 
 
 def is_beginning(found, whole_run):
@@ -100,16 +115,14 @@ class Turns(unittest.TestCase):
 
     def test_disorder_losses_copies_and_keepalives(self):
         for seed in range(60):
-            is_quiet = seed % 3 == 0
-            run = Run(random.Random(seed), keepalives=is_quiet / 3)
-            # (If the last octet, which is a segment of its own, and its acknowledgement are both lost, nothing tells it from a keepalive.)
-            for disorder, loss in ((0, 0), (0.3, 0), *(() if is_quiet else ((0, 0.1), (0, 0.3), (0.9, 0.1), (0.9, 0.3)))):
+            run = Run(random.Random(seed), keepalives=(seed % 3 == 0) / 3)
+            for disorder, loss in ((0, 0), (0.3, 0), (0, 0.1), (0, 0.3), (0.9, 0.1), (0.9, 0.3)):
                 stream = run.captured(disorder, loss)
                 if stream is None or asking.why_not(stream):
                     self.assertTrue(loss, seed)
                     continue
                 found = in_turns((side, piece.octets) for side, piece in stream.by_side())
-                self.assertTrue(is_beginning(found, run.sent), (seed, disorder, loss))
+                self.assertTrue(is_beginning(in_turns(sure(stream)), run.sent), (seed, disorder, loss))
                 if not loss:
                     self.assertEqual((found, stream.gap()), (run.sent, None), (seed, disorder))
 
@@ -298,6 +311,19 @@ class Honest(Room):
         for first in (bytes((192, 0, 2, 1)), bytes((192, 0, 2, 2))):
             self.beginning(sorted(made, key=lambda frame: frame[12:16] != first), is_whole=True)
 
+    def test_a_mirror_in_a_tunnel_beside_the_frames_themselves(self):
+        """The machine that captures sees each frame itself and a copy that a switch sends (ERSPAN), late or cut."""
+        if not tshark.is_there():
+            self.skipTest("tshark is not installed")
+        made = whole()[0]
+        for late, cut in ((0, None), (3, None), (-2, None), (0, 110)):
+            both = sorted([*((place, 0, linked(frame)) for place, frame in enumerate(made)),
+                           *((place + late, 1, linked(mirrored(frame, place)[:cut])) for place, frame in enumerate(made))])
+            path = self.write(pcap_of([frame for _, _, frame in both], ETHERNET))
+            self.beginning(asking.joined(path, path, 102)[0], is_whole=True)
+            only = self.write(pcap_of([linked(mirrored(frame, place)) for place, frame in enumerate(made)], ETHERNET))
+            self.beginning(asking.joined(only, only, 102)[0], is_whole=True)
+
     def test_times_out_of_order(self):
         chance = random.Random(1)
         times = [1_000_000_000 + chance.randrange(10 ** 9) for _ in whole()[0]]
@@ -335,6 +361,190 @@ class Honest(Room):
         self.beginning(made.talk().close().frames, [*whole()[1][:6], *whole()[1][4:]])
 
 
+def flagged(frame, flags):
+    """A frame with other flags of TCP."""
+    return frame[:33] + bytes([flags]) + frame[34:]
+
+
+class Keepalives(unittest.TestCase):
+    """The capture lacks a segment of one octet, and what acknowledged it; a keepalive with another octet comes in its place."""
+
+    WRONG = data(b"\1\0\1\0wrong")
+
+    @staticmethod
+    def judged(made, pauses=None):
+        """What is said of frames by a judge that blames whoever sends the word `wrong`; before some frames nothing passes for a while."""
+        segments, late = [segment_of(place, frame) for place, frame in enumerate(made, 1)], 0
+        for segment in segments:
+            late += (pauses or {}).get(segment.frame, 0)
+            segment.time += late
+        stream = streams.joined(segments)[0]
+        return judging.Judged(stream, blamed)
+
+    def unsure(self, found, frame, why="whose one octet may be that of a keepalive of left"):
+        """Nobody is blamed, since it isn't sure what passed with a frame."""
+        self.assertEqual((found.status(), found.limit), (3, f"judged up to frame {frame}, {why}"))
+        self.assertIsNone(reports.first_of(found))
+
+    def lost(self, flags=ACK, octets=DT, mtu=len(DT) - 1):
+        """The frames, and the number of that of the keepalive."""
+        made = Frames(mtu=mtu).open().send("left", octets)
+        made.frames.pop()
+        made.put("left", b"\0", flags, sequence=made.next["left"] - 1)
+        made.next["left"] -= 1
+        number = len(made.frames)
+        return made.put("right").send("left", self.WRONG).put("right").frames, number
+
+    def test_nobody_is_blamed(self):
+        for flags, pause in ((ACK, 10), (ACK, 7_200), (ACK, 0.002), (PUSH | ACK, 10)):
+            made, number = self.lost(flags)
+            self.unsure(self.judged(made, {number: pause}), number)
+
+    def test_if_every_octet_comes_alone(self):
+        made, number = self.lost(mtu=1)
+        self.unsure(self.judged(made, {number: 10}), number)
+
+    def test_a_keepalive_that_comes_soon_after_the_acknowledgement(self):
+        made = Frames(mtu=len(DT) - 1).open().send("left", DT)
+        made.frames.pop()
+        made.put("right").put("left", b"\0", PUSH | ACK, sequence=made.next["left"] - 1)
+        made.next["left"] -= 1
+        number = len(made.frames)
+        self.unsure(self.judged(made.send("left", self.WRONG).frames), number)
+
+    def test_an_octet_that_was_cut_off(self):
+        """The frame was one octet longer than what is captured of each."""
+        made, number = self.lost(mtu=1_400)
+        frame = Frames(mtu=1_400).open().send("left", DT).frames[-1]
+        cut = segment_of(8, frame, len(frame) - 1)
+        segments = [segment_of(place, each) for place, each in enumerate(made[:number - 1], 1)] + [cut]
+        segments += [segment_of(place, each) for place, each in enumerate(made[number - 1:], number + 1)]
+        stream = streams.joined(segments)[0]
+        found = judging.Judged(stream, blamed)
+        self.unsure(found, number + 1)
+
+    def test_the_keepalive_of_a_direction_that_has_ended(self):
+        """Its number is that of FIN. The capture has FIN, or it lacks it."""
+        for is_here in (True, False):
+            made = Frames().open().put("left", flags=FIN | ACK).put("left", b"\0", sequence=FIRST["left"] + 1 + len(CR + CN))
+            made.next["left"] -= 1
+            made.send("right", self.WRONG)
+            frames_made = made.frames if is_here else made.frames[:7] + made.frames[8:]
+            found = self.judged(frames_made, {9 if is_here else 8: 10})
+            if is_here:
+                self.assertEqual((found.status(), found.parts[-1][0]), (1, "right"))
+                self.assertNotIn(b"\0", [piece.octets for _, piece in found.parts])
+            else:
+                self.unsure(found, 8)
+
+    def test_one_octet_segments_are_judged(self):
+        """Data that comes octet by octet: its sender pushes it, it comes soon, or its neighbours come alone, too."""
+        sent = Frames(mtu=1).begin().send("left", CR).send("right", CC).send("left", CN).send("right", AC).send("left", self.WRONG).frames
+        for made in (sent, [flagged(frame, ACK) if len(frame) == 41 else frame for frame in sent]):
+            self.assertEqual(self.judged(made).status(), 1)
+        self.assertEqual(self.judged(sent, dict.fromkeys(range(4, len(sent)), 1.5)).status(), 1)
+        typed = Frames().open().frames
+        begun = len(typed)
+        typed += Frames(mtu=1).begin().send("left", CR).send("right", CC).send("left", CN).send("right", AC).send("left", self.WRONG).frames[
+            3 + len(CR + CC + CN + AC):]
+        self.assertEqual(self.judged(typed, dict.fromkeys(range(begun + 1, len(typed)), 3)).status(), 1)
+
+    def test_the_last_octet_of_a_packet_is_judged(self):
+        made = Frames(mtu=len(DT) - 1).open().send("left", DT).send("left", self.WRONG).frames
+        self.assertEqual(self.judged(made).status(), 1)
+
+    def test_another_copy_says_that_it_was_data(self):
+        made = Frames(mtu=len(DT) - 1).open()
+        start = made.next["left"]
+        made.send("left", DT)
+        made.frames[-1] = flagged(made.frames[-1], ACK)
+        number = len(made.frames)
+        made.put("left", DT[2:], PUSH | ACK, sequence=start + 2)
+        made.next["left"] = start + len(DT)
+        self.assertEqual(self.judged(made.send("left", self.WRONG).frames, {number: 10}).status(), 1)
+
+    def test_a_break_before_it_stays_found(self):
+        made, number = self.lost()
+        wrong = Frames(mtu=1_400).open().send("left", self.WRONG).send("left", DT[:-1]).put("left", b"\0")
+        self.assertEqual(self.judged(wrong.frames, {len(wrong.frames): 10}).status(), 1)
+
+    def test_if_nobody_is_to_blame_all_is_judged(self):
+        made, number = self.lost()
+        found = self.judged(made[:-2], {number: 10})
+        self.assertEqual((found.status(), found.limit), (0, None))
+
+
+def tunnelled(frame):
+    """A datagram in a tunnel of GRE."""
+    return struct.pack(">BBHHHBBH4s4s", 0x45, 0, 24 + len(frame), 0, 0, 64, 47, 0, *IPV4.values()) + b"\0\0\x08\0" + frame
+
+
+def mirrored(frame, number):
+    """A datagram in a frame of Ethernet that a switch sends to the machine that captures (ERSPAN of type II)."""
+    head = b"\x10\0\x88\xbe" + struct.pack(">I", number) + bytes.fromhex("1007000700000001")
+    inner = head + linked(frame)
+    return struct.pack(">BBHHHBBH4s4s", 0x45, 0, 20 + len(inner), 0, 0, 64, 47, 0, bytes((10, 0, 0, 1)), bytes((10, 0, 0, 2))) + inner
+
+
+class Ends(Room):
+    """What comes after the end of a direction, and connections that both ends open."""
+
+    def test_octets_after_the_end(self):
+        """Nobody receives them: FIN was none, or they are of a connection whose beginning was lost."""
+        made = Frames().open().talk().put("left", flags=FIN | ACK)
+        made.next["left"] -= 1
+        stream = stream_of(made.send("left", data(b"\1\0\1\0more")).frames)
+        self.assertEqual(str(stream.gap()), "frame 11, in which left sent octets after its end (FIN)")
+        self.assertEqual([piece.octets for _, piece in stream.by_side()][-1], DT)
+        late = made.frames[:9] + [made.frames[10], made.frames[9]]
+        self.assertEqual([piece.octets for _, piece in stream_of(late).by_side()][-1][-4:], b"more")
+
+    def test_an_end_of_another_connection(self):
+        made = Frames().open().talk().put("left", flags=FIN | ACK, sequence=FIRST["left"] - 5_000)
+        made.next["left"] -= 1
+        lost = made.talk().send("left", DT).frames
+        stream = stream_of(lost[:-3] + lost[-2:])
+        self.assertEqual((str(stream.gap())), f"frame 11, where left lost {len(DT)} octets")
+
+    def test_octets_that_wait_when_the_end_is_known(self):
+        made = Frames().open()
+        start = made.next["left"]
+        made.put("left", DT + DT, PUSH | ACK, sequence=start + len(DT)).put("left", flags=FIN | ACK, sequence=start + 2 * len(DT))
+        stream = stream_of(made.put("left", DT, PUSH | ACK, sequence=start).frames)
+        self.assertEqual(in_turns((side, piece.octets) for side, piece in stream.by_side())[-1], ("left", DT + DT))
+        self.assertEqual(str(stream.gap()), "frame 8, in which left sent octets after its end (FIN)")
+
+    def test_two_answers_to_the_call(self):
+        """Of two servers, or of one and a firewall: the first isn't that which the caller takes."""
+        made = Frames().open().talk().close().frames
+        for more in (-10_000_000, 10_000_000, 2 ** 31 - 9):
+            other = Frames().put("left", flags=SYN).put("right", flags=SYN | ACK, sequence=FIRST["right"] + more).frames[1]
+            for both in (made[:1] + [other] + made[1:], made[:2] + [other] + made[2:]):
+                self.assertTrue(is_beginning(in_turns((side, piece.octets) for side, piece in stream_of(both).by_side()),
+                                             in_turns(whole()[1])), more)
+        self.assertEqual(in_turns((side, piece.octets) for side, piece in stream_of(both).by_side()), in_turns(whole()[1]))
+
+    def test_both_ends_call_at_once(self):
+        made = Frames().put("left", flags=SYN).put("right", flags=SYN)
+        for side in streams.SIDES:
+            made.put(side, flags=SYN | ACK, sequence=FIRST[side])
+            made.next[side] -= 1
+        made.send("right", CR).send("left", CC).send("right", CN).send("left", AC)
+        stream = stream_of(made.frames)
+        self.assertIsNone(asking.why_not(stream))
+        self.assertEqual([side for side, _ in stream.by_side()], ["left", "right"] * 2)
+        self.assertEqual(stream.by_end()["left"], ("192.0.2.2", 102))
+
+    def test_octets_that_are_sent_again_as_others_after_the_stream_is_over(self):
+        made = Frames().open().talk()
+        start = made.next["left"]
+        with mock.patch.object(streams, "MOST_WAITING", 10):
+            made.put("left", DT, PUSH | ACK, sequence=start + 500).put("left", b"others", PUSH | ACK, sequence=start - len(DT))
+            stream = stream_of(made.frames)
+        self.assertEqual(str(stream.gap()), "frame 8, whose octets left sent again as others in frame 11")
+        self.assertEqual(in_turns((side, piece.octets) for side, piece in stream.by_side())[-1], ("right", AC))
+
+
 def summed(frame):
     """A frame with its TCP checksum."""
     segment = frame[20:36] + b"\0\0" + frame[38:]
@@ -348,7 +558,7 @@ class Damaged(Room):
         """What is said of frames by a judge that blames whoever sends the word `wrong`."""
         path = self.write(pcap_of(made))
         stream = asking.found_in(path, 102)[0]
-        return judging.Judged(stream, lambda parts: BLAMING if b"wrong".hex() in str(parts) else "both kept the protocol\n")
+        return judging.Judged(stream, blamed)
 
     def test_its_sender_is_not_blamed(self):
         made = Frames().open().talk().send("left", data(b"\1\0\1\0wrong")).send("right", DT)
@@ -359,6 +569,15 @@ class Damaged(Room):
         self.assertEqual((found.status(), found.limit), (3, said))
         self.assertIsNone(reports.first_of(found))
         self.assertEqual(self.judged(right).status(), 1)
+
+    def test_a_capture_that_only_tshark_reads(self):
+        """The frames are in a tunnel."""
+        if not tshark.is_there():
+            self.skipTest("tshark is not installed")
+        made = Frames().open().talk().send("left", data(b"\1\0\1\0wrong")).send("right", DT).frames
+        right = [summed(frame) for frame in made]
+        for hurt, status in ((right, 1), (made, 1), (right[:9] + [made[9][:36] + b"\x12\x34" + made[9][38:]] + right[10:], 3)):
+            self.assertEqual(self.judged([tunnelled(frame) for frame in hurt]).status(), status)
 
     def test_checksums_that_the_card_has_still_to_write_say_nothing(self):
         made = Frames().open().talk().send("left", data(b"\1\0\1\0wrong")).send("right", DT)
@@ -394,6 +613,21 @@ class Foreign(unittest.TestCase):
             said = f"a protocol whose data begins with {octets[:2].hex()}"
             self.assertEqual(self.kind(("left", CR), ("right", CC), ("left", data(octets))), said)
             self.assertEqual(self.kind(("left", CR), ("right", CC), ("right", data(octets)), ("left", data(octets))), said)
+
+    def test_blocks_that_begin_as_a_session_does(self):
+        """But neither is as long as it says, nor does the other side answer it."""
+        opened = ("left", CR), ("right", CC)
+        for octets in (b"\r\nGET 1\r\n", b"\r\nGET /status 1\r\n", b"\x19\0\1\2\3"):
+            said = f"a protocol whose data begins with {octets[:2].hex()}"
+            self.assertEqual(self.kind(*opened, ("left", data(octets)), ("right", data(b"OK\r\n"))), said)
+            self.assertIsNone(self.kind(*opened, ("left", data(octets)), ("right", AC)))
+            self.assertIsNone(self.kind(*opened, ("left", data(octets))))
+        self.assertIsNone(self.kind(*opened, ("left", CN), ("right", data(b"OK\r\n"))))
+
+    def test_what_a_load_balancer_writes_first(self):
+        for octets in (b"PROXY TCP4 192.0.2.1 192.0.2.2 40000 102\r\n", b"\r\n\r\n\0\r\nQUIT\n\x21\x11\0\x0c" + bytes(12)):
+            said = "the PROXY protocol of a load balancer"
+            self.assertEqual(self.kind(("left", octets), ("left", CR), ("right", CC), ("left", CN), ("right", AC)), said)
 
     def test_a_handshake_with_selectors_as_ours(self):
         request = packet(bytes.fromhex("11e00000000100c0010ac1020100c2020102"))
@@ -439,12 +673,64 @@ class Watched(unittest.TestCase):
         self.watching = watching.Watching(102, forget=self.reader.forget)
         list(self.reader.feed(pcap_of([])))
 
-    def fed(self, made, is_end=False):
+    def fed(self, made, is_end=False, times=None):
         """What is printed while frames pass."""
         with contextlib.redirect_stdout(io.StringIO()) as out:
-            watching.follow(self.watching, self.reader.feed(pcap_of(made)[24:]), 1)
+            watching.follow(self.watching, self.reader.feed(pcap_of(made, times=times)[24:]), 1)
             self.watching.look(is_end=is_end)
         return out.getvalue()
+
+    def test_a_keepalive_in_place_of_an_octet_that_is_lost(self):
+        made, number = Keepalives().lost()
+        times = [10 ** 12 + 1_000 * place + (place >= number - 1) * 10 ** 7 for place in range(len(made))]
+        with self.finding(b"wro"):
+            out = self.fed(made, times=times)
+        self.assertIn(f"both kept the protocol, judged up to frame {number}, whose one octet may be that of a keepalive of left", out)
+        self.assertEqual(self.watching.status(), 3)
+
+    @staticmethod
+    def finding(octets):
+        """Lets a judge find a break in these octets."""
+        return mock.patch.object(Judge, "feed", lambda judge, side, piece: iter([Told()] if octets in piece else []))
+
+    def test_a_break_before_a_keepalive_is_told(self):
+        made = Frames().open().send("left", Keepalives.WRONG).put("right").put("left", b"\0").put("right").send("left", Keepalives.WRONG)
+        times = [10 ** 12 + 1_000 * place + (place >= 9) * 10 ** 7 for place in range(len(made.frames))]
+        out = self.fed(made.put("right").frames, True, [*times, times[-1] + 1_000])
+        self.assertEqual((out.count("broke"), self.watching.status()), (1, 1))
+        self.assertIn("judged up to frame 10, whose one octet may be that of a keepalive of left", out)
+
+    def test_octets_that_come_alone_are_judged(self):
+        made = Frames(mtu=1).open().send("left", Keepalives.WRONG).put("right")
+        with self.finding(b"w"):
+            self.assertIn("broke", self.fed(made.frames))
+
+    def test_a_frame_that_was_damaged_and_whose_other_copy_is_lost(self):
+        self.reader.has_sums = True
+        made = Frames().open().talk().send("left", data(b"\1\0\1\0wrong")).send("right", DT).frames
+        right = [summed(frame) for frame in made]
+        hurt = right[:9] + [made[9][:36] + b"\x12\x34" + made[9][38:]] + right[10:]
+        out = self.fed(hurt, True)
+        self.assertIn("both kept the protocol, judged up to frame 10, which was damaged on its way from left (its TCP checksum", out)
+        self.assertNotIn("broke", out)
+        self.assertIn("broke", self.fed([summed(frame) for frame in self.moved(made)]))
+        unwritten = self.fed(self.moved(made, 43_000), True)
+        self.assertIn("broke", unwritten)
+
+    @staticmethod
+    def moved(made, port=42_000):
+        """The frames of a connection from another port."""
+        return [frame[:20] + struct.pack(">H", port) + frame[22:] if frame[12:16] == bytes((192, 0, 2, 1)) else
+                frame[:22] + struct.pack(">H", port) + frame[24:] for frame in made]
+
+    def test_what_is_remembered_of_unsure_octets_has_a_bound(self):
+        made = Frames(mtu=1).open().talk(40).frames
+        times = [10 ** 12 + place * 2_000_000 for place in range(len(made))]
+        with mock.patch.object(watching, "MOST_UNSURE", 20), mock.patch.object(directions, "SPARE_SEGMENTS", 20), self.finding(b"none"):
+            self.fed([flagged(frame, ACK) if len(frame) == 41 else frame for frame in made], times=times)
+        watched = next(iter(self.watching.watched.values()))
+        self.assertLessEqual(len(watched.unsure), 21)
+        self.assertTrue(all(len(each.alone) < 60 for each in watched.stream.directions.values()))
 
     def test_what_has_no_packets(self):
         made = Frames().begin().send("left", b"GET / HTTP/1.0\r\n\r\n").put("right")

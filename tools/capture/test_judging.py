@@ -269,7 +269,7 @@ class Streams(Room):
         self.sequences.clear()
         begun = [self.segment(place, tapped.Piece(side, b""), 7) for place, side in enumerate(("left", "right"))]
         for each in begun:
-            each.is_first, each.sequence = True, 0
+            each.is_first, each.is_answer, each.sequence = True, each.source == self.RIGHT, 0
         self.assertIsNone(judging.why_not(streams.joined(iter(begun + self.found))[7]))
 
     def test_a_capture_without_packets_is_refused(self):

@@ -8,11 +8,12 @@ import unittest
 from unittest import mock
 
 from ladders import script, tapped
+from ladders.program import main as ladder
 
 from . import asking, judging, kinds, listing, middle, outcome, program, streams, tshark
 from .tshark import BadInput
 from .test_frames import (AA, AB, AC, ACK, CC, CN, CR, DT, FIN, FIRST, FN, MIP, PUSH, RESET, SYN, TOKENS, Frames, data, packet,
-                          segment_of, stream_of, whole)
+                          pcap_of, segment_of, stream_of, whole)
 
 BUILT = (os.path.join(script.TOP, "crates", "osi_tool", "out", *place) for place in (("osi_tool",), ("unproved", "osi")))
 OSI = next((place for place in BUILT if os.path.exists(place)), None)
@@ -344,6 +345,40 @@ class Middles(unittest.TestCase):
         self.assertIn("DT octets 4", out)
         self.assertIn("begins in the middle, at frame 1", call(frames, "list")[1])
         self.assertTrue(call(frames, "show")[1].startswith("begins in the middle, at frame 1\n"))
+
+
+class Ladders(unittest.TestCase):
+    """osi-ladders draws a stream as osi-capture reads it."""
+
+    @needs_osi
+    def test_a_stream_from_the_middle_and_one_with_a_gap(self):
+        frames = Frames().open().talk(3).frames
+        for made, said in ((frames[7:], "The stream begins in the middle, at frame 1."),
+                           (frames[:9] + frames[10:], f"Shown up to frame 10, where left lost {len(DT)} octets.")):
+            with tempfile.TemporaryDirectory() as room:
+                name = os.path.join(room, "run.pcap")
+                with open(name, "wb") as file:
+                    file.write(pcap_of(made))
+                self.assertEqual(ladder(["--osi", OSI, name, "-o", f"{name}.svg"]), 0)
+                with open(f"{name}.svg", encoding="utf-8") as file:
+                    drawn = file.read()
+            self.assertIn(said, drawn)
+            self.assertIn("DT", drawn)
+
+
+class Programs(unittest.TestCase):
+    """Which program `osi` is run."""
+
+    def test_it_is_that_of_the_repository_or_beside_the_scripts_or_on_the_path(self):
+        with tempfile.TemporaryDirectory() as room, mock.patch.object(script, "TOP", os.path.join(room, "share")):
+            self.assertEqual(listing.program(None), "osi")
+            for name in (os.path.join(room, "bin", "osi"), os.path.join(room, "share", "osi")):
+                os.makedirs(os.path.dirname(name), exist_ok=True)
+                with open(name, "w", encoding="ascii"):
+                    pass
+                os.chmod(name, 0o755)
+                self.assertEqual(listing.program(None), name)
+            self.assertEqual(listing.program("other"), "other")
 
 
 class Kinds(unittest.TestCase):

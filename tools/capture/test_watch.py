@@ -12,7 +12,7 @@ from unittest import mock
 
 from ladders import script, tapped, test_judged, transcript
 
-from . import directions, frames, processes, program, streams, tshark, watching as watch
+from . import directions, frames, live, processes, program, streams, tshark, watching as watch
 from .test_frames import ACK, CC, CR, DT, PUSH, RESET, SYN, Frames, data, pcap_of
 from .test_judging import CURED, DISPUTES, ENDED, LAST
 
@@ -546,6 +546,55 @@ class ByLibrary(unittest.TestCase):
         self.assertEqual(self.printed(*(rows.row(side, bytes.fromhex(octets)) for side, octets in opening)), "")
         self.assertEqual(self.printed(rows.row("left", flags=tshark.RESET)), f"{NAME}: both kept the protocol\n")
         self.assertEqual(self.watching.status(), 0)
+
+
+class Sources(unittest.TestCase):
+    """What a watch reads: an interface, a file or standard input; a program that tests make up judges."""
+
+    def setUp(self):
+        self.room = tempfile.TemporaryDirectory()
+        self.addCleanup(self.room.cleanup)
+        with open(self.path("run.pcap"), "wb") as file:
+            file.write(pcap_of(Frames().open().talk(3).close().frames))
+        self.program("osi", STUB)
+
+    def path(self, name):
+        """The path of a file in the folder."""
+        return os.path.join(self.room.name, name)
+
+    def program(self, name, text):
+        """Writes a program into the folder."""
+        with open(self.path(name), "w", encoding="ascii") as file:
+            file.write(text)
+        os.chmod(self.path(name), 0o755)
+
+    def call(self, *words):
+        """The status of a watch, and what it printed."""
+        with contextlib.redirect_stdout(io.StringIO()) as out, contextlib.redirect_stderr(io.StringIO()) as err:
+            status = program.main(["watch", *words, "--by", "program", "--osi", self.path("osi")])
+        return status, out.getvalue().count("both kept the protocol\n"), err.getvalue()
+
+    def test_an_interface(self):
+        """dumpcap captures at the port, with and without a tag."""
+        self.program("dumpcap", f'#!/bin/sh\necho "$@" >{self.path("words")}\ncat {self.path("run.pcap")}\n')
+        with mock.patch.dict(os.environ, PATH=f"{self.room.name}:{os.environ['PATH']}"):
+            self.assertEqual(self.call("-i", "eth7", "--port", "102"), (0, 1, ""))
+        with open(self.path("words"), encoding="ascii") as file:
+            self.assertEqual(file.read(), "-q -i eth7 -f tcp port 102 or (vlan and tcp port 102) -w -\n")
+        with mock.patch.object(live.shutil, "which", lambda name: None):
+            self.assertIn("there is no dumpcap", self.call("-i", "eth7")[2])
+
+    def test_a_file(self):
+        self.assertEqual(self.call("-r", self.path("run.pcap")), (0, 1, ""))
+        self.assertEqual(self.call(self.path("run.pcap")), (0, 1, ""))
+
+    def test_standard_input(self):
+        for words in (("-r", "-"), ("-",)):
+            with open(self.path("run.pcap"), "rb") as file, mock.patch.object(live.sys, "stdin", mock.Mock(buffer=file)):
+                self.assertEqual(self.call(*words), (0, 1, ""))
+        with open(self.path("osi"), "rb") as file, mock.patch.object(live.sys, "stdin", mock.Mock(buffer=file)):
+            status, _, err = self.call("-")
+        self.assertEqual((status, "isn't read from a pipe: no pcap and no pcapng" in err), (2, True), err)
 
 
 @unittest.skipUnless(shutil.which("tshark"), "tshark is not installed")

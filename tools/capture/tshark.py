@@ -12,18 +12,21 @@ FIELDS = ("frame.number", "frame.time_epoch", "tcp.stream", "ip.src", "ipv6.src"
 # An ICMP message about a segment quotes it, and is none.
 TCP = "tcp and not icmp and not icmpv6"
 # Nothing above TCP is dissected, which takes most of tshark's time, and of packets within packets the innermost counts.
-PLAIN = ("-d", "tcp.port==1-65535,data", "-o", "tcp.desegment_tcp_streams:FALSE", "-T", "fields", "-E", "separator=/t",
-         "-E", "occurrence=l", *(word for field in FIELDS for word in ("-e", field)))
+WITHOUT_UPPER = ("-d", "tcp.port==1-65535,data", "-o", "tcp.desegment_tcp_streams:FALSE", "-T", "fields", "-E", "separator=/t",
+                 "-E", "occurrence=l")
+PLAIN = (*WITHOUT_UPPER, *(word for field in FIELDS for word in ("-e", field)))
 CUT_SHORT = "cut short in the middle of a packet"
-FIN, SYN, RESET, ACK = 0x01, 0x02, 0x04, 0x10
+FIN, SYN, RESET, PUSH, ACK = 0x01, 0x02, 0x04, 0x08, 0x10
 
 
 class Segment:
     """A TCP segment: when it passed, its stream, both addresses, its first sequence number, its flags and its octets; what it
-    acknowledges, if that is known, and how many of its octets the capture doesn't have, though the frame was longer than captured."""
+    acknowledges, if that is known, and how many of its octets the capture doesn't have, though the frame was longer than captured. Of a
+    segment of one octet also whether its sender pushed it (PSH), and whether it came soon after another one of its stream; and for a
+    watch whether its checksum is right, if it has octets."""
 
-    acknowledged, missing, captured, key = None, 0, 0, None
-    is_first = is_last = is_reset = is_answer = False
+    acknowledged, missing, captured, key, is_right = None, 0, 0, None, None
+    is_first = is_last = is_reset = is_answer = is_pushed = is_soon = False
 
     def __init__(self, values):
         (frame, time, stream, source, source_6, source_port, target, target_6, target_port, sequence, number, flags, length, captured,
@@ -35,6 +38,7 @@ class Segment:
         self.tell(int(flags, 0), number)
         self.missing = max(int(length or 0) - len(self.octets), 0)
         self.captured = int(captured or 0)
+        self.is_pushed = len(self.octets) == 1 and bool(int(flags, 0) & PUSH)
 
     def tell(self, flags, number):
         """Takes the flags, and what is acknowledged. What a reset acknowledges need not have been sent."""
@@ -42,6 +46,22 @@ class Segment:
             self.is_first, self.is_last, self.is_reset = bool(flags & SYN), bool(flags & FIN), bool(flags & RESET)
             self.is_answer = flags & (SYN | ACK) == SYN | ACK
         self.acknowledged = int(number) if flags & (ACK | RESET) == ACK and number else None
+
+
+# Where and in what each segment with octets is, and whether its checksum is wrong (0) or right (1).
+CHECKED = ("frame.number", "ip.src", "ipv6.src", "tcp.srcport", "ip.dst", "ipv6.dst", "tcp.dstport", "tcp.checksum.status")
+WRONG, RIGHT = ("0", "Bad"), ("1", "Good")
+
+
+def sums(path):
+    """The checksums of the segments with octets, as tshark checks them: the frame, the direction, and whether it is right."""
+    words = ["tshark", "-n", "-r", checked(path), "-Y", f"{TCP} and tcp.len > 0", *WITHOUT_UPPER, "-o", "tcp.check_checksum:TRUE",
+             *(word for field in CHECKED for word in ("-e", field))]
+    done = subprocess.run(words, stdout=subprocess.PIPE, stderr=subprocess.DEVNULL, text=True, errors="replace", check=False)
+    for row in done.stdout.splitlines():
+        number, *way, status = row.split("\t")
+        if status in WRONG + RIGHT:
+            yield int(number), tuple(way), status in RIGHT
 
 
 def is_there():

@@ -48,6 +48,8 @@ MOST_WAITING, PATIENCE = 262_144, 30
 # How many octets of a side show which protocol it is; how many streams that are over are remembered, to leave out what is late; how
 # many streams are watched at once.
 ENOUGH, REMEMBERED, MOST_STREAMS = 4_096, 10_000, 10_000
+# How many pieces are remembered of a stream that aren't surely what was sent.
+MOST_UNSURE = 1_000
 # For how many seconds a stream may be idle.
 IDLE = 86_400
 
@@ -153,8 +155,11 @@ class Fed(Watched):
     def __init__(self, stream):
         super().__init__(stream)
         self.judge, self.heard, self.found, self.lines, self.statuses = None, set(), None, [], []
-        # What is found of octets that nobody acknowledged yet: the side, the place after them, the status, the frame and the line.
+        # What is found of octets that nobody acknowledged yet: the side, the place after them, the status, the frame, the line, and how
+        # many pieces had been fed by then.
         self.waiting = []
+        # How many pieces were fed, and those that aren't surely what was sent, each with its number.
+        self.fed, self.unsure = 0, []
         self.head, self.is_told = {side: [] for side in streams.SIDES}, False
 
     def look_for_limit(self):
@@ -170,9 +175,23 @@ class Fed(Watched):
             if sum(len(each.octets) for each in self.head[side]) < ENOUGH:
                 self.head[side].append(piece)
             if not (self.found or self.is_told):
+                self.look_at_octets(source, piece)
                 self.feed(source, piece)
         self.stream.pieces.clear()
         self.stream.forget()
+
+    def look_at_octets(self, source, piece):
+        """Remembers octets that aren't surely what was sent: if a break depends on them, it isn't told."""
+        self.fed += 1
+        direction = self.stream.directions[source]
+        if piece.frame in direction.hurt or piece.start in direction.alone:
+            self.unsure.append((self.fed, source, piece))
+            if len(self.unsure) > MOST_UNSURE:
+                self.unsure = [each for each in self.unsure if self.stream.unsure(*each[1:])][:MOST_UNSURE]
+
+    def why_unsure(self, fed):
+        """Why it isn't sure what was found once so many pieces had been fed; or None."""
+        return next(filter(None, (self.stream.unsure(source, piece) for place, source, piece in self.unsure if place <= fed)), None)
 
     @staticmethod
     def made():
@@ -223,16 +242,21 @@ class Fed(Watched):
         if kind in ("BROKE", "LEAVES"):
             line = f"frame {piece.frame}, {piece.time - self.begin:.6f} seconds: {self.line_of(told)}"
         status = judging.BROKE if kind == "BROKE" else judging.PARTLY
-        self.waiting.append((source, piece.start + len(piece.octets), status, piece.frame, line))
+        self.waiting.append((source, piece.start + len(piece.octets), status, piece.frame, line, self.fed))
 
     def tell(self, is_end):
-        """Tells what is found of octets that are acknowledged, or at the end of all; not of those that were sent again as others."""
+        """Tells what is found of octets that are acknowledged, or at the end of all; not of those that were sent again as others, nor what
+        depends on octets that aren't surely what was sent."""
         doubt, directions = self.stream.doubt(), self.stream.directions
         while self.waiting and len(self.heard) == 2:
-            source, end, status, frame, line = self.waiting[0]
+            source, end, status, frame, line, fed = self.waiting[0]
             if not (is_end or doubt or directions[source].heard >= end):
                 return
             self.waiting.pop(0)
+            why = line and self.why_unsure(fed)
+            if why:
+                self.limit, self.waiting = f"judged up to {why}", []
+                return
             if doubt is None or frame < doubt.frame:
                 self.statuses.append((status, frame))
                 self.lines += [line] if line else []
@@ -343,7 +367,7 @@ class Piped(Fed):
             return
         source = self.end_of(fields["side"])
         if name in ("without", "halted"):
-            self.waiting.append((source, 0, judging.PARTLY, 0, None))
+            self.waiting.append((source, 0, judging.PARTLY, 0, None, self.fed))
         elif name in ("broke", "leaves", "stopped"):
             said = None if self.statuses or self.waiting else of_line(fields)
             self.note_break(said, fields, source, row)
@@ -359,7 +383,7 @@ class Piped(Fed):
         where = "" if when is None else f"frame {frame}, {when - self.begin:.6f} seconds: "
         line = f"{verdicts.sentence(said)} {verdicts.reason(said, said.first)}" if said else row
         status = judging.BROKE if verdicts.is_broken(fields) else judging.PARTLY
-        self.waiting.append((source, end, status, frame, where + line))
+        self.waiting.append((source, end, status, frame, where + line, self.fed))
 
     def close(self):
         """Ends the program."""

@@ -9,8 +9,8 @@ pub mod what_an_octet_does
 pub mod how_an_end_stands_to_what_has_passed
 pub mod what_follows_what_cannot_be_read
 pub mod a_capture_is_steps
--- the first break of transport at a judge
-pub mod what_a_unit_leaves_at_a_judge
+-- how much a judge still judges, and what stays so whatever passes
+pub mod all_is_judged_or_nothing
 pub mod what_passes_keeps_a_claim
 pub mod what_passes_keeps_a_claim_on_two_courses
 -- steps are events of a whole end
@@ -20,12 +20,11 @@ pub mod what_packets_and_short_tsdus_keep_a_turn_keeps
 pub mod a_carrier_does_events
 pub mod what_is_put_is_what_is_written
 pub mod steps_are_events
--- so the end has not broken a rule first
-pub mod the_first_break_is_not_of_an_end
+-- so no unit of the end is a break
 pub mod no_unit_of_a_whole_end_is_a_break
 pub mod what_a_taker_passes_over
 pub mod sessions
--- nor any rule later, whatever the other side breaks
+-- whatever the other side breaks
 pub mod a_break_ends_no_judging_or_all
 pub mod what_is_halted_stays_halted
 pub mod later_steps_are_events

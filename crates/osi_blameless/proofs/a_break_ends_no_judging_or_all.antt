@@ -16,8 +16,8 @@ use Rattle.osi_rules.specs.declared.findings.Reach.TheVariants as reach
 use Rattle.osi_rules.specs.Traffic as traffic
 use Rattle.osi_judge.specs.declared.marks.Cause.TheVariants as cause
 use Rattle.osi_judge.specs.Courses.{breaks}
-use Rattle.osi_blameless.proofs.the_first_break_is_not_of_an_end.{IsNoBreak}
-use Rattle.osi_blameless.proofs.what_a_unit_leaves_at_a_judge.{IsJudged, IsOver, unread_over}
+use Rattle.osi_blameless.proofs.no_unit_of_a_whole_end_is_a_break.{IsNoBreak}
+use Rattle.osi_blameless.proofs.all_is_judged_or_nothing.{IsJudged, IsOver, unread_over}
 use Rattle.osi_blameless.proofs.what_passes_keeps_a_claim.{IsClaim}
 use Rattle.osi_blameless.proofs.sessions.class_0_is_known_once_it_is_selected.{IsKnownOnce}
 use Rattle.osi_blameless.proofs.sessions.connections_have_the_same_places.{marked_leaves, marked_traffic, unit_knows}
@@ -80,7 +80,7 @@ halted_by d e m c = grind arith
 pub some_earlier : (o : Option Mark) (m : Mark) → is_some (earlier o m) ≡ true
 some_earlier o m = grind arith
 
-reached_broke : (e : Side) (m : Mark) (r : Reach) (c : Course) → (marks_of e (reached m r c)).broke ≡ (marks_of e c).broke
+pub reached_broke : (e : Side) (m : Mark) (r : Reach) (c : Course) → (marks_of e (reached m r c)).broke ≡ (marks_of e c).broke
 reached_broke e m r c = grind arith
 
 own_marked : (d : Side) (m : Mark) (c : Course) → is_break m.cause ≡ false →

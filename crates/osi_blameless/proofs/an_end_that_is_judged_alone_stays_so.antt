@@ -7,7 +7,7 @@ use Rattle.osi_rules.specs.Traffic.{State as Traffic}
 use Rattle.osi_fair.specs.Wholes as wholes
 use Rattle.osi_blameless.proofs.in_class_0_one_side_alone_is_judged.{IsAlone}
 use Rattle.osi_blameless.proofs.steps_are_events.{IsFollowed, own_first}
-use Rattle.osi_blameless.proofs.the_first_break_is_not_of_an_end.{IsFairAlone}
+use Rattle.osi_blameless.proofs.no_unit_of_a_whole_end_is_a_break.{IsFairAlone}
 use Rattle.osi_blameless.proofs.what_passes_keeps_a_claim.{IsClaim, step_kept, units_kept}
 
 -- what a unit or a packet keeps, steps after what can't be read keep too

@@ -8,13 +8,11 @@ use Rattle.osi_blameless.proofs.Vocabulary.{Steps, StepsAlong, begin, begins_oth
 use Rattle.osi_blameless.proofs.Vocabulary.{ComesBySteps, LaterAlong, LaterSteps, spoilt}
 use Rattle.osi_rules.specs.declared.findings.Reach.TheVariants as reach
 use Rattle.osi_rules.specs.Sides as sides
-use Rattle.osi_rules.specs.Traffic as traffic
-use Rattle.osi_blameless.proofs.what_a_unit_leaves_at_a_judge.{IsJudged}
+use Rattle.osi_blameless.proofs.all_is_judged_or_nothing.{IsJudged}
 use Rattle.osi_rules.specs.Traffic.{State as Traffic}
 use Rattle.osi_fair.specs.Pieces.{units_in}
 use Rattle.osi_fair.specs.Naming.{unit as unit_passing}
 use Rattle.osi_fair.specs.Wholes as wholes
-use Rattle.osi_rules.specs.declared.directions.Direction.TheVariants as way
 use Rattle.osi_judge.specs.Courses.{fresh}
 use Rattle.osi_blameless.specs.Spoilt.{GoesOn}
 use Rattle.osi_blameless.proofs.a_break_ends_no_judging_or_all.{IsGoing, IsLeft, all_ends, begins_going, left_claim, known_too, mild_reach}
@@ -25,7 +23,7 @@ use Rattle.osi_blameless.proofs.in_class_0_one_side_alone_is_judged.{AfterUnread
 use Rattle.osi_blameless.proofs.in_class_0_one_side_alone_is_judged.{unread_alone}
 use Rattle.osi_blameless.proofs.later_steps_are_events.{later_followed, spoilt_followed}
 use Rattle.osi_blameless.proofs.steps_are_events.{IsFollowed, begin_followed, own_first, step_followed}
-use Rattle.osi_blameless.proofs.the_first_break_is_not_of_an_end.{IsFairAlone, IsFairThroughout, IsNoBreak}
+use Rattle.osi_blameless.proofs.no_unit_of_a_whole_end_is_a_break.{IsFairAlone, IsFair, IsNoBreak}
 use Rattle.osi_blameless.proofs.sessions.class_0_is_known_once_it_is_selected.{IsKnownOnce, joint_known_once, unit_known_once}
 use Rattle.osi_blameless.proofs.sessions.connections_have_the_same_places.{unit_knows}
 
@@ -89,7 +87,7 @@ module _ (d : Direction) where
       by (is_left l) = is_left ((left_claim d).passes (other d) at v c l)
       by (is_alone a none) = is_alone (grind (arith, stops_last)) (other_unbroken d at v c ∙ none)
 
-  module _ (proper : AllProper) (is_caller : Bool) (local : Local) (fair : IsFairThroughout (way_of d) (wholes.begin is_caller local))
+  module _ (proper : AllProper) (is_caller : Bool) (local : Local) (fair : IsFair (way_of d) (wholes.begin is_caller local))
       (fair_alone : IsFairAlone (way_of d) (wholes.begin is_caller local)) where
     abbrev first : wholes.Whole
     first = wholes.begin is_caller local
@@ -188,7 +186,7 @@ module _ (d : Direction) where
   nothing e = grind arith
 
   never_blamed : AllProper → (is_caller : Bool) (local : Local) (h : Holding) (capture : Capture) → IsFresh is_caller local h →
-      IsFairThroughout (way_of d) (wholes.begin is_caller local) → IsFairAlone (way_of d) (wholes.begin is_caller local) →
+      IsFair (way_of d) (wholes.begin is_caller local) → IsFairAlone (way_of d) (wholes.begin is_caller local) →
       ComesBySteps d capture h → IsBlamedNowhere (comes_to capture).course
   never_blamed proper is_caller local h capture anew fair fair_alone comes = by comes.on
     where
@@ -208,6 +206,6 @@ module _ (d : Direction) where
   unbroken_by c h = grind arith
 
   pub always_unbroken : AllProper → (is_caller : Bool) (local : Local) (h : Holding) (capture : Capture) → IsFresh is_caller local h →
-      IsFairThroughout (way_of d) (wholes.begin is_caller local) → IsFairAlone (way_of d) (wholes.begin is_caller local) →
+      IsFair (way_of d) (wholes.begin is_caller local) → IsFairAlone (way_of d) (wholes.begin is_caller local) →
       ComesBySteps d capture h → (marks_of d (comes_to capture).course).broke ≡ None
   always_unbroken proper is_caller local h capture anew fair fair_alone comes = search (arith, unbroken_by, never_blamed)

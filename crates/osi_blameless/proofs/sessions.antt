@@ -29,7 +29,7 @@ pub mod a_dt_of_class_0_is_in_flight
 pub mod each_step_leaves_class_0_one_connection
 pub mod what_has_no_effect_joins_nothing
 pub mod a_unit_after_a_dr_is_for_a_closing_connection
-pub mod after_too_many_nobody_is_to_blame
+pub mod nobody_of_a_side_is_to_blame
 pub mod steps_of_either_class_leave_all_standing
 pub mod a_turn_does_what_its_deeds_say
 pub mod units_written_alike_are_for_the_same
@@ -67,7 +67,7 @@ pub mod a_called_end_takes_what_is_in_flight
 pub mod a_called_end_stands_as_units_pass
 pub mod the_first_break_of_all_is_of_the_other_side
 pub mod no_more_tsdus_than_moments_have_passed
-pub mod no_session_of_an_end_breaks_first
+pub mod what_is_asked_of_what_holds_at_each_step
 pub mod an_end_that_has_said_nothing_is_not_to_blame
 pub mod a_calling_end_without_class_2_puts_no_dt
 pub mod no_session_of_a_calling_end_breaks_first
@@ -80,9 +80,8 @@ pub mod a_calling_end_stands_until_class_2
 pub mod a_turn_of_a_calling_end_until_class_2
 pub mod nobody_of_a_calling_end_is_to_blame_until_class_2
 pub mod no_calling_end_is_blamed_first_in_class_0
-pub mod no_calling_end_is_blamed_first
 pub mod no_connection_is_opened_before_a_class_is_selected
-pub mod what_stands_after_a_loss_stands_before_one
+pub mod what_is_asked_after_a_loss
 pub mod no_session_of_a_called_end_breaks_first
 pub mod a_called_end_hears_what_comes_until_class_2
 pub mod a_called_end_stands_in_class_0
@@ -93,7 +92,6 @@ pub mod only_a_cc_selects_a_class
 pub mod a_called_end_puts_its_cc_of_class_0
 pub mod a_called_end_stands_until_class_2
 pub mod no_called_end_is_blamed_first_in_class_0
-pub mod no_called_end_is_blamed_first
 pub mod an_end_of_class_0_has_its_connection_open
 pub mod a_judge_counts_what_it_has_joined_of_a_tsdu
 pub mod what_a_link_has_begun_is_left_over
@@ -106,7 +104,7 @@ pub mod a_break_in_class_0_leaves_an_end_alone
 pub mod no_session_of_an_end_is_to_blame
 pub mod no_session_of_an_end_is_to_blame_after_a_loss
 pub mod a_loss_is_in_class_2_at_a_judge
-pub mod no_end_is_to_blame_after_a_break
+pub mod no_end_is_ever_to_blame
 pub mod what_is_judged_within_a_bound
 pub mod nobody_else_is_to_blame_within_a_bound
 pub mod a_bound_changes_no_first_break

@@ -9,12 +9,11 @@ use Rattle.osi_blameless.proofs.Vocabulary.{begins_other, begins_own, Joint, pas
 use Rattle.osi_blameless.proofs.Vocabulary.{Course, packet_begins, begin, none_of}
 use Rattle.osi_rules.specs.Sides as sides
 use Rattle.osi_rules.specs.Traffic as traffic
-use Rattle.osi_rules.specs.declared.findings.Reach.TheVariants as reach
 use Rattle.osi_fair.specs.Pieces.{units_in}
 use Rattle.osi_fair.specs.Wholes as wholes
 use Rattle.osi_blameless.proofs.small_facts_that_many_lemmas_use.{can_more as all_more, over_none}
 use Rattle.osi_blameless.proofs.a_carrier_does_events.{Came, IsLike, came_asking, came_tracked, happen_join, none_come, units_join}
-use Rattle.osi_blameless.proofs.what_a_unit_leaves_at_a_judge.{changes_traffic}
+use Rattle.osi_blameless.proofs.all_is_judged_or_nothing.{changes_traffic}
 use Rattle.osi_blameless.proofs.what_is_put_is_what_is_written.{AreFirst, StartsWith, are_first, none_written, same_written, starts_with}
 use Rattle.osi_blameless.proofs.what_is_put_is_what_is_written.{written_join}
 use Rattle.osi_blameless.proofs.what_waits_changes_nothing.{bare}

@@ -1,6 +1,6 @@
 -- The units that a carrier puts as it takes a unit, and as its user makes a call, can be written, and its links stay numbered.
 -- For what a turn of an end does to its carrier.
-use Rattle.osi_blameless.proofs.Vocabulary.{arith, ◌≡◌, ℕ, ◌+◌, ◌≤◌, Bool, true, false, if◌then◌else◌, List, [], ◌∷◌, ◌++◌, Option, Some}
+use Rattle.osi_blameless.proofs.Vocabulary.{arith, ◌≡◌, ℕ, ◌≤◌, Bool, true, false, if◌then◌else◌, List, [], ◌∷◌, ◌++◌, Option, Some}
 use Rattle.osi_blameless.proofs.Vocabulary.{None, option_map, is_some, Result, Ok, Err, refl, subst, IfSome, AllByRecursion, tsap_octets}
 use Rattle.osi_blameless.proofs.Vocabulary.{Connect, HasFieldsInRange, IsConnect, Value, confirm, data0, disconnect, error, request, Tsap}
 use Rattle.osi_blameless.proofs.Vocabulary.{Standing, with_tsdu, accept, refuse, selected_by, LinkFault, Class, Two, Zero, closed_with}

@@ -2,8 +2,6 @@
 -- For what follows what can't be read.
 use Rattle.osi_blameless.proofs.Vocabulary.{arith, ◌≡◌, ℕ, Bool, true, Option, is_some, ap, Value, Direction, Reach, Cause, Mark, Course}
 use Rattle.osi_blameless.proofs.Vocabulary.{marks_of, noted_by, reached, unread}
-use Rattle.osi_rules.specs.Traffic as traffic
-use Rattle.osi_rules.specs.declared.findings.Reach.TheVariants as reach
 use Rattle.osi_blameless.proofs.a_break_ends_no_judging_or_all.{halted_by, mark, mid, mid_marks, o, some_earlier, unread_if}
 use Rattle.osi_blameless.proofs.what_an_octet_does.{begins}
 use Rattle.osi_blameless.proofs.what_passes_keeps_a_claim.{IsClaim}

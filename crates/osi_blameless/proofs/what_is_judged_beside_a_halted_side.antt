@@ -1,6 +1,6 @@
--- In class 0 a break of the other side changes nothing that is judged of an end but that the other side is not judged any more. So what
--- the end sends after it is judged as if the break had not come. For the sessions of an end after such a break.
-use Rattle.osi_blameless.proofs.Vocabulary.{arith, ◌≡◌, ◌∙◌, ap, ℕ, Bool, false, if◌then◌else◌, Option, Some, slice_set, Value, data0}
+-- In class 0 a break of the other side changes nothing that is judged of an end but that the other side is not judged any more. So a judge
+-- judges what the end sends after it as if the break had not come. For the sessions of an end after such a break.
+use Rattle.osi_blameless.proofs.Vocabulary.{arith, ◌≡◌, ◌∙◌, ap, ℕ, Bool, false, Option, Some, slice_set, Value, data0}
 use Rattle.osi_blameless.proofs.Vocabulary.{disconnected, error, Zero, other, Direction, Left, Right, Connection, Finding, Reach, Route}
 use Rattle.osi_blameless.proofs.Vocabulary.{is_applied, reach_of, Outcome, State, asks_of, at_place, class_for, connection_after}
 use Rattle.osi_blameless.proofs.Vocabulary.{course_after, found_on, is_stopped, none_told, noted, one_told, routed, stops, takes}
@@ -9,8 +9,6 @@ use Rattle.osi_rules.specs.declared.courses.Course.{Course as Judging}
 use Rattle.osi_rules.specs.declared.directions.Direction.{Direction as Way}
 use Rattle.osi_rules.specs.declared.directions.Direction.TheVariants as way
 use Rattle.osi_rules.specs.declared.findings.Reach.TheVariants as reach
-use Rattle.osi_rules.specs.declared.findings.Rule.TheVariants as rule
-use Rattle.osi_rules.specs.Sides as sides
 use Rattle.osi_rules.specs.Traffic as traffic
 use Rattle.osi_rules.specs.Traffic.{reached}
 use Rattle.osi_blameless.proofs.a_break_ends_no_judging_or_all.{refused_traffic, refuses, unread_sessions}

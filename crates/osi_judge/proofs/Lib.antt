@@ -3,6 +3,7 @@ pub mod what_is_kept_of_a_side_is_what_passed
 pub mod the_session_of_a_side_is_known
 pub mod what_is_told_of_a_connection
 pub mod each_connection_is_kept
+pub mod each_record_is_noted
 pub mod a_dt_is_judged_if_there_is_room
 pub mod each_session_has_heard_all
 pub mod a_unit_changes_one_finding
@@ -20,5 +21,6 @@ pub mod moments_pass_one_after_the_other
 pub mod no_more_is_kept_than_passed
 pub mod a_claim_on_connections_holds_of_captures
 pub mod what_is_kept_of_a_connection_is_bounded
+pub mod what_is_over_stays
 pub mod the_first_break_of_transport_is_told_of_its_side
 pub mod who_broke_first_stays_to_blame

@@ -160,7 +160,7 @@ HoldsFound (Some f) None = ⊥
 -- of all connections
 pub record HoldsSessions (k : Kept) (s : Sessions) : Type 0 where
   pub live : HoldAll k.live.items s.live
-  pub done : AllPast k.done.items s.done
+  pub done : AllPast k.done s.done
   pub room : k.room ≡ s.room
 
 -- the break that is told as the first: if this is the first of transport, then this one, unless a session broke before it

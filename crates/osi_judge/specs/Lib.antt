@@ -7,6 +7,7 @@ pub mod Blaming
 pub mod KnownSessions
 pub mod Outcomes
 pub mod Pasts
+pub mod Records
 pub mod Streams
 pub mod States
 pub mod Holding

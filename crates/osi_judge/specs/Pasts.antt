@@ -1,5 +1,5 @@
 -- What is kept of a connection that is over and whose place another has.
-use Rattle.std.specs.Prelude.{◌≡◌, List, [], ◌∷◌, Option, Some, None}
+use Rattle.std.specs.Prelude.{◌≡◌, ℕ, List, [], ◌∷◌, Option, Some, None, slice_get}
 use Rattle.osi_side.specs.declared.directions.Direction.{Direction}
 use Rattle.osi_side.specs.declared.directions.Direction.TheVariants as side
 use Rattle.osi_judge.specs.declared.outcomes.Outcome.{Outcome}
@@ -43,3 +43,7 @@ AllPast [] [] = Unit {0}
 AllPast (p ∷ ps) (j ∷ js) = HoldsPast p j × AllPast ps js
 AllPast [] (j ∷ js) = ⊥
 AllPast (p ∷ ps) [] = ⊥
+
+-- each of these keeps its place among those
+abbrev pub StayOver : (before now : List Joined) → Type 0
+StayOver before now = (i : ℕ) (j : Joined) → slice_get before i ≡ Some j → slice_get now i ≡ Some j

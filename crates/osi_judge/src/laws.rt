@@ -14,6 +14,7 @@ ghost use Rattle.osi_judge.specs.Bounds.{IsWithin};
 ghost use Rattle.osi_judge.specs.Connections.{Joined, numbered, spoken};
 ghost use Rattle.osi_judge.specs.Courses.{Moment};
 ghost use Rattle.osi_judge.specs.Holding.{line_in, streamed, HoldsJoined, IsHeard};
+ghost use Rattle.osi_judge.specs.Pasts.{StayOver};
 ghost use Rattle.osi_judge.specs.Lines.{Spoken, added, begun_octets, heard, kept_of};
 ghost use Rattle.osi_judge.specs.Standing.{pick, HoldsState, IsFed, IsJudged, IsPart, first_in};
 ghost use Rattle.osi_judge.specs.States.{State, stream_of, octets_pass, after, begin_within, comes_to, GoesOn};
@@ -78,4 +79,11 @@ pub fn a_connection_is_kept_within_its_bound()
         → numbered number (after capture (begin_within (Octets most))).course.sessions ≡ Some j → IsWithin most j }
     ensures again { (at : ℕ) (octets last : List ℕ) (front : List (List ℕ)) (s : Spoken) → heard s ≡ front ++ last ∷ []
         → outline (begun_octets s.begun ++ octets) ≡ outline last → kept_of (added at true octets s) ≤ kept_of s }
+{}
+
+/// A connection that is over and whose place was given to another keeps its place among those that are over
+/// ([`crate::Judge::replaced`]), whatever passes, and so does what was found of it. So a reader that has looked at the first of them
+/// needs to look only at those that come after these.
+pub fn what_is_over_stays()
+    ensures { (capture : Capture) (s : State) → StayOver s.course.sessions.done (after capture s).course.sessions.done }
 {}

@@ -46,6 +46,7 @@ mod marks;
 mod outcomes;
 mod pasts;
 mod proceedings;
+mod records;
 mod rooms;
 mod sessions;
 mod streams;

@@ -1,6 +1,6 @@
 //! The TSDUs of one side of a connection.
 
-ghost use Rattle.std.specs.Prelude.{◌≡◌, ◌≤◌, ◌+◌, ◌++◌, [], true, false, length, IsOk, OnOk, OnErr};
+ghost use Rattle.std.specs.Prelude.{◌≡◌, ◌≤◌, ◌<◌, ◌+◌, ◌++◌, [], true, false, length, max, IsOk, OnOk, OnErr};
 ghost use Rattle.std.specs.Vec.{vec_capacity};
 ghost use Rattle.osi_session.specs.Standing.{Seen};
 ghost use Rattle.osi_tpkt.specs.Stream.{offset_of};
@@ -14,6 +14,9 @@ use std::alloc::{AllocError, Global};
 
 /// The most room, in octets, that is kept for the next TSDU once one was handed over.
 const MOST_SPARE: usize = 4_096;
+
+/// The room that is kept for further parts of a TSDU: one octet for so many that it has.
+const OF_EACH_SPARE: usize = 8;
 
 /// How far a side is with its current TSDU.
 #[derive(Clone, Copy)]
@@ -50,6 +53,19 @@ fn last_place(finding: Finding, at: u64, last: u64) -> u64
         Finding::Kept => at,
         Finding::Broke(_) | Finding::Left(_) | Finding::TooMany => last,
     }
+}
+
+/// Makes room for so many more octets, if there is none: just for these, and for this many after them.
+fn make_room(octets: &mut Vec<u8>, more: usize, spare: usize) -> Result<(), AllocError>
+    ensures items { octets.new.items ≡ octets.old.items }
+    ensures room { OnOk result (length octets.old.items + more ≤ vec_capacity octets.new) }
+    ensures most { vec_capacity octets.new ≤ max (vec_capacity octets.old) (length octets.old.items + more + spare) }
+    ensures needed { OnErr result (vec_capacity octets.old < length octets.old.items + more) }
+{
+    if more <= octets.capacity() - octets.len() {
+        return Ok(());
+    }
+    octets.reserve_exact(more.saturating_add(spare))
 }
 
 impl Line {
@@ -125,6 +141,8 @@ impl Line {
         }) }
         ensures err { OnErr result (lined self.new ≡ lined self.old) }
     {
+        let spare = self.begun.len() / OF_EACH_SPARE;
+        make_room(&mut self.begun, octets.len(), spare)?;
         self.begun.extend_from_slice(octets)?;
         self.stage = Stage::Within;
         self.begun_since = since;
@@ -144,6 +162,7 @@ impl Line {
     {
         let begun = self.begun.len();
         let last = last_place(self.side.finding(), at, self.last);
+        make_room(&mut self.begun, octets.len(), 0)?;
         self.begun.extend_from_slice(octets)?;
         match self.side.tell(self.begun.as_slice(), since) {
             Ok(()) => {

@@ -15,6 +15,7 @@ ghost use Rattle.osi_judge.specs.Pasts.{AllPast, HoldsPastOf};
 
 use crate::connections::Connection;
 use crate::pasts::Past;
+use crate::records::Records;
 use crate::rooms::Room;
 use osi_class::Class;
 use osi_rules::{Meaning, Told};
@@ -37,7 +38,7 @@ pub enum Found<'a> {
 pub(crate) struct Sessions {
     alloc: Global,
     pub(crate) live: Vec<Connection>,
-    pub(crate) done: Vec<Past>,
+    pub(crate) done: Records,
     /// How much may be kept of each.
     pub(crate) room: Room,
 }
@@ -87,13 +88,6 @@ fn count_of(connections: &[Connection]) -> usize
     connections.len()
 }
 
-/// The same of those whose place was given to another.
-fn count_past(pasts: &[Past]) -> usize
-    ensures { result ≡ length pasts.now }
-{
-    pasts.len()
-}
-
 /// The number of the connection at a place.
 fn number_in(live: &[Connection], place: usize) -> Option<usize>
     ensures { (js : List Joined) → HoldAll live.now js → result ≡ option_map number_of (slice_get js place) }
@@ -120,13 +114,6 @@ fn find_in(connections: &[Connection], number: usize) -> Option<&Connection>
     ensures { option_copied result ≡ find (λ c. c.number == number) connections.now }
 {
     connections.iter().find(|c| c.number == number)
-}
-
-/// The same of those whose place was given to another.
-fn find_past(pasts: &[Past], number: usize) -> Option<&Past>
-    ensures { option_copied result ≡ find (λ p. p.number == number) pasts.now }
-{
-    pasts.iter().find(|p| p.number == number)
 }
 
 /// A packet of a side begins.
@@ -181,7 +168,7 @@ impl Sessions {
         Sessions {
             alloc,
             live: Vec::new(alloc),
-            done: Vec::new(alloc),
+            done: Records::new(alloc),
             room,
         }
     }
@@ -191,7 +178,7 @@ impl Sessions {
         ensures { (s : Passed) → HoldsSessions self.now s → result ≡ offset_of (count s) }
     {
         let live = count_of(&self.live);
-        let done = count_past(&self.done);
+        let done = self.done.len();
         live.saturating_add(done)
     }
 
@@ -221,7 +208,7 @@ impl Sessions {
     pub(crate) fn replaced(&self) -> &[Past]
         ensures { (s : Passed) → HoldsSessions self.now s → AllPast result.now s.done }
     {
-        &self.done
+        self.done.as_slice()
     }
 
     /// The connection with a number.
@@ -232,7 +219,7 @@ impl Sessions {
         if let Some(connection) = find_in(&self.live, number) {
             return Some(Found::Placed(connection));
         }
-        match find_past(&self.done, number) {
+        match self.done.numbered(number) {
             Some(past) => Some(Found::Replaced(past)),
             None => None,
         }

@@ -27,6 +27,7 @@ mod captures;
 mod ends;
 mod players;
 mod telling;
+mod wires;
 mod witnesses;
 
 pub use witnesses::{Witness, witness_of};

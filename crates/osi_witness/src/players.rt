@@ -1,13 +1,12 @@
 //! A script that is played as it is written.
 
 use crate::ends::Ends;
+use crate::wires::Wire;
 use osi_carrier::{EndReason, Ref};
 use osi_explain::{Halt, other, push_line};
 use osi_pair::{Event, Pair, PairError};
 use osi_script::{Command, Side};
 use osi_session::Request;
-use osi_tpdu::{Tpdu, read_units};
-use osi_tpkt::{Packet, Unit};
 use osi_transcript::asking::{event_of, side_of};
 use std::alloc::{AllocError, Global};
 use std::mem::replace;
@@ -18,20 +17,11 @@ pub(crate) const LONGEST: usize = 16_777_216;
 /// Room for the last comment.
 const ROOM: usize = 256;
 
-/// How often octets are carried both ways until all that a call sends has left.
+/// How often octets are carried both ways until all that waits for credit has left.
 const MOST_TURNS: usize = 65_536;
 
 /// The most octets that one line carries.
 const MOST: usize = 4_294_967_295;
-
-/// What a side has sent.
-#[derive(Drop)]
-struct Wire {
-    /// How many octets of it were carried.
-    carried: usize,
-    /// Where the TSDUs end that it has sent on the current connection.
-    ends: Vec<usize>,
-}
 
 /// A script, and two ends that do what it says.
 pub(crate) struct Player {
@@ -58,125 +48,6 @@ impl Drop for Player {
             reference: _,
             refuses: _,
         } = self;
-    }
-}
-
-/// The transport units of a packet that is the first of these octets, and how many octets it has.
-fn first_packet(octets: &[u8]) -> Option<(&[u8], usize)> {
-    match Packet::read(octets) {
-        Ok(Some((packet, used))) => Some((packet.unit(), used)),
-        _ => None,
-    }
-}
-
-/// Where the TSDUs end whose packets these are.
-fn ends_in(alloc: Global, octets: &[u8]) -> Result<Vec<usize>, AllocError> {
-    let mut ends = Vec::new(alloc);
-    let mut rest = octets;
-    'packets: for _ in 0..octets.len() {
-        let Some((unit, used)) = first_packet(rest) else {
-            break;
-        };
-        rest = rest.get(used..).unwrap_or_default();
-        if ends_tsdu(unit) {
-            ends.push(octets.len().saturating_sub(rest.len()))?;
-        }
-    }
-    Ok(ends)
-}
-
-/// Whether a packet with these transport units ends a TSDU.
-fn ends_tsdu(packet: &[u8]) -> bool {
-    let Ok(units) = read_units(packet) else {
-        return false;
-    };
-    'units: for unit in units {
-        match unit {
-            Tpdu::Dt0(data) if data.end => return true,
-            Tpdu::Dt2(data) if data.end => return true,
-            _ => (),
-        }
-    }
-    false
-}
-
-/// Whether a transport unit says something on the connection with this reference: all but an AK, a DR and a DC.
-fn speaks(unit: &Tpdu<'_>, reference: u16) -> bool {
-    match unit {
-        Tpdu::Dt2(data) => data.destination == reference,
-        Tpdu::Ak(_) | Tpdu::Dr(_) | Tpdu::Dc(_) => false,
-        _ => true,
-    }
-}
-
-/// Whether a packet with these transport units has only acknowledgements, and what closes a connection.
-fn is_quiet(packet: &[u8]) -> bool {
-    let Ok(units) = read_units(packet) else {
-        return false;
-    };
-    'units: for unit in units {
-        match unit {
-            Tpdu::Ak(_) | Tpdu::Dr(_) | Tpdu::Dc(_) => (),
-            _ => return false,
-        }
-    }
-    true
-}
-
-/// Whether a packet with these transport units says something on the connection with this reference.
-fn packet_speaks(packet: &[u8], reference: u16) -> bool {
-    let Ok(units) = read_units(packet) else {
-        return true;
-    };
-    'units: for unit in units {
-        if speaks(&unit, reference) {
-            return true;
-        }
-    }
-    false
-}
-
-/// Whether one of the packets of these octets says something on the connection with this reference.
-fn any_speaks(octets: &[u8], reference: u16) -> bool {
-    let mut rest = octets;
-    'packets: for _ in 0..octets.len() {
-        let Some((packet, used)) = first_packet(rest) else {
-            return false;
-        };
-        if packet_speaks(packet, reference) {
-            return true;
-        }
-        rest = rest.get(used..).unwrap_or_default();
-    }
-    false
-}
-
-/// How many of these octets come before the first packet that is not quiet.
-fn quiet_octets(octets: &[u8]) -> usize {
-    let mut rest = octets;
-    'packets: for _ in 0..octets.len() {
-        match first_packet(rest) {
-            Some((packet, used)) if is_quiet(packet) => {
-                rest = rest.get(used..).unwrap_or_default();
-            }
-            _ => break,
-        }
-    }
-    octets.len().saturating_sub(rest.len())
-}
-
-impl Wire {
-    fn new(alloc: Global) -> Wire {
-        Wire {
-            carried: 0,
-            ends: Vec::new(alloc),
-        }
-    }
-
-    /// Another TSDU ends at this octet.
-    fn add(&mut self, end: usize) -> Result<(), AllocError> {
-        self.ends.push(end)?;
-        Ok(())
     }
 }
 
@@ -239,30 +110,28 @@ impl Player {
     /// How many octets a side has sent.
     fn sent(&self, side: Side) -> usize {
         let waiting = self.outgoing(side).len();
-        self.wire(side).carried.saturating_add(waiting)
+        self.wire(side).carried().saturating_add(waiting)
     }
 
-    /// Whether a side has sent something on the current connection after so many octets.
-    fn has_spoken(&self, side: Side, sent: usize) -> bool {
-        let from = sent.saturating_sub(self.wire(side).carried);
-        let more = self.outgoing(side).get(from..).unwrap_or_default();
-        any_speaks(more, self.reference)
-    }
-
-    /// How many TSDUs of a side wait for credit on the current connection.
+    /// How many octets of user data of a side wait for credit on the current connection.
     fn unsent(&self, side: Side) -> usize {
         self.pair.stack(side_of(side)).unsent(Ref(self.reference))
     }
 
-    /// How many TSDUs a side has sent.
-    pub(crate) fn tsdus(&self, side: Side) -> usize {
-        self.wire(side).ends.len()
+    /// How many octets of user data a side has sent on the current connection. Those that wait for credit are counted.
+    fn asked(&self, side: Side) -> usize {
+        self.wire(side).user().saturating_add(self.unsent(side))
     }
 
-    /// The TSDU of a side ends with what it has sent so far.
+    /// How many TSDUs of the capture the user of a side has sent.
+    pub(crate) fn tsdus(&self, side: Side) -> usize {
+        self.wire(side).tsdus()
+    }
+
+    /// A TSDU of the capture ends with what the user of a side has sent so far.
     pub(crate) fn end_tsdu(&mut self, side: Side) -> Result<(), AllocError> {
-        let end = self.sent(side);
-        self.wire_mut(side).add(end)
+        let asked = self.asked(side);
+        self.wire_mut(side).mark(asked)
     }
 
     /// Whether an end has ended because memory ran out.
@@ -276,14 +145,25 @@ impl Player {
         )
     }
 
-    /// Applies an event to the two ends.
+    /// Applies an event to the two ends, and looks at what they send then.
     fn apply(&mut self, event: &Event<'_>) -> Result<(), Halt> {
         match self.pair.apply(event) {
-            Ok(applied) if applied.is_cut_short || self.is_starved() => Err(Halt::OutOfMemory),
-            Ok(_) => Ok(()),
-            Err(PairError::OutOfMemory) => Err(Halt::OutOfMemory),
-            Err(_) => Err(Halt::NoCall),
+            Ok(applied) if applied.is_cut_short || self.is_starved() => {
+                return Err(Halt::OutOfMemory);
+            }
+            Ok(_) => (),
+            Err(PairError::OutOfMemory) => return Err(Halt::OutOfMemory),
+            Err(_) => return Err(Halt::NoCall),
         }
+        self.look()?;
+        Ok(())
+    }
+
+    fn look(&mut self) -> Result<(), AllocError> {
+        let left = self.pair.stack(osi_pair::Side::Left).outgoing();
+        self.left.look(left, self.reference)?;
+        let right = self.pair.stack(osi_pair::Side::Right).outgoing();
+        self.right.look(right, self.reference)
     }
 
     /// Writes a line and does what it asks for.
@@ -298,12 +178,13 @@ impl Player {
         }
     }
 
-    /// Writes a line that makes a side send something, and does it. An error leaves the script as it was.
+    /// Writes a line that makes a side send something, at once or when the other side gives credit, and does it. An error leaves the
+    /// script as it was.
     fn ask(&mut self, side: Side, command: &Command<'_>) -> Result<(), Halt> {
         let length = self.script.len();
-        let sent = self.sent(side);
+        let (sent, asked) = (self.sent(side), self.asked(side));
         let played = self.play(command);
-        if played.is_ok() && (self.sent(side) > sent || self.unsent(side) > 0) {
+        if played.is_ok() && (self.sent(side) > sent || self.asked(side) > asked) {
             return Ok(());
         }
         self.script.truncate(length);
@@ -311,26 +192,17 @@ impl Player {
         Err(Halt::NoCall)
     }
 
-    /// The left end asks for another connection.
+    /// The left end asks for another connection. An error leaves the current one as it is.
     pub(crate) fn connect(&mut self, command: &Command<'_>) -> Result<(), Halt> {
+        self.ask(Side::Left, command)?;
         self.reference = self.reference.saturating_add(1);
-        self.left.ends.clear();
-        self.right.ends.clear();
-        self.ask(Side::Left, command)
+        self.left.begin();
+        self.right.begin();
+        Ok(())
     }
 
-    /// The user of a side makes a call. All that it sends leaves. If it waits for credit the other side first takes so many TSDUs.
-    pub(crate) fn call(
-        &mut self,
-        side: Side,
-        request: Request<'_>,
-        ahead: usize,
-    ) -> Result<(), Halt> {
-        self.begin_call(side, request)?;
-        self.drain(side, ahead)
-    }
-
-    fn begin_call(&mut self, side: Side, request: Request<'_>) -> Result<(), Halt> {
+    /// The user of a side makes a call.
+    pub(crate) fn call(&mut self, side: Side, request: Request<'_>) -> Result<(), Halt> {
         let reference = self.reference;
         self.ask(
             side,
@@ -342,95 +214,55 @@ impl Player {
         )
     }
 
-    /// Octets are carried both ways until a side has sent all that waits for credit. First the other side takes so many TSDUs, and what
-    /// acknowledges them is carried: that may be enough.
-    fn drain(&mut self, side: Side, ahead: usize) -> Result<(), Halt> {
-        if self.unsent(side) == 0 {
-            return Ok(());
+    /// The user of a side sends data. In the capture it passed in TSDUs of which each but the last ended after so many octets of it,
+    /// and the last after so many.
+    pub(crate) fn send_parts(
+        &mut self,
+        side: Side,
+        user_data: &[u8],
+        cuts: &[usize],
+        length: usize,
+    ) -> Result<(), Halt> {
+        let before = self.asked(side);
+        self.call(side, Request::Data { user_data })?;
+        let is_same = self.asked(side).saturating_sub(before) == length;
+        'cuts: for cut in cuts {
+            let more = if is_same { *cut } else { 0 };
+            self.wire_mut(side).mark(before.saturating_add(more))?;
         }
-        self.carry_tsdus(side, ahead, false)?;
-        'turns: for _ in 0..MOST_TURNS {
-            if self.unsent(side) == 0 {
-                return Ok(());
-            }
-            self.carry_quiet(other(side))?;
-            if self.unsent(side) == 0 {
-                return Ok(());
-            }
-            if self.outgoing(side).is_empty() && self.outgoing(other(side)).is_empty() {
-                break;
-            }
-            self.carry_to(side, self.sent(side))?;
-            self.carry_to(other(side), self.sent(other(side)))?;
-        }
-        Err(Halt::NoCall)
+        Ok(())
     }
 
-    /// Carries what a side has sent before its next CR, CC or DT.
-    fn carry_quiet(&mut self, side: Side) -> Result<(), Halt> {
-        let quiet = quiet_octets(self.outgoing(side));
-        let end = self.wire(side).carried.saturating_add(quiet);
+    /// Carries what a side has sent up to an octet. Returns whether there was something to carry.
+    fn carry_to(&mut self, side: Side, end: usize) -> Result<bool, Halt> {
+        let count = end.saturating_sub(self.wire(side).carried());
+        if count == 0 {
+            return Ok(false);
+        }
+        let length = self.script.len();
+        let octets = count.min(MOST) as u32;
+        // What is left to be carried is looked at as soon as the line is played.
+        let carried = self.wire(side).carried();
+        self.wire_mut(side).carry(end);
+        if let Err(halt) = self.play(&Command::Carry { side, octets }) {
+            self.wire_mut(side).carry(carried);
+            self.script.truncate(length);
+            return Err(halt);
+        }
+        Ok(true)
+    }
+
+    /// Carries what a side has sent before the next CR, CC or DT that comes at this octet or after it.
+    fn carry_quiet(&mut self, side: Side, octet: usize) -> Result<bool, Halt> {
+        let end = self.wire(side).quiet_from(octet, self.outgoing(side));
         self.carry_to(side, end)
     }
 
     /// Carries what acknowledges the data of both sides and closes the connection, if no data comes before it.
     pub(crate) fn carry_rest(&mut self) -> Result<(), Halt> {
         'turns: for _ in 0..2 {
-            self.carry_quiet(Side::Left)?;
-            self.carry_quiet(Side::Right)?;
-        }
-        Ok(())
-    }
-
-    /// The user of a side sends data that leaves in so many TSDUs. If it leaves in another number of them, or waits for
-    /// credit, all but the last are counted as sent with it.
-    pub(crate) fn send_parts(
-        &mut self,
-        side: Side,
-        user_data: &[u8],
-        parts: usize,
-        ahead: usize,
-    ) -> Result<(), Halt> {
-        let before = self.sent(side);
-        let waiting = self.outgoing(side).len();
-        self.begin_call(side, Request::Data { user_data })?;
-        let more = self.outgoing(side).get(waiting..).unwrap_or_default();
-        let ends = ends_in(self.alloc, more)?;
-        let is_same = ends.len() == parts;
-        self.drain(side, ahead)?;
-        'parts: for part in 0..parts.saturating_sub(1) {
-            let end = if is_same {
-                ends.get(part).copied().unwrap_or(0)
-            } else {
-                0
-            };
-            self.wire_mut(side).add(before.saturating_add(end))?;
-        }
-        Ok(())
-    }
-
-    /// Carries what a side has sent up to an octet.
-    fn carry_to(&mut self, side: Side, end: usize) -> Result<(), Halt> {
-        let count = end.saturating_sub(self.wire(side).carried);
-        if count == 0 {
-            return Ok(());
-        }
-        let length = self.script.len();
-        let octets = count.min(MOST) as u32;
-        if let Err(halt) = self.play(&Command::Carry { side, octets }) {
-            self.script.truncate(length);
-            return Err(halt);
-        }
-        self.wire_mut(side).carried = end;
-        Ok(())
-    }
-
-    /// Carries what a side has sent up to an octet. The other side sends something by itself then, or does not.
-    fn carry(&mut self, side: Side, end: usize, answers: bool) -> Result<(), Halt> {
-        let sent = self.sent(other(side));
-        self.carry_to(side, end)?;
-        if self.has_spoken(other(side), sent) != answers {
-            return Err(Halt::NoCall);
+            self.carry_quiet(Side::Left, 0)?;
+            self.carry_quiet(Side::Right, 0)?;
         }
         Ok(())
     }
@@ -445,28 +277,81 @@ impl Player {
         Ok(())
     }
 
-    /// Carries all that a side has sent.
+    /// Carries all that a side has sent. The other side sends user data then, or does not.
     pub(crate) fn carry_all(&mut self, side: Side, answers: bool) -> Result<(), Halt> {
-        self.carry(side, self.sent(side), answers)
+        let asked = self.asked(other(side));
+        self.carry_to(side, self.sent(side))?;
+        if (self.asked(other(side)) != asked) != answers {
+            return Err(Halt::NoCall);
+        }
+        Ok(())
     }
 
-    /// Carries the TSDUs of a side up to so many of them.
-    pub(crate) fn carry_tsdus(
+    /// Whether so many TSDUs of a side have left its end.
+    pub(crate) fn has_left(&self, side: Side, count: usize) -> bool {
+        self.wire(side).has_left(count)
+    }
+
+    /// A side takes so many TSDUs of the capture, and sends something by itself then, or does not. Returns whether it could: the other
+    /// side has sent so many, and they have left. If they wait for credit, the other side first takes up to so many TSDUs.
+    pub(crate) fn bring(
         &mut self,
         side: Side,
         count: usize,
         answers: bool,
-    ) -> Result<(), Halt> {
-        if count == 0 {
-            return Ok(());
+        most: usize,
+    ) -> Result<bool, Halt> {
+        if self.tsdus(other(side)) < count {
+            return Ok(false);
         }
-        match self.wire(side).ends.get(count.saturating_sub(1)) {
-            Some(end) => {
-                let end = *end;
-                self.carry(side, end, answers)
+        let (own, others) = (self.asked(side), self.asked(other(side)));
+        let has_left = self.relieve(other(side), count, most)?;
+        if self.asked(side) != own || self.asked(other(side)) != others {
+            return Err(Halt::NoCall);
+        }
+        if !has_left {
+            return Ok(false);
+        }
+        let end = self.wire(other(side)).end_of(count);
+        self.carry_to(other(side), end)?;
+        if (self.asked(side) != own) != answers {
+            return Err(Halt::NoCall);
+        }
+        Ok(true)
+    }
+
+    /// Carries octets both ways until so many TSDUs of a side have left. The side takes up to so many TSDUs of the other, with what
+    /// acknowledges its own. Returns whether they have left.
+    fn relieve(&mut self, side: Side, count: usize, most: usize) -> Result<bool, Halt> {
+        'turns: for _ in 0..MOST_TURNS {
+            if self.wire(side).has_left(count) {
+                return Ok(true);
             }
-            None => Err(Halt::NoCall),
+            let end = self.wire(other(side)).end_of(most);
+            let has_more = self.carry_quiet(other(side), end)?;
+            if self.wire(side).has_left(count) {
+                return Ok(true);
+            }
+            if !self.carry_to(side, self.sent(side))? && !has_more {
+                break;
+            }
         }
+        Ok(false)
+    }
+
+    /// Carries octets both ways until nothing waits for credit.
+    pub(crate) fn drain(&mut self) -> Result<(), Halt> {
+        'turns: for _ in 0..MOST_TURNS {
+            if self.unsent(Side::Left) == 0 && self.unsent(Side::Right) == 0 {
+                return Ok(());
+            }
+            let from_left = self.carry_to(Side::Left, self.sent(Side::Left))?;
+            let from_right = self.carry_to(Side::Right, self.sent(Side::Right))?;
+            if !from_left && !from_right {
+                break;
+            }
+        }
+        Err(Halt::NoCall)
     }
 
     /// Hands the script out.

@@ -58,9 +58,39 @@ fn first_message(stream: &Stream) -> Option<Message<'_>> {
 #[derive(Drop)]
 struct Joined {
     octets: Vec<u8>,
-    /// How many TSDUs and how many units of its side it had.
-    tsdus: usize,
+    /// After how many octets of its TSDUs each of them ended but the last.
+    cuts: Vec<usize>,
+    /// How many octets they had, and how many units of the side were sent up to the last of them.
+    length: usize,
     units: usize,
+}
+
+impl Joined {
+    fn new(alloc: Global) -> Joined {
+        Joined {
+            octets: Vec::new(alloc),
+            cuts: Vec::new(alloc),
+            length: 0,
+            units: 0,
+        }
+    }
+
+    /// The next unit of the side comes, after this one. It may begin another TSDU.
+    fn begin(&mut self, before: Option<&Said>, said: &Said) -> Result<(), AllocError> {
+        self.units = self.units.saturating_add(1);
+        match before {
+            Some(before) if before.tsdu < said.tsdu => self.cuts.push(self.length)?,
+            _ => (),
+        }
+        Ok(())
+    }
+
+    /// It is a part, in a TSDU of so many octets.
+    fn add(&mut self, part: &[u8], tsdu: usize) -> Result<(), AllocError> {
+        self.octets.extend_from_slice(part)?;
+        self.length = self.length.saturating_add(tsdu);
+        Ok(())
+    }
 }
 
 fn stop_at(side: Side, place: Place, halt: Halt) -> Stop {
@@ -151,16 +181,20 @@ impl<'c, 'p> Telling<'c, 'p> {
         self.player.carry_opening(Side::Left)
     }
 
-    /// The CR, and its answer, if there is one.
-    fn open(&mut self) -> Result<(), Stop> {
-        let request = self.conversation.request;
+    /// The CR.
+    fn request(&mut self) -> Result<(), Stop> {
         let place = match self.conversation.left.tsdus.first() {
             Some(tsdu) => tsdu.place,
-            None => request.place,
+            None => self.conversation.request.place,
         };
-        if let Err(halt) = self.connect() {
-            return Err(stop_at(Side::Left, place, halt));
+        match self.connect() {
+            Ok(()) => Ok(()),
+            Err(halt) => Err(stop_at(Side::Left, place, halt)),
         }
+    }
+
+    /// The answer to the CR, if there is one.
+    fn open(&mut self) -> Result<(), Stop> {
         let Some(answer) = self.conversation.answer else {
             return Ok(());
         };
@@ -200,17 +234,17 @@ impl<'c, 'p> Telling<'c, 'p> {
         Some((*said, place))
     }
 
-    /// The side whose next unit passed first, the unit, and its place.
-    fn next(&self) -> Option<(Side, Said, Place)> {
+    /// The side whose next unit passed first, and its place.
+    fn next(&self) -> Option<(Side, Place)> {
         match (self.next_of(Side::Left), self.next_of(Side::Right)) {
             (None, None) => None,
-            (Some((said, place)), None) => Some((Side::Left, said, place)),
-            (None, Some((said, place))) => Some((Side::Right, said, place)),
-            (Some((left, of_left)), Some((right, of_right))) => {
-                if of_left.first <= of_right.first {
-                    Some((Side::Left, left, of_left))
+            (Some((_, place)), None) => Some((Side::Left, place)),
+            (None, Some((_, place))) => Some((Side::Right, place)),
+            (Some((_, left)), Some((_, right))) => {
+                if left.first <= right.first {
+                    Some((Side::Left, left))
                 } else {
-                    Some((Side::Right, right, of_right))
+                    Some((Side::Right, right))
                 }
             }
         }
@@ -218,24 +252,21 @@ impl<'c, 'p> Telling<'c, 'p> {
 
     /// The data in parts that comes next from a side; none if something else comes between them, or their end is missing.
     fn joined(&self, side: Side) -> Result<Option<Joined>, AllocError> {
-        let mut octets = Vec::new(self.alloc);
-        let mut tsdus = 0usize;
+        let mut joined = Joined::new(self.alloc);
         let stream = self.conversation.stream(side);
         let said = stream.said.get(self.told(side)..).unwrap_or_default();
-        'units: for (index, said) in said.iter().enumerate() {
+        let mut before = said.first();
+        'units: for said in said {
+            joined.begin(before, said)?;
+            before = Some(said);
             let Some(unit) = unit_of(stream, said) else {
                 return Ok(None);
             };
             match Part::of(&unit) {
                 Some(part) => {
-                    octets.extend_from_slice(unit.information())?;
-                    tsdus = tsdus.saturating_add(1);
+                    joined.add(unit.information(), stream.tsdu(said.tsdu).len())?;
                     if matches!(part, Part::Last) {
-                        return Ok(Some(Joined {
-                            octets,
-                            tsdus,
-                            units: index.saturating_add(1),
-                        }));
+                        return Ok(Some(joined));
                     }
                 }
                 None if has_no_effect(&Message::of(&unit)) => (),
@@ -245,17 +276,31 @@ impl<'c, 'p> Telling<'c, 'p> {
         Ok(None)
     }
 
-    /// How many TSDUs of the other side, of those that were told, a side takes before it sends its next unit.
-    fn ahead(&self, side: Side) -> usize {
-        let Some((said, _)) = self.next_of(side) else {
-            return 0;
-        };
-        let most = if said.is_answer {
-            said.taken.saturating_sub(1)
+    /// How many TSDUs of the other side, of those that were told, a side may take before it sends its next unit; if it sends none, up to
+    /// one that it would answer.
+    fn ahead(&self, side: Side) -> Result<usize, AllocError> {
+        match self.next_of(side) {
+            Some((said, _)) => {
+                let most = if said.is_answer {
+                    said.taken.saturating_sub(1)
+                } else {
+                    said.taken
+                };
+                Ok(most.min(self.player.tsdus(other(side))))
+            }
+            None => self.reach(side),
+        }
+    }
+
+    /// A side takes TSDUs of the other side up to this one, and answers the last of them by itself or not. Returns whether it could: they
+    /// may have to wait for credit until the other side has sent more.
+    fn bring(&mut self, side: Side, count: usize, answers: bool) -> Result<bool, Halt> {
+        let most = if self.player.has_left(other(side), count) {
+            0
         } else {
-            said.taken
+            self.ahead(other(side))?
         };
-        most.min(self.player.tsdus(other(side)))
+        self.player.bring(side, count, answers, most)
     }
 
     /// A side sends data in parts. Says how many of its units are told then.
@@ -263,10 +308,15 @@ impl<'c, 'p> Telling<'c, 'p> {
         let Some(joined) = self.joined(side)? else {
             return Err(Halt::NoCall);
         };
-        let ahead = self.ahead(other(side));
+        let Joined {
+            octets,
+            cuts,
+            length,
+            units,
+        } = joined;
         self.player
-            .send_parts(side, joined.octets.as_slice(), joined.tsdus, ahead)?;
-        Ok(joined.units)
+            .send_parts(side, octets.as_slice(), cuts.as_slice(), length)?;
+        Ok(units)
     }
 
     /// A side sends a message.
@@ -278,18 +328,13 @@ impl<'c, 'p> Telling<'c, 'p> {
             return self.say_connect();
         }
         match request_of(message, self.offer) {
-            Some(request) => {
-                let ahead = self.ahead(other(side));
-                self.player.call(side, request, ahead)
-            }
+            Some(request) => self.player.call(side, request),
             None => Err(Halt::NoCall),
         }
     }
 
     /// A side sends its next unit, and the parts of the same data after it. Says how many units are told then.
     fn say(&mut self, side: Side, said: &Said) -> Result<usize, Halt> {
-        self.player
-            .carry_tsdus(other(side), said.taken, said.is_answer)?;
         if said.is_answer {
             return Ok(1);
         }
@@ -323,24 +368,39 @@ impl<'c, 'p> Telling<'c, 'p> {
         Ok(())
     }
 
-    /// Tells a unit of a side.
-    fn tell_next(&mut self, side: Side, said: &Said) -> Result<(), Halt> {
+    /// Tells a unit of a side, if this can take what its session takes before it. Returns whether it could.
+    fn tell_next(&mut self, side: Side, said: &Said) -> Result<bool, Halt> {
+        if !self.bring(side, said.taken, said.is_answer)? {
+            return Ok(false);
+        }
         let units = self.say(side, said)?;
         self.advance(side, said.tsdu, units)?;
-        Ok(())
+        Ok(true)
     }
 
-    /// Tells both runs in the order in which their units passed.
+    /// Tells the next unit of a side, if there is one and it can be told now. Returns whether it was.
+    fn tell_one(&mut self, side: Side) -> Result<bool, Stop> {
+        let Some((said, place)) = self.next_of(side) else {
+            return Ok(false);
+        };
+        match self.tell_next(side, &said) {
+            Ok(is_told) => Ok(is_told),
+            Err(halt) => Err(stop_at(side, place, halt)),
+        }
+    }
+
+    /// Tells both runs in the order in which their units passed. If a side waits for what the other side can't send before it has credit,
+    /// the other side goes on.
     fn tell_all(&mut self) -> Result<(), Stop> {
         self.open()?;
         let (left, right) = (&self.conversation.left, &self.conversation.right);
         let units = left.said.len().saturating_add(right.said.len());
         'units: for _ in 0..units {
-            let Some((side, said, place)) = self.next() else {
+            let Some((side, place)) = self.next() else {
                 return Ok(());
             };
-            if let Err(halt) = self.tell_next(side, &said) {
-                return Err(stop_at(side, place, halt));
+            if !self.tell_one(side)? && !self.tell_one(other(side))? {
+                return Err(stop_at(side, place, Halt::NoCall));
             }
         }
         Ok(())
@@ -355,8 +415,9 @@ impl<'c, 'p> Telling<'c, 'p> {
         }
     }
 
-    /// A side takes what was told of the other side, up to what it would answer.
-    fn settle(&mut self, side: Side) -> Result<(), Halt> {
+    /// How many TSDUs of the other side, of those that were told, a side has taken if it sends nothing more and takes all up to one that
+    /// it would answer.
+    fn reach(&self, side: Side) -> Result<usize, AllocError> {
         let (taken, mut standing) = self.standing(side);
         let heard = self.conversation.stream(other(side));
         let mut count = taken;
@@ -367,7 +428,14 @@ impl<'c, 'p> Telling<'c, 'p> {
             standing = next;
             count = number.saturating_add(1);
         }
-        self.player.carry_tsdus(other(side), count, false)
+        Ok(count)
+    }
+
+    /// A side takes what was told of the other side, up to what it would answer, if it can.
+    fn settle(&mut self, side: Side) -> Result<(), Halt> {
+        let count = self.reach(side)?;
+        self.bring(side, count, false)?;
+        Ok(())
     }
 
     /// A connection that was refused is over when left knows it. What acknowledges data and closes the connection is carried.
@@ -379,7 +447,7 @@ impl<'c, 'p> Telling<'c, 'p> {
         }
     }
 
-    /// Both sides take what was told of each other.
+    /// Both sides take what was told of each other. What then still waits for credit leaves, even if a side answers something for it.
     fn close(&mut self) -> Result<(), Stop> {
         if let Err(halt) = self.settle(Side::Left) {
             return Err(stop_behind(Side::Left, halt));
@@ -387,14 +455,27 @@ impl<'c, 'p> Telling<'c, 'p> {
         if let Err(halt) = self.settle(Side::Right) {
             return Err(stop_behind(Side::Right, halt));
         }
+        if let Err(halt) = self.player.drain() {
+            return Err(stop_behind(Side::Left, halt));
+        }
         match self.finish() {
             Ok(()) => Ok(()),
             Err(halt) => Err(stop_behind(Side::Left, halt)),
         }
     }
 
-    /// Tells both runs, and says where the script stops before their end.
+    /// Whether there is nothing to tell but the CR and its answer: neither side sent a whole TSDU that has a run.
+    fn is_silent(&self) -> bool {
+        self.conversation.left.said.is_empty() && self.conversation.right.said.is_empty()
+    }
+
+    /// Tells both runs, and says where the script stops before their end. A connection without a TSDU is left out if the left end can't
+    /// ask for it now, as before it knows the class.
     pub(crate) fn tell(&mut self) -> Result<(), Stop> {
+        match self.request() {
+            Err(stop) if self.is_silent() && matches!(stop.halt, Halt::NoCall) => return Ok(()),
+            requested => requested?,
+        }
         match self.tell_all() {
             Ok(()) => self.close(),
             Err(stop) => {

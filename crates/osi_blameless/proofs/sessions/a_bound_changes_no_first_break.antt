@@ -1,23 +1,22 @@
--- What a capture comes to at a judge with a bound, beside what it comes to at one without: of the transport the same is found, and in no
--- moment is a session of a side to blame at the one if none is at the other before a break of the other side's transport.
+-- What a capture comes to at a judge with a bound, beside what it comes to at one without: of the transport the same is found, and at no
+-- moment is a session of a side to blame at the one if none ever is at the other.
 -- For the law on a judge with a bound.
-use Rattle.osi_blameless.proofs.Vocabulary.{arith, ◌≡◌, ◌∙◌, ◌⊎◌, inl, inr, refl, sym, ap, subst, ℕ, Bool, if◌then◌else◌, is_some, List, []}
-use Rattle.osi_blameless.proofs.Vocabulary.{◌∷◌, ◌++◌, Option, Value, Capture, other, Direction, Left, Reach, Told, Outcome, takes, Cause}
+use Rattle.osi_blameless.proofs.Vocabulary.{arith, ◌≡◌, ◌∙◌, refl, sym, ap, subst, ℕ, Bool, if◌then◌else◌, is_some, List, []}
+use Rattle.osi_blameless.proofs.Vocabulary.{◌∷◌, ◌++◌, AllByRecursion, Option, Value, Capture, Direction, Left, Reach, Told, Outcome, takes, Cause}
 use Rattle.osi_blameless.proofs.Vocabulary.{Mark, Octets, Sessions, taken, Course, Moment, fresh_within, marked, marks_of, moved, noted_by}
 use Rattle.osi_blameless.proofs.Vocabulary.{number_at, packet_begins, unit_passes, unread, unread_mark, unread_moment, way_of, begin_within}
 use Rattle.osi_blameless.proofs.Vocabulary.{comes_to, marked_past, AreMomentsOf, IsCourseOf, IsMomentOf, comes_within}
-use Rattle.osi_rules.specs.declared.findings.Reach.TheVariants as reach
 use Rattle.osi_rules.specs.Traffic.{State as Traffic}
 use Rattle.osi_rules.specs.Traffic as traffic
 use Rattle.osi_judge.specs.Courses.{fresh}
 use Rattle.osi_judge.specs.States.{begin}
 use Rattle.osi_blameless.proofs.what_passes_keeps_a_claim_on_two_courses.{IsClaim, after_kept}
-use Rattle.osi_blameless.proofs.sessions.after_too_many_nobody_is_to_blame.{NoneIsToBlame, none_begins}
+use Rattle.osi_blameless.proofs.sessions.no_end_is_ever_to_blame.{IsBlameless}
+use Rattle.osi_blameless.proofs.sessions.nobody_of_a_side_is_to_blame.{NeverToBlame, NoneIsToBlame, NoneWas, moment, never_begins}
+use Rattle.osi_blameless.proofs.sessions.nobody_of_a_side_is_to_blame.{never_refused, never_unit, then_joined, unit_past}
 use Rattle.osi_blameless.proofs.sessions.connections_have_the_same_places.{marked_leaves, marked_traffic, unit_joins, unit_knows}
 use Rattle.osi_blameless.proofs.sessions.nobody_else_is_to_blame_within_a_bound.{taken_none}
-use Rattle.osi_blameless.proofs.sessions.the_first_break_of_all_is_of_the_other_side.{AreClean, BreaksTransport, Ends, HasBroken, IsClean}
-use Rattle.osi_blameless.proofs.sessions.the_first_break_of_all_is_of_the_other_side.{broken_more, broken_then, clean_then, moment}
-use Rattle.osi_blameless.proofs.sessions.the_first_break_of_all_is_of_the_other_side.{then_joined, unit_past}
+use Rattle.osi_blameless.proofs.sessions.the_first_break_of_all_is_of_the_other_side.{IsOfOther}
 use Rattle.osi_blameless.proofs.sessions.what_is_judged_within_a_bound.{AreBounded, begun_bounded, same_number, taken_bounded}
 
 -- ---- what is found of the transport
@@ -44,37 +43,11 @@ moments_more [] (y ∷ wholes) m n k h = absurd h
 moments_more (x ∷ past) [] m n k h = absurd h
 moments_more (x ∷ past) (y ∷ wholes) m n k h = (h.0, moments_more past wholes m n k h.1)
 
-clean_parts : (d : Direction) (past : List Moment) (m : Moment) → AreClean d (past ++ m ∷ []) → AreClean d past × IsClean d m
-clean_parts d [] m h = (tt, h.0)
-clean_parts d (x ∷ past) m h = let (clean, last) = clean_parts d past m h.1 in ((h.0, clean), last)
+-- ---- no session of a side is ever to blame
 
-broken_parts : (d : Direction) (past : List Moment) (m : Moment) → HasBroken d (past ++ m ∷ []) →
-    HasBroken d past ⊎ (AreClean d past × BreaksTransport (other d) m)
-broken_parts d [] m (inl b) = inr (tt, b)
-broken_parts d [] m (inr h) = absurd h.1
-broken_parts d (x ∷ past) m (inl b) = inl (inl b)
-broken_parts d (x ∷ past) m (inr (c, h)) = grind (arith, broken_parts d past m h)
-
--- The moments of the whole are clean for a side only if those of what is judged are, and nobody of it is to blame for that. And if the
--- first break of the whole is of the other side's transport, it is here too.
-record IsNoWorse (d : Direction) (past : List Moment) (s : Sessions) (wholes : List Moment) : Type 0 where
-  clean : AreClean d wholes → AreClean d past × NoneIsToBlame d s
-  broken : HasBroken d wholes → HasBroken d past
-
-module _ (d : Direction) (past : List Moment) (s : Sessions) (wholes : List Moment) (h : IsNoWorse d past s wholes) (m n : Moment)
-    (mark : m.mark ≡ n.mark) (none : NoneIsToBlame d s → NoneIsToBlame d n.sessions → NoneIsToBlame d m.sessions) where
-  moment_more : IsNoWorse d (past ++ m ∷ []) m.sessions (wholes ++ n ∷ [])
-  moment_more = record {
-    clean = λ all.
-        let (front, last) = clean_parts d wholes n all in
-        let before = h.clean front in
-        grind (arith, clean_then);
-    broken = λ all. by (broken_parts d wholes n all);
-  }
-    where
-      by : HasBroken d wholes ⊎ (AreClean d wholes × BreaksTransport (other d) n) → HasBroken d (past ++ m ∷ [])
-      by (inl broken) = broken_more d past (m ∷ []) (h.broken broken)
-      by (inr (front, b)) = broken_then d past m (h.clean front).0 (grind arith)
+parts_of : (P : Moment → Type 0) (past : List Moment) (m : Moment) → AllByRecursion P (past ++ m ∷ []) → AllByRecursion P past × P m
+parts_of P [] m h = (tt, h.0)
+parts_of P (x ∷ past) m h = let (front, last) = parts_of P past m h.1 in ((h.0, front), last)
 
 -- ---- a capture
 
@@ -83,11 +56,17 @@ record IsWithin (most : ℕ) (d : Direction) (c w : Course) : Type 0 where
   marks : HasMarksOf c w
   sessions : AreBounded most c.sessions w.sessions
   past : AreMomentsOf c.past w.past
-  no_worse : IsNoWorse d c.past c.sessions w.past
+  no_worse : AllByRecursion (NoneWas d) w.past → NeverToBlame d c
 
 module _ (most : ℕ) (d : Direction) where
   begins_within : (e : Direction) (c w : Course) → IsWithin most d c w → IsWithin most d (packet_begins e c) (packet_begins e w)
-  begins_within e c w h = search (arith, begun_bounded, none_begins)
+  begins_within e c w h = record {
+    traffic = ap (traffic.packet_begins (way_of e)) h.traffic;
+    marks = record { left = h.marks.left; right = h.marks.right; first = h.marks.first };
+    sessions = begun_bounded most e c.sessions w.sessions h.sessions;
+    past = h.past;
+    no_worse = λ none. never_begins d e c (h.no_worse none);
+  }
 
   -- a unit, of which both are told the same
   module _ (e : Direction) (at : ℕ) (v : Value) (c w : Course) (h : IsWithin most d c w) where
@@ -118,15 +97,11 @@ module _ (most : ℕ) (d : Direction) where
     none_so : NoneIsToBlame d c.sessions → NoneIsToBlame d (then_joined e at v w) → NoneIsToBlame d (then_joined e at v c)
     none_so before after = search (arith, taken_none, told_same)
 
-    worse_so : IsNoWorse d (unit_passes e at v c).past (unit_passes e at v c).sessions (unit_passes e at v w).past
-    worse_so =
-        subst (λ (wholes : List Moment). IsNoWorse d (unit_passes e at v c).past (unit_passes e at v c).sessions wholes)
-        (sym (unit_past e at v w))
-        (subst (λ (past : List Moment). IsNoWorse d past (unit_passes e at v c).sessions (w.past ++ moment e at v w ∷ []))
-        (sym (unit_past e at v c))
-        (subst (λ (s : Sessions). IsNoWorse d (c.past ++ moment e at v c ∷ []) s (w.past ++ moment e at v w ∷ []))
-        (sym (unit_joins e at v c))
-        (moment_more d c.past c.sessions w.past h.no_worse (moment e at v c) (moment e at v w) mark_so none_so)))
+    worse_so : AllByRecursion (NoneWas d) (unit_passes e at v w).past → NeverToBlame d (unit_passes e at v c)
+    worse_so none =
+        let (front, last) = parts_of (NoneWas d) w.past (moment e at v w) (subst (AllByRecursion (NoneWas d)) (unit_past e at v w) none) in
+        let before = h.no_worse front in
+        never_unit d e at v c before (subst (NoneIsToBlame d) (sym (unit_joins e at v c)) (none_so before.now last))
 
     past_so : AreMomentsOf (unit_passes e at v c).past (unit_passes e at v w).past
     past_so = grind (arith, unit_past, moment, moments_more, mark_so, joined_so)
@@ -151,8 +126,14 @@ module _ (most : ℕ) (d : Direction) where
     abbrev refused : Course → Traffic → Course
     refused x t = marked mark (traffic.refused_reach (way_of e) t) (mid x t)
 
+    refused_never : AllByRecursion (NoneWas d) (refused w c.traffic).past → NeverToBlame d (refused c c.traffic)
+    refused_never none =
+        let (front, last) = parts_of (NoneWas d) w.past (unread_moment e at cause w.sessions)
+        (subst (AllByRecursion (NoneWas d)) (marked_past mark (traffic.refused_reach (way_of e) c.traffic) (mid w c.traffic)) none) in
+        never_refused d e at cause c (h.no_worse front)
+
     refused_within : IsWithin most d (refused c c.traffic) (refused w c.traffic)
-    refused_within = search (arith, marked_traffic, marked_same, marked_leaves, marked_past, moments_more, moment_more)
+    refused_within = search (arith, marked_traffic, marked_same, marked_leaves, marked_past, moments_more, refused_never)
 
     if_halted : (b : Bool) → IsWithin most d (if b then c else refused c c.traffic) (if b then w else refused w w.traffic)
     if_halted b = grind (arith, refused_within)
@@ -167,16 +148,40 @@ module _ (most : ℕ) (d : Direction) where
   within_claim = search (arith, begins_within, passes_within, bad_within)
 
   first_within : IsWithin most d (fresh_within (Octets most)) fresh
-  first_within = grind arith
+  first_within = record {
+    traffic = refl;
+    marks = record { left = refl; right = refl; first = refl };
+    sessions = grind arith;
+    past = tt;
+    no_worse = λ none. record {
+      now = record { live = λ i j here. absurd (cc here); done = λ i j here. absurd (cc here) };
+      past = tt;
+    };
+  }
 
   capture_within : (capture : Capture) → IsWithin most d (comes_within most capture).course (comes_to capture).course
   capture_within capture =
       after_kept (IsWithin most d) within_claim capture (begin_within (Octets most)) begin
       (record { course = fresh; same = refl; so = first_within })
 
-  -- a capture ends at such a judge as it does at one without a bound
-  pub ends_so_within : (capture : Capture) → Ends d (comes_to capture).course → Ends d (comes_within most capture).course
-  ends_so_within capture h = grind (arith, capture_within)
+  of_within : (past wholes : List Moment) → AreMomentsOf past wholes → AllByRecursion (IsOfOther d) wholes →
+      AllByRecursion (IsOfOther d) past
+  of_within [] [] h of = tt
+  of_within [] (y ∷ wholes) h of = absurd h
+  of_within (x ∷ past) [] h of = absurd h
+  of_within (x ∷ past) (y ∷ wholes) h of = (λ k is bad. of.0 k (sym h.0.mark ∙ is) bad, of_within past wholes h.1 of.1)
+
+  -- an end is as blameless at such a judge as at one without a bound
+  pub blameless_within : (capture : Capture) → IsBlameless d (comes_to capture).course → IsBlameless d (comes_within most capture).course
+  blameless_within capture h =
+      let w = capture_within capture in
+      record {
+        never = w.no_worse h.never.past;
+        transport = record {
+          first = λ f is. h.transport.first f (sym w.marks.first ∙ is);
+          past = of_within (comes_within most capture).course.past (comes_to capture).course.past w.past h.transport.past;
+        };
+      }
 
 pub course_within : (most : ℕ) (capture : Capture) → IsCourseOf (comes_within most capture).course (comes_to capture).course
 course_within most capture = grind (arith, capture_within most Left capture)

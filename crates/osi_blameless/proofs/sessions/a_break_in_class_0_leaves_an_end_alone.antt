@@ -4,7 +4,7 @@ use Rattle.osi_blameless.proofs.Vocabulary.{◌≡◌, ◌∙◌, inl, inr, refl
 use Rattle.osi_blameless.proofs.Vocabulary.{◌++◌, map, length, Some, arith, append_assoc, Result, Ok, AllByRecursion, append-nil, IsOctets}
 use Rattle.osi_blameless.proofs.Vocabulary.{units_of, Value, data0, written, TpduFault, Class, Zero, Local, other, Direction, is_applied}
 use Rattle.osi_blameless.proofs.Vocabulary.{class_for, takes, side_zero, Deeds, AreHard, IsHard, Known, Cause, unit_passes, units_pass}
-use Rattle.osi_blameless.proofs.Vocabulary.{unread, way_of, Joint, Step, Steps, begins_other, begins_own, passes_other, passes_own, turns}
+use Rattle.osi_blameless.proofs.Vocabulary.{unread, way_of, Joint, Step, Steps, begins_other, begins_own, passes_other, passes_own, turns, stops_last, units_by}
 use Rattle.osi_blameless.proofs.Vocabulary.{calls_from, IsNoPacket, IsUnread, LaterAlong, LaterSteps, spoilt}
 use Rattle.osi_rules.specs.declared.courses.Course.{Course as Judging}
 use Rattle.osi_rules.specs.declared.findings.Reach.TheVariants as reach
@@ -15,23 +15,24 @@ use Rattle.osi_blameless.proofs.a_break_ends_no_judging_or_all.{reach_so, refuse
 use Rattle.osi_blameless.proofs.an_end_that_is_judged_alone_stays_so.{later_kept}
 use Rattle.osi_blameless.proofs.in_class_0_one_side_alone_is_judged.{IsAlone}
 use Rattle.osi_blameless.proofs.later_steps_are_events.{later_followed, spoilt_followed}
-use Rattle.osi_blameless.proofs.steps_are_events.{IsFollowed, step_followed}
-use Rattle.osi_blameless.proofs.the_first_break_is_not_of_an_end.{IsFairAlone, IsFairFrom}
-use Rattle.osi_blameless.proofs.what_a_unit_leaves_at_a_judge.{IsJudged}
+use Rattle.osi_blameless.proofs.steps_are_events.{IsFollowed}
+use Rattle.osi_blameless.proofs.no_unit_of_a_whole_end_is_a_break.{IsFairAlone, IsFair}
+use Rattle.osi_blameless.proofs.all_is_judged_or_nothing.{IsJudged}
 use Rattle.osi_blameless.proofs.what_is_halted_stays_halted.{unread_same}
 use Rattle.osi_blameless.proofs.what_passes_keeps_a_claim.{units_kept}
 use Rattle.osi_blameless.proofs.what_is_judged_beside_a_halted_side.{IsBeside, beside_break, beside_unread}
 use Rattle.osi_blameless.proofs.sessions.a_dt_that_is_too_long_stays_so.{IsTooLong, breaks_too_long}
 use Rattle.osi_blameless.proofs.sessions.an_end_beside_a_judge_that_judges_all.{Goes, other_goes}
-use Rattle.osi_blameless.proofs.sessions.an_end_goes_on_as_if_no_break_had_come.{How, IsAsWithout, IsHardFor, is_over, none_comes}
+use Rattle.osi_blameless.proofs.sessions.an_end_goes_on_as_if_no_break_had_come.{How, IsAsWithout, IsHardFor, is_over, none_alone, none_comes}
 use Rattle.osi_blameless.proofs.sessions.an_end_goes_on_as_if_no_break_had_come.{other_alone, other_begins_alone, own_alone_so}
 use Rattle.osi_blameless.proofs.sessions.an_end_goes_on_as_if_no_break_had_come.{own_begins_alone, still_units, turn_alone, waits_for}
 use Rattle.osi_blameless.proofs.sessions.an_end_of_class_0_has_begun_what_a_judge_has_joined.{HasBegun}
 use Rattle.osi_blameless.proofs.sessions.an_end_of_class_0_has_its_connection_open.{MayBeFollowed}
 use Rattle.osi_blameless.proofs.sessions.each_step_leaves_class_0_one_connection.{Sure, sure_claim}
 use Rattle.osi_blameless.proofs.sessions.no_more_tsdus_than_moments_have_passed.{AreFew, few_claim}
-use Rattle.osi_blameless.proofs.sessions.no_session_of_an_end_breaks_first.{ArePassed, KeepsUnless, firm_so, goes_so, long_claim}
-use Rattle.osi_blameless.proofs.sessions.no_session_of_an_end_breaks_first.{units_join}
+use Rattle.osi_blameless.proofs.sessions.what_is_asked_of_what_holds_at_each_step.{ArePassed, KeepsUnless, firm_so, goes_so, long_claim}
+use Rattle.osi_blameless.proofs.sessions.what_is_asked_of_what_holds_at_each_step.{units_join}
+use Rattle.osi_blameless.proofs.sessions.nobody_of_a_side_is_to_blame.{NeverToBlame, NoneIsToBlame, never_begins, never_stopped, never_unit}
 use Rattle.osi_blameless.proofs.sessions.the_first_units_of_a_packet_are_a_packet.{leads_off, leads_read}
 
 -- ---- what an end of class 0 never takes
@@ -55,8 +56,24 @@ followed_hard v h begun = grind arith
 unread_hard : (r : Result (List Value) TpduFault) → IsUnread r → (begun : List ℕ) → AreHard begun r
 unread_hard r h begun = grind arith
 
+-- ---- units of a side of which nothing more is judged
+
+pub units_alone : (d : Direction) (at : ℕ) (vs : List Value) (c : Passed) → IsAlone d c → NeverToBlame d c →
+    NeverToBlame d (units_pass (other d) at vs c)
+units_alone d at [] c a h = h
+units_alone d at (v ∷ vs) c a h =
+    units_alone d at vs (unit_passes (other d) at v c) (grind (arith, stops_last)) (never_stopped d (other d) at v c a.stopped h)
+
+-- a step is one after what can't be read too
+pub later_too : (d : Direction) (step : Step) (old new : Joint) → Steps d step old new → LaterSteps d step old new
+later_too d (turns turn) old new t = t
+later_too d begins_own old new step = step
+later_too d begins_other old new step = step
+later_too d (passes_own at v) old new step = step
+later_too d (passes_other at packet units) old new (octets, read, is) = (octets, ap units_by read, is)
+
 module _ (known : Known) (barred : Class) (d : Direction) (local : Local)
-    (fair : IsFairFrom (way_of d) (wholes.begin (calls_from d) local))
+    (fair : IsFair (way_of d) (wholes.begin (calls_from d) local))
     (fair_alone : IsFairAlone (way_of d) (wholes.begin (calls_from d) local)) (Inv : (ℕ → Deeds) → Joint → Type 0)
     (k : KeepsUnless barred d local Inv) (has_begun : HasBegun barred d Inv) where
   abbrev pub Judged : (ℕ → Deeds) → Joint → Type 0
@@ -202,16 +219,6 @@ module _ (known : Known) (barred : Class) (d : Direction) (local : Local)
     abbrev first : wholes.Whole
     first = wholes.begin (calls_from d) local
 
-    pub step_alone : (step : Step) (old new : Joint) → Steps d step old new → length old.course.past < 2 ^ 64 → AsWithout false old →
-        AsWithout false new
-    step_alone (turns turn) old new t short a = turn_alone known barred d local fair fair_alone Inv k has_begun apart false turn old new t a
-    step_alone begins_own old new step short a = search (arith, own_begins_alone)
-    step_alone begins_other old new step short a = search (arith, other_begins_alone)
-    step_alone (passes_own at v) old new step short a = search (arith, own_alone_so)
-    step_alone (passes_other at packet units) old new (octets, read, is) short a =
-        other_alone known barred d local fair fair_alone Inv k has_begun apart at packet units old new is
-        (step_followed d first known.proper (passes_other at packet units) old new (octets, read, is) a.is.followed) a
-
     -- what can't be read is nothing more then
     pub spoilt_alone : (at : ℕ) (cause : Cause) (packets : List (List ℕ)) → units_in packets ≡ [] → (old : Joint) → AsWithout false old →
         AsWithout false (spoilt d at cause packets old)
@@ -240,7 +247,7 @@ module _ (known : Known) (barred : Class) (d : Direction) (local : Local)
             (ap (λ (l : List (List ℕ)). l ++ packets) there ∙ append_assoc front (packet ∷ more) packets) hard
         by (none_comes spent same is) = absurd (let no : false ≡ true = spent in cc)
 
-    later_step : (ends : Bool) (step : Step) (old new : Joint) → LaterSteps d step old new → (ends ≡ true → IsNoPacket step) →
+    pub later_step : (ends : Bool) (step : Step) (old new : Joint) → LaterSteps d step old new → (ends ≡ true → IsNoPacket step) →
         length old.course.past < 2 ^ 64 → AsWithout ends old → AsWithout ends new
     later_step ends (turns turn) old new t none short a = search (arith, turn_alone)
     later_step ends begins_own old new step none short a = search (arith, own_begins_alone)
@@ -251,11 +258,27 @@ module _ (known : Known) (barred : Class) (d : Direction) (local : Local)
         other_alone known barred d local fair fair_alone Inv k has_begun apart at packet units old new is
         (later_followed d first known.proper (passes_other at packet units) old new (octets, read, is) a.is.followed) a
 
+    -- nobody of the end is to blame
+    pub never_alone : (ends : Bool) (step : Step) (old new : Joint) → LaterSteps d step old new → AsWithout ends old → AsWithout ends new →
+        NeverToBlame d old.course → NeverToBlame d new.course
+    never_alone ends (turns turn) old new t a now never = subst (NeverToBlame d) (sym t.course) never
+    never_alone ends begins_own old new step a now never =
+        subst (λ (j : Joint). NeverToBlame d j.course) (sym step.2) (never_begins d d old.course never)
+    never_alone ends begins_other old new step a now never =
+        subst (λ (j : Joint). NeverToBlame d j.course) (sym step) (never_begins d (other d) old.course never)
+    never_alone ends (passes_own at v) old new step a now never =
+        subst (λ (j : Joint). NeverToBlame d j.course) (sym step.4) (never_unit d d at v old.course never
+        (subst (λ (j : Joint). NoneIsToBlame d j.course.sessions) step.4
+        (none_alone known barred d local fair fair_alone Inv k has_begun ends new now)))
+    never_alone ends (passes_other at packet units) old new step a now never =
+        subst (λ (j : Joint). NeverToBlame d j.course) (sym step.2) (units_alone d at units old.course a.is.alone never)
+
     pub later_alone : (ends : Bool) (steps : List Step) (old new : Joint) → LaterAlong d old steps new →
-        (ends ≡ true → AllByRecursion IsNoPacket steps) → length new.course.past < 2 ^ 64 → AsWithout ends old → AsWithout ends new
-    later_alone ends [] old new is none short a = subst (AsWithout ends) (sym is) a
-    later_alone ends (step ∷ steps) old new (mid, one, more) none short a =
+        (ends ≡ true → AllByRecursion IsNoPacket steps) → length new.course.past < 2 ^ 64 → AsWithout ends old →
+        NeverToBlame d old.course → NeverToBlame d new.course
+    later_alone ends [] old new is none short a never = subst (λ (j : Joint). NeverToBlame d j.course) (sym is) never
+    later_alone ends (step ∷ steps) old new (mid, one, more) none short a never =
         let longer = later_kept (λ c. length old.course.past ≤ length c.past) (long_claim (length old.course.past)) d (step ∷ steps) old new
         (mid, one, more) (omega arith) in
-        later_alone ends steps mid new more (λ yes. (none yes).1) short
-        (later_step ends step old mid one (λ yes. (none yes).0) (omega (arith, longer, short)) a)
+        let now = later_step ends step old mid one (λ yes. (none yes).0) (omega (arith, longer, short)) a in
+        later_alone ends steps mid new more (λ yes. (none yes).1) short now (never_alone ends step old mid one a now never)

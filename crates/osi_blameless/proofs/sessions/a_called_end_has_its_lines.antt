@@ -1,7 +1,7 @@
 -- A called end that has not selected class 0, and that runs along with an end and a judge, has its lines as long as both sides are judged.
 -- For the units that a called end puts.
 use Rattle.osi_blameless.proofs.Vocabulary.{ap, false, is_some, None, Some, subst, sym, ◌∙◌, ◌≡◌, Zero, Local, Carrier, Traffic, Called}
-use Rattle.osi_blameless.proofs.Vocabulary.{IsCalm, Whole, Joint, arith, Stage, all_joined, AreNamedApart, over, none_of}
+use Rattle.osi_blameless.proofs.Vocabulary.{IsCalm, Whole, Joint, arith, Stage, all_joined, AreNamedApart, none_of}
 use Rattle.osi_side.specs.declared.directions.Direction.TheVariants as side
 use Rattle.osi_rules.specs.declared.directions.Direction.TheVariants as way
 use Rattle.osi_fair.specs.Wholes.{begin}

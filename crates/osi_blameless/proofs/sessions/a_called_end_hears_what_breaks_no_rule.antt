@@ -15,7 +15,7 @@ use Rattle.osi_blameless.proofs.a_break_ends_no_judging_or_all.{takes_reach}
 use Rattle.osi_blameless.proofs.sessions.a_dt_that_is_no_break_is_right.{found_two}
 use Rattle.osi_blameless.proofs.sessions.a_unit_after_a_dr_leaves_all_standing.{after_keeps}
 use Rattle.osi_blameless.proofs.sessions.a_unit_is_joined_where_it_is_named.{joined_any}
-use Rattle.osi_blameless.proofs.sessions.after_too_many_nobody_is_to_blame.{NoneIsToBlame}
+use Rattle.osi_blameless.proofs.sessions.nobody_of_a_side_is_to_blame.{NoneIsToBlame}
 use Rattle.osi_blameless.proofs.sessions.all_connections_stand.{AllStand, Loses, all_room}
 use Rattle.osi_blameless.proofs.sessions.connections_have_the_same_places.{at_same, unit_joins, unit_knows}
 use Rattle.osi_blameless.proofs.sessions.each_cr_that_passes_gives_a_new_reference.{AreUpTo, unit_up}

@@ -1,13 +1,12 @@
 -- Until class 2 is selected all connections of a called end stand at a judge as units of the other side pass: CRs and DCs, and in class 0
 -- DTs for its one connection. For the session of the connection of a called end in class 0.
-use Rattle.osi_blameless.proofs.Vocabulary.{arith, ◌≡◌, ◌∙◌, refl, sym, ap, subst, ℕ, ◌<◌, Bool, true, false, if◌then◌else◌, List, [], ◌∷◌}
-use Rattle.osi_blameless.proofs.Vocabulary.{◌++◌, Option, Some, None, append_assoc, not, AllByRecursion, list_all, append-nil, Connect}
-use Rattle.osi_blameless.proofs.Vocabulary.{Value, acknowledge, confirm, data0, data2, disconnect, disconnected, error, request, unit_parts}
-use Rattle.osi_blameless.proofs.Vocabulary.{Part, Class, Zero, Left, Right, is_over, State, is_stopped, takes, left_class, Deeds, taken}
-use Rattle.osi_blameless.proofs.Vocabulary.{Course, unit_passes, units_pass}
+use Rattle.osi_blameless.proofs.Vocabulary.{arith, ◌≡◌, ◌∙◌, refl, sym, ap, subst, ℕ, ◌<◌, Bool, true, false, List, [], ◌∷◌}
+use Rattle.osi_blameless.proofs.Vocabulary.{◌++◌, Option, Some, None, append_assoc, not, AllByRecursion, list_all, append-nil, Connect, Value}
+use Rattle.osi_blameless.proofs.Vocabulary.{acknowledge, confirm, data0, data2, disconnect, disconnected, error, request, unit_parts, Part}
+use Rattle.osi_blameless.proofs.Vocabulary.{Class, Zero, Left, Right, is_over, State, is_stopped, takes, left_class, Deeds, taken, Course}
+use Rattle.osi_blameless.proofs.Vocabulary.{unit_passes, units_pass}
 use Rattle.osi_carrier.specs.State.{State as Carrier}
 use Rattle.osi_rules.specs.declared.directions.Direction.TheVariants as way
-use Rattle.osi_rules.specs.declared.findings.Rule.TheVariants as rule
 use Rattle.osi_blameless.proofs.what_a_taker_passes_over.{IsMild}
 use Rattle.osi_blameless.proofs.sessions.a_calling_end_hears_what_comes_until_class_2.{IsNotTwo}
 use Rattle.osi_blameless.proofs.sessions.a_dt_of_class_0_has_one_place.{is_live_there}

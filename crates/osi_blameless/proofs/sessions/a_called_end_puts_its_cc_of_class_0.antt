@@ -1,12 +1,11 @@
 -- The turn in which a called end selects class 0: it puts its CC first, and opens one connection with it. Before that nothing waits, and no
 -- connection is open. For the session of the connection of a called end in class 0.
-use Rattle.osi_blameless.proofs.Vocabulary.{◌≡◌, ◌∙◌, refl, sym, ap, subst, ℕ, ◌<◌, ◌≤◌, Bool, true, false, if◌then◌else◌, List, [], ◌∷◌}
-use Rattle.osi_blameless.proofs.Vocabulary.{◌++◌, map, Some, None, arith, is_some, ◌-◌, AllByRecursion, Connect, Value, acknowledge}
-use Rattle.osi_blameless.proofs.Vocabulary.{confirm, data0, data2, disconnect, disconnected, error, request, written, Zero, Local}
-use Rattle.osi_blameless.proofs.Vocabulary.{acceptance, unit_octets, Right, State, Selecting, AreAbove, IsInZero, zero_puts, IsClear}
-use Rattle.osi_blameless.proofs.Vocabulary.{IsFirm, Continues, Deeds, then_did, units_in, all_units, Turn, AllProper, Life, amid, early}
-use Rattle.osi_blameless.proofs.Vocabulary.{stage_at, stage_is, stage_there, all_units_more, CanBeWritten, Sessions, Joint, TakesTurn}
-use Rattle.osi_blameless.proofs.Vocabulary.{parts_of, going_on}
+use Rattle.osi_blameless.proofs.Vocabulary.{◌≡◌, ◌∙◌, refl, sym, ap, subst, ℕ, ◌<◌, ◌≤◌, Bool, true, false, List, [], ◌∷◌}
+use Rattle.osi_blameless.proofs.Vocabulary.{◌++◌, map, Some, None, arith, is_some, ◌-◌, AllByRecursion, Connect, Value, acknowledge, confirm}
+use Rattle.osi_blameless.proofs.Vocabulary.{data0, data2, disconnect, disconnected, error, request, written, Zero, Local, acceptance}
+use Rattle.osi_blameless.proofs.Vocabulary.{unit_octets, Right, State, Selecting, AreAbove, IsInZero, zero_puts, IsClear, IsFirm, Continues}
+use Rattle.osi_blameless.proofs.Vocabulary.{Deeds, then_did, units_in, all_units, Turn, AllProper, Life, amid, early, stage_at, stage_is}
+use Rattle.osi_blameless.proofs.Vocabulary.{stage_there, all_units_more, CanBeWritten, Sessions, Joint, TakesTurn, parts_of, going_on}
 use Rattle.osi_carrier.specs.State.{State as Carrier}
 use Rattle.osi_blameless.proofs.a_carrier_does_events.{none_of}
 use Rattle.osi_blameless.proofs.steps_are_events.{IsFollowed}
@@ -30,7 +29,6 @@ use Rattle.osi_blameless.proofs.sessions.units_written_alike_have_the_same_ccs.{
 use Rattle.osi_blameless.proofs.sessions.what_a_turn_puts_goes_to_its_peer.{all_so, one_of}
 use Rattle.osi_blameless.proofs.sessions.what_is_in_flight_to_an_end.{parts_taken}
 use Rattle.osi_blameless.proofs.sessions.what_stands_of_a_connection.{Known, waiting_for}
-use Rattle.osi_blameless.proofs.sessions.what_stands_of_a_connection as standing
 use Rattle.osi_blameless.proofs.sessions.what_the_stage_of_a_calling_end_says.{IsDt0, all_data}
 
 -- ---- connections without a reference of the end

@@ -32,13 +32,13 @@ use Rattle.osi_blameless.proofs.sessions.a_cc_of_class_0_opens_one_connection.{h
 use Rattle.osi_blameless.proofs.sessions.a_turn_after_which_a_cc_of_class_0_waits.{no_cc_taken, turns_answering}
 use Rattle.osi_blameless.proofs.sessions.a_turn_does_what_its_deeds_say.{turn_leaves, units_join}
 use Rattle.osi_blameless.proofs.sessions.a_turn_of_a_called_end_in_class_0.{none_zero, turns_zero}
-use Rattle.osi_blameless.proofs.sessions.after_too_many_nobody_is_to_blame.{NoneIsToBlame}
+use Rattle.osi_blameless.proofs.sessions.nobody_of_a_side_is_to_blame.{NoneIsToBlame}
 use Rattle.osi_blameless.proofs.sessions.connections_have_the_same_places.{Agree, unit_knows}
 use Rattle.osi_blameless.proofs.sessions.each_cc_that_passes_gives_a_new_reference.{turns_ahead}
 use Rattle.osi_blameless.proofs.sessions.each_step_leaves_class_0_one_connection.{Sure, fresh_sure, sure_claim}
 use Rattle.osi_blameless.proofs.sessions.no_connection_is_opened_before_a_class_is_selected.{UncalledUntil, uncalled_claim}
 use Rattle.osi_blameless.proofs.sessions.no_session_of_a_called_end_breaks_first.{called_first}
-use Rattle.osi_blameless.proofs.sessions.no_session_of_an_end_breaks_first.{ArePassed, HaveCourses, early}
+use Rattle.osi_blameless.proofs.sessions.what_is_asked_of_what_holds_at_each_step.{ArePassed, HaveCourses, early}
 use Rattle.osi_blameless.proofs.sessions.only_a_cc_selects_a_class.{selects_none}
 use Rattle.osi_blameless.proofs.sessions.steps_leave_all_standing.{IsProper}
 use Rattle.osi_blameless.proofs.sessions.what_passes_leaves_all_standing.{firm_goes, firm_links, mild_stays}

@@ -18,7 +18,7 @@ use Rattle.osi_blameless.proofs.sessions.a_cc_comes_before_what_is_put_for_it.{n
 use Rattle.osi_blameless.proofs.sessions.a_right_dt_has_one_place.{AreUsedApart, named_apart}
 use Rattle.osi_blameless.proofs.sessions.a_unit_after_a_dr_leaves_all_standing.{after_keeps}
 use Rattle.osi_blameless.proofs.sessions.a_unit_is_joined_where_it_is_named.{joined_any}
-use Rattle.osi_blameless.proofs.sessions.after_too_many_nobody_is_to_blame.{NoneIsToBlame}
+use Rattle.osi_blameless.proofs.sessions.nobody_of_a_side_is_to_blame.{NoneIsToBlame}
 use Rattle.osi_blameless.proofs.sessions.all_connections_stand.{AllStand, Loses, all_room}
 use Rattle.osi_blameless.proofs.sessions.connections_have_the_same_places.{at_same, unit_joins, unit_knows}
 use Rattle.osi_blameless.proofs.sessions.nothing_is_done_before_a_cr_passes.{known_from}

@@ -1,6 +1,6 @@
 -- Until class 2 is selected all connections of a calling end stand at a judge as units of the other side pass: answers to its CRs, and in
 -- class 0 DTs for its one connection. For the session of the connection of an end in class 0.
-use Rattle.osi_blameless.proofs.Vocabulary.{◌≡◌, ◌∙◌, refl, sym, ap, subst, ℕ, ◌<◌, ◌≤◌, Bool, true, false, if◌then◌else◌, List, [], ◌∷◌}
+use Rattle.osi_blameless.proofs.Vocabulary.{◌≡◌, ◌∙◌, refl, sym, ap, subst, ℕ, ◌<◌, ◌≤◌, Bool, true, false, List, [], ◌∷◌}
 use Rattle.osi_blameless.proofs.Vocabulary.{◌++◌, map, Option, Some, None, is_some, arith, append_assoc, ◌&&◌, ◌||◌, nat_le, AllByRecursion}
 use Rattle.osi_blameless.proofs.Vocabulary.{le-leb, lt-ltb, append-nil, Connect, HasFieldsInRange, Value, acknowledge, confirm, data0}
 use Rattle.osi_blameless.proofs.Vocabulary.{data2, disconnect, disconnected, error, request, written, unit_parts, Part, Class, Two, Zero}

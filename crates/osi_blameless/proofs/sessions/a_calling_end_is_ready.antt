@@ -1,7 +1,7 @@
 -- A calling end of class 2 is ready for each CR that passes: nothing is done at its connection, nothing in flight is for it, and its
 -- reference is new. Each step keeps it so, as long as both sides are judged.
 -- For all connections of an end and a judge.
-use Rattle.osi_blameless.proofs.Vocabulary.{◌≡◌, ◌∙◌, refl, sym, ap, subst, ℕ, ◌<◌, ◌≤◌, true, if◌then◌else◌, List, [], ◌∷◌, ◌++◌, arith}
+use Rattle.osi_blameless.proofs.Vocabulary.{◌≡◌, ◌∙◌, refl, sym, ap, subst, ℕ, ◌<◌, ◌≤◌, true, List, [], ◌∷◌, ◌++◌, arith}
 use Rattle.osi_blameless.proofs.Vocabulary.{AllByRecursion, append-nil, units_of, Value, acknowledge, confirm, data0, data2, disconnect}
 use Rattle.osi_blameless.proofs.Vocabulary.{disconnected, error, request, Local, Left, State, Holding, Event, HappenAlong, Whole}
 use Rattle.osi_blameless.proofs.Vocabulary.{first_joined, next_joined, Followed, IsOngoing, Continues, Deeds, no_deeds, then_did, units_in}

@@ -9,7 +9,6 @@ use Rattle.osi_blameless.proofs.Vocabulary.{unnamed_by, uses_source, IsOwned, as
 use Rattle.osi_blameless.proofs.Vocabulary.{HaveSamePlaces, named_by}
 use Rattle.osi_rules.specs.declared.directions.Direction.TheVariants as way
 use Rattle.osi_rules.specs.declared.findings.Rule.TheVariants as rule
-use Rattle.osi_rules.specs.declared.halves.Phase.TheVariants as phase
 use Rattle.osi_fair.proofs.each_connection_has_its_line.{of}
 use Rattle.osi_blameless.proofs.sessions.a_right_dt_has_one_place.{AreUsedApart, still_used}
 use Rattle.osi_blameless.proofs.sessions.connections_have_the_same_places.{at_same}

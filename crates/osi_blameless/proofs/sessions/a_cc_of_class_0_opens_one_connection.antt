@@ -9,10 +9,8 @@ use Rattle.osi_blameless.proofs.Vocabulary.{connection_after, found_on, is_stopp
 use Rattle.osi_blameless.proofs.Vocabulary.{AreJudged, Waits, after_change, calm_judge, set_there, Joined, Sessions, reference_of, taken}
 use Rattle.osi_blameless.proofs.Vocabulary.{Course, HaveSamePlaces}
 use Rattle.osi_side.specs.declared.directions.Direction.TheVariants as side
-use Rattle.osi_rules.specs.declared.directions.Direction.TheVariants.{Left, Right}
-use Rattle.osi_rules.specs.declared.findings.Reach.TheVariants as reach
+use Rattle.osi_rules.specs.declared.directions.Direction.TheVariants.{Right}
 use Rattle.osi_rules.specs.declared.findings.Rule.TheVariants as rule
-use Rattle.osi_rules.specs.declared.halves.Phase.TheVariants as phase
 use Rattle.osi_fair.proofs.class_0_stays_selected.{reached_class}
 use Rattle.osi_judge.specs.Connections as joined
 use Rattle.osi_blameless.proofs.what_a_taker_passes_over.{IsMild}

@@ -5,8 +5,6 @@ use Rattle.osi_blameless.proofs.Vocabulary.{data0, Zero, is_closed, is_closing, 
 use Rattle.osi_blameless.proofs.Vocabulary.{at_place, class_for, is_stopped, one_told, route_zero, routed, Traffic as State, takes}
 use Rattle.osi_blameless.proofs.Vocabulary.{Connection, Way, Phase, other, Direction, Joined, reference_of, way_of, only_first, AreJudged}
 use Rattle.osi_blameless.proofs.Vocabulary.{NamesApart as AreApart, Sound, IsOneOf, named_by, has_broken, arith, is_false}
-use Rattle.osi_rules.specs.declared.directions.Direction.TheVariants as way
-use Rattle.osi_rules.specs.declared.halves.Phase.TheVariants as phase
 use Rattle.osi_rules.specs.Sides as sides
 
 -- The connection at this place is open for both sides. All others are refused, and left knows that as soon as it knows the class.

@@ -2,15 +2,13 @@
 -- side that is none or is passed over. For the session of the connection of an end in class 0.
 use Rattle.osi_blameless.proofs.Vocabulary.{◌≡◌, ◌∙◌, arith, Option, refl, sym, ap, ℕ, Bool, true, false, List, [], ◌∷◌, ◌++◌, Some, None}
 use Rattle.osi_blameless.proofs.Vocabulary.{is_some, slice_get, Value, acknowledge, confirm, data0, data2, disconnect, disconnected, error}
-use Rattle.osi_blameless.proofs.Vocabulary.{request, Part, Class, Zero, other, Direction, Connection, Finding, Kept, Reach, Half}
-use Rattle.osi_blameless.proofs.Vocabulary.{is_applied, reach_of, is_open, own, State, class_for, connection_after, is_stopped, meaning_if}
-use Rattle.osi_blameless.proofs.Vocabulary.{meant, takes, Deeds, Joined, Sessions, reference_of, Course, unit_passes, way_of, IsOneOf}
-use Rattle.osi_rules.specs.declared.directions.Direction.TheVariants as way
+use Rattle.osi_blameless.proofs.Vocabulary.{request, Part, Class, Zero, other, Direction, Connection, Finding, Kept, Reach, Half, is_applied}
+use Rattle.osi_blameless.proofs.Vocabulary.{reach_of, is_open, own, State, class_for, connection_after, is_stopped, meaning_if, meant, takes}
+use Rattle.osi_blameless.proofs.Vocabulary.{Deeds, Joined, Sessions, reference_of, Course, unit_passes, way_of, IsOneOf}
 use Rattle.osi_rules.specs.declared.findings.Reach.TheVariants as reach
-use Rattle.osi_rules.specs.Sides as sides
 use Rattle.osi_judge.specs.Connections as joined
 use Rattle.osi_blameless.proofs.a_break_ends_no_judging_or_all.{takes_reach}
-use Rattle.osi_blameless.proofs.the_first_break_is_not_of_an_end.{IsNoBreak}
+use Rattle.osi_blameless.proofs.no_unit_of_a_whole_end_is_a_break.{IsNoBreak}
 use Rattle.osi_blameless.proofs.what_a_taker_passes_over.{IsMild, applied_of, mild_of}
 use Rattle.osi_blameless.proofs.sessions.a_dt_of_class_0_has_one_place.{IsOnly, both_named, dt_takes, other_none}
 use Rattle.osi_blameless.proofs.sessions.a_dt_that_is_no_break_is_right.{dt_clear}

@@ -6,7 +6,6 @@ use Rattle.osi_blameless.proofs.Vocabulary.{Zero, Local, other, Direction, Left,
 use Rattle.osi_blameless.proofs.Vocabulary.{first_failed, begins, own, State, class_for, connection_after, is_stopped, takes, unlike}
 use Rattle.osi_blameless.proofs.Vocabulary.{IsFirm, after_change, Course, unit_passes, way_of, Joint, Steps, passes_own, calls_from}
 use Rattle.osi_rules.specs.declared.findings.Rule.TheVariants as rule
-use Rattle.osi_rules.specs.Sides as sides
 use Rattle.osi_rules.specs.Traffic as traffic
 use Rattle.osi_fair.specs.Wholes as wholes
 use Rattle.osi_blameless.proofs.small_facts_that_many_lemmas_use.{same_item, same_one, zero_two}

@@ -9,10 +9,6 @@ use Rattle.osi_blameless.proofs.Vocabulary.{passes_apart, AreNamedApart, OnlyOne
 use Rattle.osi_blameless.proofs.Vocabulary.{reference_of, user_of, Course, marked, moved, packet_begins, unit_passes, unread_mark}
 use Rattle.osi_blameless.proofs.Vocabulary.{unread_moment, way_of, comes_to, HaveSamePlaces, IsJoinedAt, IsOneOf}
 use Rattle.osi_rules.specs.declared.directions.Direction.{Direction as Way}
-use Rattle.osi_rules.specs.declared.directions.Direction.TheVariants as way
-use Rattle.osi_rules.specs.declared.findings.Rule.TheVariants as rule
-use Rattle.osi_rules.specs.declared.halves.Phase.TheVariants as phase
-use Rattle.osi_rules.specs.Sides as sides
 use Rattle.osi_rules.specs.Traffic as traffic
 use Rattle.osi_fair.proofs.all_are_judged_unless_one_broke.{IsJudged}
 use Rattle.osi_fair.proofs.what_keeps_names_apart.{AreApart}

@@ -20,7 +20,7 @@ use Rattle.osi_blameless.proofs.sessions.a_dt_of_class_0_has_one_place.{IsOnly, 
 use Rattle.osi_blameless.proofs.sessions.a_turn_does_what_its_deeds_say.{turn_leaves, turn_uses}
 use Rattle.osi_blameless.proofs.sessions.a_turn_leaves_all_standing.{Turns}
 use Rattle.osi_blameless.proofs.sessions.a_turn_of_a_calling_end_until_class_2.{dt_so, each_of, early_lasts}
-use Rattle.osi_blameless.proofs.sessions.after_too_many_nobody_is_to_blame.{NoneIsToBlame}
+use Rattle.osi_blameless.proofs.sessions.nobody_of_a_side_is_to_blame.{NoneIsToBlame}
 use Rattle.osi_blameless.proofs.sessions.all_connections_stand.{one_at}
 use Rattle.osi_blameless.proofs.sessions.class_0_keeps_its_one_place.{HasOne}
 use Rattle.osi_blameless.proofs.sessions.each_step_leaves_class_0_one_connection.{Sure, is_zero}

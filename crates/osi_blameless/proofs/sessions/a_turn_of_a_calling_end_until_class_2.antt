@@ -24,7 +24,7 @@ use Rattle.osi_blameless.proofs.sessions.all_connections_stand.{one_at}
 use Rattle.osi_blameless.proofs.sessions.class_0_keeps_its_one_place.{HasOne, still_gone}
 use Rattle.osi_blameless.proofs.sessions.each_cr_that_passes_gives_a_new_reference.{AreUpTo, GoesOn, IsWithin, turns_ahead}
 use Rattle.osi_blameless.proofs.sessions.each_step_leaves_class_0_one_connection.{Sure, is_zero}
-use Rattle.osi_blameless.proofs.sessions.each_unit_of_a_calling_end_has_a_home.{IsWrittenAs, not_two, written_as}
+use Rattle.osi_blameless.proofs.sessions.each_unit_of_a_calling_end_has_a_home.{IsWrittenAs, written_as}
 use Rattle.osi_blameless.proofs.sessions.nothing_is_done_before_a_cr_passes.{IsNotCc, same_units, turn_undone}
 use Rattle.osi_blameless.proofs.sessions.references_of_an_end_are_distinct.{AreDistinct}
 use Rattle.osi_blameless.proofs.sessions.steps_leave_all_standing.{step_turns}

@@ -6,8 +6,6 @@ use Rattle.osi_blameless.proofs.Vocabulary.{Two, Zero, is_named, is_refused, rou
 use Rattle.osi_blameless.proofs.Vocabulary.{Finding, Route, Named, Unnamed, other, Direction, Joined, reference_of, way_of, first_true}
 use Rattle.osi_blameless.proofs.Vocabulary.{HaveSamePlaces, IsOneOf, arith, Course, number_is}
 use Rattle.osi_rules.specs.declared.directions.Direction.TheVariants as way
-use Rattle.osi_rules.specs.declared.halves.Phase.TheVariants as phase
-use Rattle.osi_rules.specs.Sides as sides
 use Rattle.osi_blameless.proofs.small_facts_that_many_lemmas_use.{or_first}
 use Rattle.osi_blameless.proofs.sessions.connections_have_the_same_places.{at_same}
 

@@ -6,13 +6,13 @@ use Rattle.osi_blameless.proofs.Vocabulary.{begins_own, passes_other, passes_own
 use Rattle.osi_fair.specs.Wholes as wholes
 use Rattle.osi_blameless.proofs.small_facts_that_many_lemmas_use.{can_more}
 use Rattle.osi_blameless.proofs.steps_are_events.{IsFollowed, step_followed}
-use Rattle.osi_blameless.proofs.what_a_unit_leaves_at_a_judge.{IsJudged}
+use Rattle.osi_blameless.proofs.all_is_judged_or_nothing.{IsJudged}
 use Rattle.osi_blameless.proofs.what_passes_keeps_a_claim.{step_kept}
 use Rattle.osi_blameless.proofs.what_the_turns_among_steps_do.{TurnDoes}
 use Rattle.osi_blameless.proofs.sessions.a_judge_counts_what_it_has_joined_of_a_tsdu.{Counted, counted_claim}
 use Rattle.osi_blameless.proofs.sessions.each_step_leaves_class_0_one_connection.{Sure, sure_claim}
 use Rattle.osi_blameless.proofs.sessions.no_more_tsdus_than_moments_have_passed.{AreFew, few_claim}
-use Rattle.osi_blameless.proofs.sessions.no_session_of_an_end_breaks_first.{ArePassed, HaveCourses, KeepsUnless, firm_so}
+use Rattle.osi_blameless.proofs.sessions.what_is_asked_of_what_holds_at_each_step.{ArePassed, HaveCourses, KeepsUnless, firm_so}
 use Rattle.osi_blameless.proofs.sessions.steps_of_either_class_leave_all_standing.{IsRight}
 
 module _ (proper : AllProper) (barred : Class) (d : Direction) (local : Local) (Inv : (ℕ → Deeds) → Joint → Type 0)

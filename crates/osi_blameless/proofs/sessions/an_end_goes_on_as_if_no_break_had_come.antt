@@ -1,14 +1,14 @@
--- After a break of the other side in class 0 an end and a judge go on as if the break had not come: the end takes what came before it, and
--- is over with the break; and the judge joins nothing more of the other side. For the law that no session of an end is to blame after such
--- a break.
-use Rattle.osi_blameless.proofs.Vocabulary.{◌≡◌, ◌∙◌, ◌⊎◌, inl, inr, refl, sym, ap, subst, ℕ, ◌+◌, ◌^◌, ◌<◌, Bool, true, false, List, []}
-use Rattle.osi_blameless.proofs.Vocabulary.{◌∷◌, ◌++◌, map, length, Option, Ok, Some, None, IsSome, arith, append_assoc, AllByRecursion}
-use Rattle.osi_blameless.proofs.Vocabulary.{lt-ltb, append-nil, empty_partial, ArePackets, units_of, Value, data0, written, Standing, Class}
-use Rattle.osi_blameless.proofs.Vocabulary.{Zero, Local, packets, EndReason, other, Direction, Kept, is_stopped, takes, stops_last}
-use Rattle.osi_blameless.proofs.Vocabulary.{lasting_of, TakesPackets, End, Holding, Deeds, all_units, Takes, Turn, over_acts, IsHardPacket}
-use Rattle.osi_blameless.proofs.Vocabulary.{IsLast, IsZeroAt, hard_ends, leads_to, Stopped, TakesFirst, none_held, prefix_or, stopped_there}
-use Rattle.osi_blameless.proofs.Vocabulary.{TurnOf, turn_continues, Known, packet_begins, unit_passes, units_pass, way_of, Joint, Steps}
-use Rattle.osi_blameless.proofs.Vocabulary.{TakesTurn, begins_other, begins_own, passes_own, turns, calls_from}
+-- After a break of the other side in class 0 an end and a judge go on as if the break had not come: the end takes what came before it, and is
+-- over with the break; and the judge joins nothing more of the other side.
+-- For the law that no session of an end is to blame after such a break.
+use Rattle.osi_blameless.proofs.Vocabulary.{◌≡◌, ◌∙◌, ◌⊎◌, inl, inr, refl, sym, ap, subst, ℕ, ◌^◌, ◌<◌, Bool, true, false, List, [], ◌∷◌}
+use Rattle.osi_blameless.proofs.Vocabulary.{◌++◌, map, length, Option, Ok, Some, None, IsSome, arith, append_assoc, AllByRecursion, lt-ltb}
+use Rattle.osi_blameless.proofs.Vocabulary.{append-nil, empty_partial, ArePackets, units_of, Value, data0, written, Standing, Class, Zero}
+use Rattle.osi_blameless.proofs.Vocabulary.{Local, packets, EndReason, other, Direction, Kept, is_stopped, takes, stops_last, lasting_of}
+use Rattle.osi_blameless.proofs.Vocabulary.{TakesPackets, End, Holding, Deeds, all_units, Takes, Turn, over_acts, IsHardPacket, IsLast}
+use Rattle.osi_blameless.proofs.Vocabulary.{IsZeroAt, hard_ends, leads_to, Stopped, TakesFirst, none_held, prefix_or, stopped_there, TurnOf}
+use Rattle.osi_blameless.proofs.Vocabulary.{turn_continues, Known, packet_begins, unit_passes, units_pass, way_of, Joint, Steps, TakesTurn}
+use Rattle.osi_blameless.proofs.Vocabulary.{begins_other, begins_own, passes_own, turns, calls_from}
 use Rattle.osi_fair.specs.Pieces.{units_in}
 use Rattle.osi_fair.specs.Wholes as wholes
 use Rattle.osi_stack.specs.Feeding.{stops}
@@ -17,20 +17,19 @@ use Rattle.osi_blameless.proofs.a_break_ends_no_judging_or_all.{far_of, nothing_
 use Rattle.osi_blameless.proofs.an_end_that_is_judged_alone_stays_so.{own_alone}
 use Rattle.osi_blameless.proofs.in_class_0_one_side_alone_is_judged.{IsAlone, alone_begins, alone_own}
 use Rattle.osi_blameless.proofs.steps_are_events.{IsFollowed, step_followed}
-use Rattle.osi_blameless.proofs.the_first_break_is_not_of_an_end.{IsFairAlone, IsFairFrom}
-use Rattle.osi_blameless.proofs.what_a_unit_leaves_at_a_judge.{IsJudged}
+use Rattle.osi_blameless.proofs.no_unit_of_a_whole_end_is_a_break.{IsFairAlone, IsFair}
+use Rattle.osi_blameless.proofs.all_is_judged_or_nothing.{IsJudged}
 use Rattle.osi_blameless.proofs.what_is_judged_beside_a_halted_side.{IsBeside, beside_own}
 use Rattle.osi_blameless.proofs.what_is_put_is_what_is_written.{none_written, same_written, starts_with, written_join}
 use Rattle.osi_blameless.proofs.what_passes_keeps_a_claim.{step_kept}
 use Rattle.osi_blameless.proofs.sessions.a_dt_that_is_too_long_stays_so.{IsTooLong, begins_too_long, only_of, own_is_dt, passes_too_long}
-use Rattle.osi_blameless.proofs.sessions.after_too_many_nobody_is_to_blame.{NoneIsToBlame}
-use Rattle.osi_blameless.proofs.sessions.an_end_beside_a_judge_that_judges_all.{Goes, other_begins_goes, own_begins_goes, own_goes}
-use Rattle.osi_blameless.proofs.sessions.an_end_beside_a_judge_that_judges_all.{turn_goes}
+use Rattle.osi_blameless.proofs.sessions.nobody_of_a_side_is_to_blame.{NoneIsToBlame}
+use Rattle.osi_blameless.proofs.sessions.an_end_beside_a_judge_that_judges_all.{Goes, other_begins_goes, own_begins_goes, own_goes, turn_goes}
 use Rattle.osi_blameless.proofs.sessions.an_end_of_class_0_has_begun_what_a_judge_has_joined.{HasBegun}
 use Rattle.osi_blameless.proofs.sessions.an_end_of_class_0_has_its_connection_open.{IsOpenIn, MayBeFollowed, end_opens}
 use Rattle.osi_blameless.proofs.sessions.connections_have_the_same_places.{at_same, unit_joins, unit_knows}
 use Rattle.osi_blameless.proofs.sessions.no_more_tsdus_than_moments_have_passed.{AreFew, few_claim}
-use Rattle.osi_blameless.proofs.sessions.no_session_of_an_end_breaks_first.{KeepsUnless, firm_so, own_right}
+use Rattle.osi_blameless.proofs.sessions.what_is_asked_of_what_holds_at_each_step.{KeepsUnless, firm_so, own_right}
 use Rattle.osi_blameless.proofs.sessions.steps_of_either_class_leave_all_standing.{IsRight}
 
 -- with this packet the TSDU of the other side is too long
@@ -46,7 +45,7 @@ abbrev pub IsHardFor : Direction → Passed → List ℕ → Type 0
 IsHardFor d c packet = ((begun : List ℕ) → IsHardPacket begun packet) ⊎ LongPacket d c packet
 
 module _ (known : Known) (barred : Class) (d : Direction) (local : Local)
-    (fair : IsFairFrom (way_of d) (wholes.begin (calls_from d) local))
+    (fair : IsFair (way_of d) (wholes.begin (calls_from d) local))
     (fair_alone : IsFairAlone (way_of d) (wholes.begin (calls_from d) local)) (Inv : (ℕ → Deeds) → Joint → Type 0)
     (k : KeepsUnless barred d local Inv) (has_begun : HasBegun barred d Inv) where
   abbrev pub Judged : (ℕ → Deeds) → Joint → Type 0

@@ -1,6 +1,6 @@
 -- An end of class 0 to which no DT is in flight has begun of a TSDU what a judge has joined of it: a calling end and a called one.
 -- For a TSDU of the other side that becomes too long.
-use Rattle.osi_blameless.proofs.Vocabulary.{arith, ◌≡◌, ◌∙◌, ◌⊎◌, inl, inr, refl, ap, subst, ℕ, ◌<◌, true, List, [], Some, eq-eqb, eqb-true}
+use Rattle.osi_blameless.proofs.Vocabulary.{arith, ◌≡◌, ◌∙◌, ◌⊎◌, inl, inr, refl, ap, subst, ℕ, ◌<◌, List, [], Some, eq-eqb, eqb-true}
 use Rattle.osi_blameless.proofs.Vocabulary.{slice_get, AllByRecursion, Standing, Part, Class, Two, Zero, Local, RiseFrom, linked, other}
 use Rattle.osi_blameless.proofs.Vocabulary.{Direction, Left, Right, has_given, unlike, IsFirm, Deeds, AllProper, IsZeroAt, IsSane, amid}
 use Rattle.osi_blameless.proofs.Vocabulary.{stage_at, stage_is, Joined, spoken, begun_octets, Joint}
@@ -17,7 +17,7 @@ use Rattle.osi_blameless.proofs.sessions.a_calling_end_stands_until_class_2.{Sta
 use Rattle.osi_blameless.proofs.sessions.a_dt_of_class_0_has_one_place.{IsOnly}
 use Rattle.osi_blameless.proofs.sessions.an_end_of_class_0_has_its_connection_open.{MayBeFollowed}
 use Rattle.osi_blameless.proofs.sessions.class_0_keeps_its_one_place.{HasOne}
-use Rattle.osi_blameless.proofs.sessions.no_session_of_an_end_breaks_first.{HaveCourses}
+use Rattle.osi_blameless.proofs.sessions.what_is_asked_of_what_holds_at_each_step.{HaveCourses}
 use Rattle.osi_blameless.proofs.sessions.nothing_is_done_before_a_cr_passes.{is_under_way, may_take, same_units}
 use Rattle.osi_blameless.proofs.sessions.what_a_link_has_begun_is_left_over.{joined_is_begun, none_in_flight}
 use Rattle.osi_blameless.proofs.sessions.what_is_in_flight_to_an_end.{known_of}

@@ -1,10 +1,10 @@
 -- Once class 0 is selected and an end has taken the CC, it has its one connection open in class 0, or is over.
 -- For the sessions of an end after a break of the other side in class 0.
 use Rattle.osi_rules.specs.declared.disconnects.Disconnects.{Disconnects}
-use Rattle.osi_blameless.proofs.Vocabulary.{ap, Bool, is_some, List, None, Some, subst, sym, true, ℕ, ◌++◌, ◌∙◌, ◌∷◌, ◌≡◌, AllByRecursion}
+use Rattle.osi_blameless.proofs.Vocabulary.{ap, is_some, List, None, Some, subst, sym, true, ℕ, ◌++◌, ◌∙◌, ◌∷◌, ◌≡◌, AllByRecursion}
 use Rattle.osi_blameless.proofs.Vocabulary.{confirm, Connect, Value, Standing, Zero, Local, Carrier, Traffic as State, Connection, Left}
 use Rattle.osi_blameless.proofs.Vocabulary.{Right, Direction, answered, known, quiet, refused, IsInZero, calm_judge, Whole, Joint, IsFirm}
-use Rattle.osi_blameless.proofs.Vocabulary.{arith, may_be_followed, ended, waits, over, IsZeroAt, calls_from}
+use Rattle.osi_blameless.proofs.Vocabulary.{arith, may_be_followed, ended, waits, IsZeroAt, calls_from}
 use Rattle.osi_fair.specs.Pieces.{units_in}
 use Rattle.osi_fair.specs.Wholes as wholes
 use Rattle.osi_fair.proofs.a_called_end_is_fair.{Stage as CalledStage}

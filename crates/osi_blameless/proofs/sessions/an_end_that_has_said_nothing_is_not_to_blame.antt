@@ -1,21 +1,20 @@
 -- No session of an end is to blame that has sent no DT; and what passes keeps that so, unless it is a DT of the end.
 -- For the law that no session of an end is blamed first, if the end doesn't offer class 2 and class 0 is not selected.
-use Rattle.osi_blameless.proofs.Vocabulary.{[], Bool, false, inl, inr, List, Some, subst, sym, ℕ, ◌∙◌, ◌∷◌, ◌≡◌, ◌⊎◌, slice_get, Value}
-use Rattle.osi_blameless.proofs.Vocabulary.{Local, meaning_if, meant, Traffic as State, takes, other, Direction, AllProper, Deeds}
-use Rattle.osi_blameless.proofs.Vocabulary.{all_begin, asked, Joined, Sessions, spoken, taken, unit_passes, units_pass, way_of, told, Room}
-use Rattle.osi_blameless.proofs.Vocabulary.{after_add, after_set, IsOngoing, begins_other, begins_own, Joint, passes_other, passes_own}
-use Rattle.osi_blameless.proofs.Vocabulary.{Step, Steps, calls_from, arith, Course}
-use Rattle.osi_rules.specs.declared.findings.Meaning.TheVariants as meaning
+use Rattle.osi_blameless.proofs.Vocabulary.{[], Bool, false, inl, inr, List, Some, subst, sym, ℕ, ◌∙◌, ◌∷◌, ◌≡◌, ◌⊎◌, slice_get, Value, Local}
+use Rattle.osi_blameless.proofs.Vocabulary.{meaning_if, meant, Traffic as State, takes, other, Direction, AllProper, Deeds, all_begin, asked}
+use Rattle.osi_blameless.proofs.Vocabulary.{Joined, Sessions, spoken, taken, unit_passes, units_pass, way_of, Room, after_add}
+use Rattle.osi_blameless.proofs.Vocabulary.{after_set, IsOngoing, begins_other, begins_own, Joint, passes_other, passes_own, Step, Steps}
+use Rattle.osi_blameless.proofs.Vocabulary.{calls_from, arith, Course}
 use Rattle.osi_fair.specs.Wholes as wholes
 use Rattle.osi_judge.specs.Connections.{packet_begins}
 use Rattle.osi_judge.specs.Connections as joined
 use Rattle.osi_blameless.proofs.steps_are_events.{IsFollowed, begin_followed, step_followed}
-use Rattle.osi_blameless.proofs.sessions.after_too_many_nobody_is_to_blame.{NoneIsToBlame}
+use Rattle.osi_blameless.proofs.sessions.nobody_of_a_side_is_to_blame.{NoneIsToBlame}
 use Rattle.osi_blameless.proofs.sessions.all_connections_stand.{map_of}
 use Rattle.osi_blameless.proofs.sessions.connections_have_the_same_places.{Agree, packet_agrees, unit_agrees, unit_joins, units_agree}
 use Rattle.osi_blameless.proofs.sessions.what_a_unit_does_at_its_place.{Does, asks_again, asks_more, nowhere, somewhere, unit_does}
 use Rattle.osi_blameless.proofs.sessions.what_stands_of_a_connection.{is_part}
-use Rattle.osi_blameless.proofs.sessions.what_stands_after_a_loss_stands_before_one.{KeepsThroughout}
+use Rattle.osi_blameless.proofs.sessions.what_is_asked_after_a_loss.{KeepsThroughout}
 
 -- ---- sides that have said nothing
 

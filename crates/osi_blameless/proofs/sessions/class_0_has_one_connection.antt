@@ -1,22 +1,19 @@
 -- Until class 2 is selected, one connection at most is not over for left; so in class 0 one was opened, and each other one was refused.
 -- For the session of the connection of an end in class 0.
-use Rattle.osi_blameless.proofs.Vocabulary.{[], ap, Bool, false, if◌then◌else◌, inl, inr, is_some, List, None, not, Option, refl, set, Some}
+use Rattle.osi_blameless.proofs.Vocabulary.{[], ap, Bool, false, inl, inr, is_some, List, None, not, Option, refl, set, Some}
 use Rattle.osi_blameless.proofs.Vocabulary.{suc, sym, true, zero, ℕ, ◌&&◌, ◌==◌, ◌∙◌, ◌∷◌, ◌≡◌, ◌⊎◌, eqb-true, slice_get-map, list_all}
 use Rattle.osi_blameless.proofs.Vocabulary.{position, slice_get, ◌||◌, confirm, Connect, data0, disconnect, disconnected, error, request}
 use Rattle.osi_blameless.proofs.Vocabulary.{Value, Class, Two, Zero, is_applied, first_failed, begins, is_closed, is_closing, is_live}
-use Rattle.osi_blameless.proofs.Vocabulary.{is_named, is_open, is_over, is_over_by, is_refused, is_silent, seen, asked_by, asks_by}
-use Rattle.osi_blameless.proofs.Vocabulary.{asks_kept, at_found, at_place, connection_after, course_after, found, found_on, judged_on}
-use Rattle.osi_blameless.proofs.Vocabulary.{none_told, request_tests, route_in, routed, sent_on, Traffic as State, takes, unnamed_told}
-use Rattle.osi_blameless.proofs.Vocabulary.{uses_source, Connection, Rules, Way as Direction, Finding, Broke, Kept, NotJudged, Reach, Half}
-use Rattle.osi_blameless.proofs.Vocabulary.{Phase, unlike, applied_found, applied_judged, no_item, not_first, not_true, AreJudged}
-use Rattle.osi_blameless.proofs.Vocabulary.{reached_class, begun_live, each_add, each_map, each_set, first_true, HoldsOfEach, one_added}
-use Rattle.osi_blameless.proofs.Vocabulary.{one_changed, one_mapped, one_put, passes_each, NamesApart as AreApart, Sound, lasts_passing}
-use Rattle.osi_blameless.proofs.Vocabulary.{set_there, HoldsOfOne, packet, passes, Passing, rubbish, unit, noted, arith, begun_left}
-use Rattle.osi_blameless.proofs.Vocabulary.{begun_right, differ}
+use Rattle.osi_blameless.proofs.Vocabulary.{is_named, is_open, is_over, is_over_by, is_refused, is_silent, asked_by, asks_by, asks_kept}
+use Rattle.osi_blameless.proofs.Vocabulary.{at_found, at_place, connection_after, course_after, found, found_on, judged_on, none_told}
+use Rattle.osi_blameless.proofs.Vocabulary.{request_tests, route_in, routed, sent_on, Traffic as State, takes, unnamed_told, uses_source}
+use Rattle.osi_blameless.proofs.Vocabulary.{Connection, Rules, Way as Direction, Finding, Broke, Kept, NotJudged, Reach, Half, Phase, unlike}
+use Rattle.osi_blameless.proofs.Vocabulary.{applied_found, applied_judged, no_item, not_first, not_true, AreJudged, reached_class, begun_live}
+use Rattle.osi_blameless.proofs.Vocabulary.{each_add, each_map, each_set, first_true, HoldsOfEach, one_added, one_changed, one_mapped}
+use Rattle.osi_blameless.proofs.Vocabulary.{one_put, passes_each, NamesApart as AreApart, Sound, lasts_passing, set_there, HoldsOfOne, packet}
+use Rattle.osi_blameless.proofs.Vocabulary.{passes, Passing, rubbish, unit, noted, arith, begun_left, begun_right, differ}
 use Rattle.osi_rules.specs.declared.directions.Direction.TheVariants.{Left, Right}
-use Rattle.osi_rules.specs.declared.findings.Reach.TheVariants as reach
 use Rattle.osi_rules.specs.declared.findings.Rule.TheVariants as rule
-use Rattle.osi_rules.specs.declared.halves.Phase.TheVariants as phase
 use Rattle.osi_rules.specs.Traffic.{reached}
 use Rattle.osi_blameless.proofs.small_facts_that_many_lemmas_use.{same_item}
 use Rattle.osi_blameless.proofs.sessions.a_dt_of_class_0_has_one_place.{IsOnly, open_not_refused}

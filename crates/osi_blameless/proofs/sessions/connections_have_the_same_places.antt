@@ -1,21 +1,18 @@
 -- A unit leaves each connection at one place for the rules of transport and for what is joined of it; and a DT that is right is
 -- joined at the place that the rules tell.
 -- For the law on places.
-use Rattle.osi_blameless.proofs.Vocabulary.{[], ap, arith, Bool, if◌then◌else◌, length, List, map, None, not, Option, refl, set, Some}
-use Rattle.osi_blameless.proofs.Vocabulary.{subst, suc, true, zero, ℕ, ◌++◌, ◌∷◌, ◌≡◌, slice_get_past, slice_get, ◌||◌, Connect, request}
-use Rattle.osi_blameless.proofs.Vocabulary.{Value, is_applied, first_failed, begins, is_silent, asks_by, at_place, closing_phase}
-use Rattle.osi_blameless.proofs.Vocabulary.{connection_after, found, found_on, judged_on, meaning_if, meant, Outcome, sent_on}
-use Rattle.osi_blameless.proofs.Vocabulary.{Traffic as State, takes, Connection, Rules, Finding, Reach, Told, Half, Phase, Capture}
-use Rattle.osi_blameless.proofs.Vocabulary.{Direction, Left, adds, changed, Joined, Sessions, taken, taken_at, user_of, marked, noted_by}
-use Rattle.osi_blameless.proofs.Vocabulary.{unit_passes, units_pass, unread, way_of, comes_to, Cause, Mark, applied_found, first_there}
-use Rattle.osi_blameless.proofs.Vocabulary.{HasAsked, HaveSamePlaces, IsOneOf, named_by, Course, packet_begins, closing_same, differ}
+use Rattle.osi_blameless.proofs.Vocabulary.{[], ap, arith, Bool, length, List, map, None, not, Option, refl, set, Some, subst}
+use Rattle.osi_blameless.proofs.Vocabulary.{suc, true, zero, ℕ, ◌++◌, ◌∷◌, ◌≡◌, slice_get_past, slice_get, ◌||◌, Connect, request, Value}
+use Rattle.osi_blameless.proofs.Vocabulary.{is_applied, first_failed, begins, is_silent, asks_by, at_place, closing_phase, connection_after}
+use Rattle.osi_blameless.proofs.Vocabulary.{found, found_on, judged_on, meaning_if, meant, Outcome, sent_on, Traffic as State, takes}
+use Rattle.osi_blameless.proofs.Vocabulary.{Connection, Rules, Finding, Reach, Told, Half, Phase, Capture, Direction, Left, adds, changed}
+use Rattle.osi_blameless.proofs.Vocabulary.{Joined, Sessions, taken, taken_at, user_of, marked, noted_by, unit_passes, units_pass, unread}
+use Rattle.osi_blameless.proofs.Vocabulary.{way_of, comes_to, Cause, Mark, applied_found, first_there, HasAsked, HaveSamePlaces, IsOneOf}
+use Rattle.osi_blameless.proofs.Vocabulary.{named_by, Course, packet_begins, closing_same, differ}
 use Rattle.osi_rules.specs.declared.directions.Direction.TheVariants as way
 use Rattle.osi_rules.specs.declared.findings.Finding.TheVariants as finding
 use Rattle.osi_rules.specs.declared.findings.Meaning.TheVariants as meaning
-use Rattle.osi_rules.specs.declared.findings.Reach.TheVariants as reach
 use Rattle.osi_rules.specs.declared.findings.Rule.TheVariants as rule
-use Rattle.osi_rules.specs.declared.halves.Phase.TheVariants as phase
-use Rattle.osi_rules.specs.Traffic as traffic
 use Rattle.osi_judge.specs.Connections as joined
 use Rattle.osi_judge.specs.States.{begin}
 use Rattle.osi_blameless.proofs.small_facts_that_many_lemmas_use.{or_first, same_one}

@@ -12,7 +12,6 @@ use Rattle.osi_blameless.proofs.Vocabulary.{AreGiven, AreApart, BeforeOpen, Whil
 use Rattle.osi_blameless.proofs.Vocabulary.{le-leb, lt-ltb}
 use Rattle.osi_carrier.specs.State.{asked}
 use Rattle.osi_fair.specs.Wholes.{begin}
-use Rattle.osi_fair.proofs.each_connection_has_its_line.{over}
 use Rattle.osi_honest.proofs.courses.the_first_cc_opens_a_connection.{awaits, opens_so}
 use Rattle.osi_judge.specs.Courses.{Course as Passed}
 use Rattle.osi_blameless.proofs.small_facts_that_many_lemmas_use.{and_both, over_not}

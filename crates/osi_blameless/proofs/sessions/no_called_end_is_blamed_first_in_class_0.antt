@@ -5,7 +5,7 @@ use Rattle.osi_blameless.proofs.Vocabulary.{Two, Local, AsSent, AsParts, CalledL
 use Rattle.osi_blameless.proofs.sessions.a_called_end_stands_until_class_2.{StandsCalledUntilTwo, begins_called, begins_other_called}
 use Rattle.osi_blameless.proofs.sessions.a_called_end_stands_until_class_2.{begins_own_called, none_amid_called, none_called}
 use Rattle.osi_blameless.proofs.sessions.a_called_end_stands_until_class_2.{passes_other_called, passes_own_called, turns_called}
-use Rattle.osi_blameless.proofs.sessions.no_session_of_an_end_breaks_first.{KeepsUnless}
+use Rattle.osi_blameless.proofs.sessions.what_is_asked_of_what_holds_at_each_step.{KeepsUnless}
 
 pub called_early_keeps : (local : Local) (proper : AllProper) → AsSent → AsParts → CallerLaw → CalledLaw →
     KeepsUnless Two Right local (StandsCalledUntilTwo local proper)

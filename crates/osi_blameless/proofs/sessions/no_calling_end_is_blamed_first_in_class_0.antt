@@ -6,7 +6,7 @@ use Rattle.osi_blameless.proofs.sessions.a_calling_end_hears_what_comes_until_cl
 use Rattle.osi_blameless.proofs.sessions.a_calling_end_stands_until_class_2.{StandsUntilTwo, begin_early, begins_other_early}
 use Rattle.osi_blameless.proofs.sessions.a_calling_end_stands_until_class_2.{begins_own_early, passes_other_early, passes_own_early}
 use Rattle.osi_blameless.proofs.sessions.a_turn_of_a_calling_end_until_class_2.{turns_early}
-use Rattle.osi_blameless.proofs.sessions.no_session_of_an_end_breaks_first.{ArePassed, KeepsUnless, early}
+use Rattle.osi_blameless.proofs.sessions.what_is_asked_of_what_holds_at_each_step.{ArePassed, KeepsUnless, early}
 use Rattle.osi_blameless.proofs.sessions.nobody_of_a_calling_end_is_to_blame_until_class_2.{none_amid_early, none_early}
 
 taken_so : (at : ℕ) (vs : List Value) (c : Course) → ArePassed Two Left at vs c → AreTaken at vs c

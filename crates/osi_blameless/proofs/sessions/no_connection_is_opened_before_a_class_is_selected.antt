@@ -5,7 +5,6 @@ use Rattle.osi_blameless.proofs.Vocabulary.{at_found, Outcome, routed, Traffic a
 use Rattle.osi_blameless.proofs.Vocabulary.{Joined, Sessions, taken, unit_passes, way_of, reached_class, zero_stays, after_add, after_set}
 use Rattle.osi_blameless.proofs.Vocabulary.{lasts_passing, unit, arith, Course}
 use Rattle.osi_rules.specs.declared.findings.Meaning.TheVariants as meaning
-use Rattle.osi_rules.specs.Traffic as traffic
 use Rattle.osi_judge.specs.Connections as joined
 use Rattle.osi_blameless.proofs.what_passes_keeps_a_claim.{IsClaim}
 use Rattle.osi_blameless.proofs.sessions.all_connections_stand.{map_of}

@@ -5,13 +5,12 @@ use Rattle.osi_blameless.proofs.Vocabulary.{length-append, slice_get, Value, tak
 use Rattle.osi_blameless.proofs.Vocabulary.{Sessions, spoken, taken, unit_passes, way_of, added, heard, octets_of, Spoken, Room, after_add}
 use Rattle.osi_blameless.proofs.Vocabulary.{after_set, Course}
 use Rattle.osi_rules.specs.declared.findings.Meaning.TheVariants as meaning
-use Rattle.osi_rules.specs.Traffic as traffic
 use Rattle.osi_judge.specs.Connections.{meant, packet_begins}
 use Rattle.osi_judge.specs.Lines.{Said}
 use Rattle.osi_blameless.proofs.what_passes_keeps_a_claim.{IsClaim}
 use Rattle.osi_blameless.proofs.sessions.all_connections_stand.{map_of}
 use Rattle.osi_blameless.proofs.sessions.connections_have_the_same_places.{marked_leaves, unit_joins}
-use Rattle.osi_blameless.proofs.sessions.the_first_break_of_all_is_of_the_other_side.{moment, unit_past}
+use Rattle.osi_blameless.proofs.sessions.nobody_of_a_side_is_to_blame.{moment, unit_past}
 
 -- ---- of one connection
 

@@ -1,37 +1,37 @@
 -- No session of an end is to blame, whatever the other side breaks, if what stands of it at each step stands also after a connection of
 -- class 2 has lost its judgement, and if class 0 is not selected.
 -- For the law that no session of an end is blamed after a break of the other side.
-use Rattle.osi_blameless.proofs.Vocabulary.{[], ap, append-nil, append_assoc, arith, false, inl, inr, length, List, Option, refl, Some}
-use Rattle.osi_blameless.proofs.Vocabulary.{subst, sym, ℕ, ◌++◌, ◌<◌, ◌^◌, ◌∙◌, ◌∷◌, ◌≡◌, ◌⊎◌, slice_get, Value, Class, Zero, Local}
-use Rattle.osi_blameless.proofs.Vocabulary.{Holding, is_applied, reach_of, class_for, is_stopped, takes, Finding, Reach, Traffic as State}
-use Rattle.osi_blameless.proofs.Vocabulary.{other, Direction, AllProper, Deeds, no_deeds, all_did, fresh_course, IsFresh, Turn, Joined}
-use Rattle.osi_blameless.proofs.Vocabulary.{spoken, unit_passes, units_pass, unread, way_of, heard, Capture, comes_to, Cause, begins_other}
-use Rattle.osi_blameless.proofs.Vocabulary.{begins_own, Joint, passes_other, passes_own, Step, Steps, StepsAlong, TakesTurn, turns}
-use Rattle.osi_blameless.proofs.Vocabulary.{TurnsBad, calls_from, begin, LaterAlong, spoilt, IsOngoing}
+use Rattle.osi_blameless.proofs.Vocabulary.{[], ap, append-nil, append_assoc, arith, false, inl, inr, length, List, Option, refl, Some, subst}
+use Rattle.osi_blameless.proofs.Vocabulary.{sym, ℕ, ◌++◌, ◌<◌, ◌^◌, ◌∙◌, ◌∷◌, ◌≡◌, ◌⊎◌, slice_get, Value, Class, Zero, Local, Holding}
+use Rattle.osi_blameless.proofs.Vocabulary.{is_applied, reach_of, class_for, is_stopped, takes, Finding, Reach, Traffic as State, other}
+use Rattle.osi_blameless.proofs.Vocabulary.{Direction, AllProper, Deeds, no_deeds, all_did, fresh_course, End, IsFresh, Turn, Joined, spoken}
+use Rattle.osi_blameless.proofs.Vocabulary.{unit_passes, units_pass, unread, way_of, heard, Capture, comes_to, Cause, begins_other}
+use Rattle.osi_blameless.proofs.Vocabulary.{begins_own, Joint, passes_other, passes_own, Step, Steps, StepsAlong, TakesTurn, turns, TurnsBad}
+use Rattle.osi_blameless.proofs.Vocabulary.{calls_from, begin, LaterAlong, spoilt, IsOngoing}
 use Rattle.osi_rules.specs.Sides as sides
-use Rattle.osi_rules.specs.Traffic as traffic
 use Rattle.osi_rules.specs.declared.findings.Reach.TheVariants as reach
 use Rattle.osi_fair.specs.Pieces.{units_in}
 use Rattle.osi_fair.specs.Wholes as wholes
+use Rattle.osi_honest.specs.Courses.{Course}
 use Rattle.osi_judge.specs.Courses.{Course as Passed}
 use Rattle.osi_judge.specs.States as states
 use Rattle.osi_blameless.specs.Spoilt.{GoesOn}
 use Rattle.osi_blameless.proofs.a_break_ends_no_judging_or_all.{IsGoing, all_ends, begins_going, mild_reach, nothing_goes, part_goes}
-use Rattle.osi_blameless.proofs.a_break_ends_no_judging_or_all.{reach_so, side_known, unread_sessions}
+use Rattle.osi_blameless.proofs.a_break_ends_no_judging_or_all.{reach_so, side_known}
 use Rattle.osi_blameless.proofs.an_end_that_is_judged_alone_stays_so.{later_kept}
 use Rattle.osi_blameless.proofs.steps_are_events.{IsFollowed, begin_followed, own_first, step_followed}
-use Rattle.osi_blameless.proofs.the_first_break_is_not_of_an_end.{IsFairThroughout, IsNoBreak}
-use Rattle.osi_blameless.proofs.what_a_unit_leaves_at_a_judge.{IsOver}
+use Rattle.osi_blameless.proofs.no_unit_of_a_whole_end_is_a_break.{IsFair, IsNoBreak}
+use Rattle.osi_blameless.proofs.all_is_judged_or_nothing.{IsOver}
 use Rattle.osi_blameless.proofs.what_passes_keeps_a_claim.{after_join, step_kept, units_kept}
 use Rattle.osi_blameless.proofs.what_the_turns_among_steps_do.{ComesByDoing, IsOfJudge, StepsDo, TurnDoes}
-use Rattle.osi_blameless.proofs.sessions.after_too_many_nobody_is_to_blame.{NoneIsToBlame}
+use Rattle.osi_blameless.proofs.sessions.nobody_of_a_side_is_to_blame.{NeverToBlame, NoneIsToBlame, never_begins, never_first, never_unapplied}
+use Rattle.osi_blameless.proofs.sessions.nobody_of_a_side_is_to_blame.{never_unit, never_unread}
 use Rattle.osi_blameless.proofs.sessions.each_step_leaves_class_0_one_connection.{Sure, fresh_sure, sure_claim}
 use Rattle.osi_blameless.proofs.sessions.no_more_tsdus_than_moments_have_passed.{AreFew, few_claim}
-use Rattle.osi_blameless.proofs.sessions.no_session_of_an_end_breaks_first.{HaveCourses, IsWithout, after_without, step_without, units_join}
-use Rattle.osi_blameless.proofs.sessions.no_session_of_an_end_breaks_first.{units_not, unread_without}
+use Rattle.osi_blameless.proofs.sessions.what_is_asked_of_what_holds_at_each_step.{HaveCourses, IsWithout, after_without, step_without, units_join}
+use Rattle.osi_blameless.proofs.sessions.what_is_asked_of_what_holds_at_each_step.{units_not, unread_without}
 use Rattle.osi_blameless.proofs.sessions.no_session_of_an_end_is_to_blame.{IsDone, done_claim}
-use Rattle.osi_blameless.proofs.sessions.what_has_no_effect_joins_nothing.{joins_none}
-use Rattle.osi_blameless.proofs.sessions.what_stands_after_a_loss_stands_before_one.{AreTakenOn, IsTakenOn, KeepsThroughout}
+use Rattle.osi_blameless.proofs.sessions.what_is_asked_after_a_loss.{AreTakenOn, IsTakenOn, KeepsThroughout}
 
 -- ---- small facts
 
@@ -56,11 +56,12 @@ all_applied k f h = grind arith
 -- ---- the steps
 
 module _ (proper : AllProper) (d : Direction) (local : Local)
-    (fair : IsFairThroughout (way_of d) (wholes.begin (calls_from d) local)) (Inv : (ℕ → Deeds) → Joint → Type 0)
+    (fair : IsFair (way_of d) (wholes.begin (calls_from d) local)) (Inv : (ℕ → Deeds) → Joint → Type 0)
     (k : KeepsThroughout d local Inv) where
   -- both sides are judged
   record Goes (deeds : ℕ → Deeds) (j : Joint) : Type 0 where
     going : IsGoing j.course
+    never : NeverToBlame d j.course
     holds : Inv deeds j
     courses : HaveCourses d deeds j
     followed : IsFollowed d (wholes.begin (calls_from d) local) j
@@ -77,7 +78,8 @@ module _ (proper : AllProper) (d : Direction) (local : Local)
   -- ---- a packet of the other side
 
   data Passing (at : ℕ) (vs : List Value) (c : Passed) : Type 0 where
-    all_taken : AreTakenOn d at vs c → IsGoing (units_pass (other d) at vs c) → Passing at vs c
+    all_taken : AreTakenOn d at vs c → IsGoing (units_pass (other d) at vs c) → NeverToBlame d (units_pass (other d) at vs c) →
+        Passing at vs c
     then_done : IsDone d (units_pass (other d) at vs c) → Passing at vs c
 
   module _ (deeds : ℕ → Deeds) (at : ℕ) (octets : List ℕ) (units : List Value) (old new : Joint)
@@ -95,6 +97,7 @@ module _ (proper : AllProper) (d : Direction) (local : Local)
     record AllSoFar (front : List Value) : Type 0 where
       taken : AreTakenOn d at front old.course
       going : IsGoing (After front)
+      never : NeverToBlame d (After front)
 
     module _ (front back : List Value) (v : Value) (is : units ≡ front ++ v ∷ back) (so : AllSoFar front) where
       abbrev c : Passed
@@ -122,11 +125,22 @@ module _ (proper : AllProper) (d : Direction) (local : Local)
         goes_on : AllSoFar (front ++ v ∷ []) → One
         is_done : IsDone d next → One
 
-      nobody : NoneIsToBlame d c.sessions
-      nobody = blameless front (v ∷ back) is so.taken
-
       on : (how_far ≡ reach.Everything → ⊥) → IsGoing next → One
-      on far going = search (arith, taken_then, goes_so, lasting, not_yet, knows_zero, is_sure, nobody, joined)
+      on far going =
+          let taken : AreTakenOn d at (front ++ v ∷ []) old.course = taken_then d at front v old.course so.taken (record {
+            goes = goes_so (other d) c so.going;
+            lasts = lasting c so.going not_yet;
+            two = λ zero. not_yet (knows_zero (other d) c is_sure zero);
+            far = far;
+            loses = λ part. so.never.now;
+          }) in
+          goes_on (record {
+            taken = taken;
+            going = subst IsGoing (sym joined) going;
+            never = subst (NeverToBlame d) (sym joined) (never_unit d (other d) at v c so.never
+                (subst (λ (x : Passed). NoneIsToBlame d x.sessions) joined
+                (blameless (front ++ v ∷ []) back (is ∙ sym (append_assoc front (v ∷ []) back)) taken)));
+          })
 
       one_by : (r : Reach) → how_far ≡ r → One
       one_by reach.Nothing far = search (arith, on, nothing_goes)
@@ -134,9 +148,9 @@ module _ (proper : AllProper) (d : Direction) (local : Local)
       one_by reach.Side far = absurd (not_yet (side_known (other d) at v c far (is_sure.agrees Zero)))
       one_by reach.Everything far = is_done (record {
         over = all_ends (other d) at v c far;
-        none = subst (NoneIsToBlame d) (sym (joins_none (other d) at v c
+        never = never_unapplied d (other d) at v c
             (all_applied (class_for (way_of (other d)) c.traffic.course) (takes (way_of (other d)) v c.traffic).told.finding
-            (sym (reach_so (other d) at v c).far ∙ far)))) nobody;
+            (sym (reach_so (other d) at v c).far ∙ far)) so.never;
       })
 
       all_join : After units ≡ units_pass (other d) at back next
@@ -153,14 +167,15 @@ module _ (proper : AllProper) (d : Direction) (local : Local)
         (λ more. pass_on back (front ++ v ∷ []) (is ∙ sym (append_assoc front (v ∷ []) back)) more)
 
     passed : Passing at units old.course
-    passed = pass_on units [] refl (record { taken = tt; going = g.going })
+    passed = pass_on units [] refl (record { taken = tt; going = g.going; never = g.never })
 
     abbrev same : new.course ≡ After units
     same = ap (λ (j : Joint). j.course) step.2
 
     other_by : Passing at units old.course → Stays deeds new
-    other_by (all_taken taken going) = goes (record {
+    other_by (all_taken taken going never) = goes (record {
       going = subst IsGoing (sym same) going;
+      never = subst (NeverToBlame d) (sym same) never;
       holds = k.other_passes deeds at octets units old new step taken g.holds;
       courses = subst (HaveCourses d deeds) (sym step.2) g.courses;
       followed = step_followed d (wholes.begin (calls_from d) local) proper (passes_other at octets units) old new step g.followed;
@@ -192,17 +207,24 @@ module _ (proper : AllProper) (d : Direction) (local : Local)
       now : new.course ≡ unit_passes d at v old.course
       now = ap (λ (j : Joint). j.course) step.4
 
+      holds_then : (takes (way_of d) v old.course.traffic).told.reach ≡ reach.Nothing → Inv deeds new
+      holds_then far =
+          k.own_passes deeds at v old new step
+          (record {
+            goes = goes_so d old.course g.going;
+            two = λ zero. was_not (knows_zero d old.course g.sure zero);
+            none = none;
+            links = λ n link all. let no : reach.Nothing ≡ reach.Everything = sym far ∙ all in cc;
+          }) (lasting old.course g.going was_not) not g.holds
+
       by : ((takes (way_of d) v old.course.traffic).told.reach ≡ reach.Nothing)
           ⊎ ((takes (way_of d) v old.course.traffic).told.reach ≡ reach.Everything) → Stays deeds new
-      by (inl far) = goes (record {
+      by (inl far) = let holds = holds_then far in goes (record {
         going = subst IsGoing (sym now) (nothing_goes d at v old.course far g.going);
-        holds = k.own_passes deeds at v old new step
-            (record {
-              goes = goes_so d old.course g.going;
-              two = λ zero. was_not (knows_zero d old.course g.sure zero);
-              none = none;
-              links = λ n link all. let no : reach.Nothing ≡ reach.Everything = sym far ∙ all in cc;
-            }) (lasting old.course g.going was_not) not g.holds;
+        never = subst (NeverToBlame d) (sym now) (never_unit d d at v old.course g.never
+            (subst (λ (x : Passed). NoneIsToBlame d x.sessions) now
+            (k.none deeds new (subst (HaveCourses d deeds) (sym step.4) g.courses) holds)));
+        holds = holds;
         courses = subst (HaveCourses d deeds) (sym step.4) g.courses;
         followed = step_followed d (wholes.begin (calls_from d) local) proper (passes_own at v) old new step g.followed;
         few = step_kept (AreFew (other d)) (few_claim (other d)) d (passes_own at v) old new step g.few;
@@ -210,7 +232,9 @@ module _ (proper : AllProper) (d : Direction) (local : Local)
       })
       by (inr far) = ended (subst (IsDone d) (sym now) (record {
         over = all_ends d at v old.course far;
-        none = subst (NoneIsToBlame d) (grind (arith, joins_none, all_applied, reach_so)) (k.none deeds old g.courses g.holds);
+        never = never_unapplied d d at v old.course
+            (all_applied (class_for (way_of d) old.course.traffic.course) (takes (way_of d) v old.course.traffic).told.finding
+            (sym (reach_so d at v old.course).far ∙ far)) g.never;
       }))
 
   -- ---- each step
@@ -221,9 +245,10 @@ module _ (proper : AllProper) (d : Direction) (local : Local)
 
   -- nothing passes
   still_goes : (deeds then_deeds : ℕ → Deeds) (step : Step) (old new : Joint) → Steps d step old new → Goes deeds old →
-      IsGoing new.course → Inv then_deeds new → HaveCourses d then_deeds new → Stays then_deeds new
-  still_goes deeds then_deeds step old new does g going holds courses = goes (record {
+      IsGoing new.course → NeverToBlame d new.course → Inv then_deeds new → HaveCourses d then_deeds new → Stays then_deeds new
+  still_goes deeds then_deeds step old new does g going never holds courses = goes (record {
     going = going;
+    never = never;
     holds = holds;
     courses = courses;
     followed = step_followed d (wholes.begin (calls_from d) local) proper step old new does g.followed;
@@ -236,6 +261,7 @@ module _ (proper : AllProper) (d : Direction) (local : Local)
       Stays (all_did deeds does.of.on.more) new
   turn_so turn old new t deeds does g within =
       still_goes deeds (all_did deeds does.of.on.more) (turns turn) old new t g (subst IsGoing (sym t.course) g.going)
+      (subst (NeverToBlame d) (sym t.course) g.never)
       (k.turn turn old new t deeds does g.followed
       (step_followed d (wholes.begin (calls_from d) local) proper (turns turn) old new t g.followed)
       (lasting old.course g.going within.not) g.holds)
@@ -246,6 +272,7 @@ module _ (proper : AllProper) (d : Direction) (local : Local)
   own_begins_so old new step within deeds g =
       still_goes deeds deeds begins_own old new step g
       (subst (λ (j : Joint). IsGoing j.course) (sym step.2) (begins_going d old.course g.going))
+      (subst (λ (j : Joint). NeverToBlame d j.course) (sym step.2) (never_begins d d old.course g.never))
       (k.own_begins deeds old new step g.courses (few_so deeds old g within) g.holds)
       (subst (HaveCourses d deeds) (sym step.2) g.courses)
 
@@ -253,6 +280,7 @@ module _ (proper : AllProper) (d : Direction) (local : Local)
   other_begins_so old new step deeds g =
       still_goes deeds deeds begins_other old new step g
       (subst (λ (j : Joint). IsGoing j.course) (sym step) (begins_going (other d) old.course g.going))
+      (subst (λ (j : Joint). NeverToBlame d j.course) (sym step) (never_begins d (other d) old.course g.never))
       (k.other_begins deeds old new step g.holds) (subst (HaveCourses d deeds) (sym step) g.courses)
 
   -- what passes
@@ -310,10 +338,19 @@ module _ (proper : AllProper) (d : Direction) (local : Local)
   -- ---- the capture
 
   stays_first : (h : Holding) → IsFresh (calls_from d) local h → Stays (λ r. no_deeds) (begin h)
-  stays_first h fresh = search (arith, fresh_course, begin_followed, fresh_sure)
+  stays_first h fresh = goes (record {
+    going = record { left = refl; right = refl; left_goes = refl; right_goes = refl };
+    never = never_first d;
+    holds = k.begins h fresh;
+    courses = λ r. subst (λ (e : End). Course (calls_from d) r no_deeds e) (sym fresh.end) (fresh_course (calls_from d) local r);
+    followed = begin_followed d (calls_from d) local h fresh;
+    few = λ i j here. absurd (cc here);
+    sure = fresh_sure;
+  })
 
-  none_so : (j : Joint) → Stood j → NoneIsToBlame d j.course.sessions
-  none_so j h = grind arith
+  never_so : (j : Joint) → Stood j → NeverToBlame d j.course
+  never_so j (deeds, goes g) = g.never
+  never_so j (deeds, ended s) = s.never
 
   -- the other side sends what can't be read, and then anything passes
   module _ (at : ℕ) (cause_is : Cause) (packets : List (List ℕ)) (none_in : units_in packets ≡ []) (j : Joint)
@@ -326,11 +363,16 @@ module _ (proper : AllProper) (d : Direction) (local : Local)
     over_by x going is not = grind arith
 
     unread_so : Stood j → IsDone d bad.course
-    unread_so h = search (arith, done_claim, over_by, knows_zero, unread_sessions)
+    unread_so (deeds, ended s) = (done_claim d).bad (other d) at cause_is j.course s
+    unread_so (deeds, goes g) = record {
+      over = over_by (class_for (way_of (other d)) j.course.traffic.course) g.going refl
+          (λ zero. within.not (knows_zero (other d) j.course g.sure zero));
+      never = never_unread d (other d) at cause_is j.course g.never;
+    }
 
-    after_bad : (steps : List Step) (end : Joint) → LaterAlong d bad steps end → Stood j → NoneIsToBlame d end.course.sessions
+    after_bad : (steps : List Step) (end : Joint) → LaterAlong d bad steps end → Stood j → NeverToBlame d end.course
     after_bad steps end along s =
-        let last = later_kept (IsDone d) (done_claim d) d steps bad end along (unread_so s) in last.none
+        let last = later_kept (IsDone d) (done_claim d) d steps bad end along (unread_so s) in last.never
 
   bad_within : (capture : Capture) (c : Passed) → TurnsBad d capture c → IsWithout Zero (comes_to capture).course → IsWithout Zero c
   bad_within capture c t h =
@@ -339,7 +381,7 @@ module _ (proper : AllProper) (d : Direction) (local : Local)
       (after_without Zero t.back (comes_to t.front) (subst (λ (s : states.State). IsWithout Zero s.course) join h)))
 
   pub never_to_blame : (h : Holding) (capture : Capture) → IsFresh (calls_from d) local h → ComesByDoing d (calls_from d) capture h →
-      IsWithout Zero (comes_to capture).course → NoneIsToBlame d (comes_to capture).course.sessions
+      IsWithout Zero (comes_to capture).course → NeverToBlame d (comes_to capture).course
   never_to_blame h capture fresh comes within = by comes.on
     where
       last_within : IsWithout Zero comes.last.course
@@ -352,8 +394,7 @@ module _ (proper : AllProper) (d : Direction) (local : Local)
       at_last : Stood comes.last
       at_last = along_so comes.steps (λ r. no_deeds) (begin h) comes.last comes.along comes.does last_within (stays_first h fresh)
 
-      by : ((comes_to capture).course ≡ comes.last.course) ⊎ GoesOn d capture comes.last →
-          NoneIsToBlame d (comes_to capture).course.sessions
-      by (inl is) = subst (λ (c : Passed). NoneIsToBlame d c.sessions) (sym is) (none_so comes.last at_last)
-      by (inr g) = subst (λ (c : Passed). NoneIsToBlame d c.sessions) (sym g.all)
+      by : ((comes_to capture).course ≡ comes.last.course) ⊎ GoesOn d capture comes.last → NeverToBlame d (comes_to capture).course
+      by (inl is) = subst (NeverToBlame d) (sym is) (never_so comes.last at_last)
+      by (inr g) = subst (NeverToBlame d) (sym g.all)
           (after_bad g.at g.cause g.packets g.none comes.last last_within g.steps g.end g.along at_last)

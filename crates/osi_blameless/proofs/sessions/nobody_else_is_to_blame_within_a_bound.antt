@@ -1,12 +1,13 @@
--- Within a bound a unit makes no session to blame that it doesn't make to blame without one. For the law on such a judge.
+-- A unit makes nobody to blame for what a judge with a bound judges whom it doesn't make to blame for what a judge without one judges.
+-- For the law on such a judge.
 use Rattle.osi_blameless.proofs.Vocabulary.{arith, slice_get, ◌≡◌, ◌∙◌, refl, sym, ap, subst, ℕ, zero, suc, Bool, true, false}
-use Rattle.osi_blameless.proofs.Vocabulary.{if◌then◌else◌, List, [], ◌∷◌, ◌++◌, length, set, Option, Some, None, Meaning, Value, Direction}
-use Rattle.osi_blameless.proofs.Vocabulary.{Room, Octets, Over, IsToBlame, Joined, Sessions, adds_if, changed, placed, taken, taken_at}
-use Rattle.osi_blameless.proofs.Vocabulary.{user_of, fits, kept_on, IsJudgedOf}
+use Rattle.osi_blameless.proofs.Vocabulary.{List, [], ◌∷◌, ◌++◌, length, set, Option, Some, None, Meaning, Value, Direction, Room, Octets}
+use Rattle.osi_blameless.proofs.Vocabulary.{IsToBlame, Joined, Sessions, adds_if, changed, placed, taken, taken_at, user_of, fits}
+use Rattle.osi_blameless.proofs.Vocabulary.{kept_on, IsJudgedOf}
 use Rattle.osi_rules.specs.declared.findings.Meaning.TheVariants as meaning
 use Rattle.osi_judge.specs.Connections.{meant}
 use Rattle.osi_judge.specs.Rooms.{is_over}
-use Rattle.osi_blameless.proofs.sessions.after_too_many_nobody_is_to_blame.{NoneIsToBlame}
+use Rattle.osi_blameless.proofs.sessions.nobody_of_a_side_is_to_blame.{NoneIsToBlame}
 use Rattle.osi_blameless.proofs.sessions.what_is_judged_within_a_bound.{AreBounded, BothAt, asked_so, at_place, meant_so}
 
 -- ---- who is to blame, by what both sides said

@@ -7,7 +7,7 @@ use Rattle.osi_honest.specs.Courses.{Course}
 use Rattle.osi_blameless.proofs.small_facts_that_many_lemmas_use.{all_front, ranges_of}
 use Rattle.osi_blameless.proofs.sessions.a_calling_end_hears_what_comes_until_class_2.{AreTaken, IsWith, known_below, units_early}
 use Rattle.osi_blameless.proofs.sessions.a_calling_end_stands_until_class_2.{StandsUntilTwo, given_so, runs_staged}
-use Rattle.osi_blameless.proofs.sessions.after_too_many_nobody_is_to_blame.{NoneIsToBlame}
+use Rattle.osi_blameless.proofs.sessions.nobody_of_a_side_is_to_blame.{NoneIsToBlame}
 use Rattle.osi_blameless.proofs.sessions.steps_of_either_class_leave_all_standing.{stand_none}
 
 module _ (local : Local) (known_of : AsSent) (parts : AsParts) (caller : CallerLaw) (called : CalledLaw) (deeds : ℕ → Deeds) where

@@ -1,16 +1,13 @@
 -- Units of class 2 leave all connections of an end standing at a judge: units of the end that are no break, and of the other side.
 -- For the session of each connection of an end.
-use Rattle.osi_blameless.proofs.Vocabulary.{arith, ◌≡◌, ◌∙◌, refl, sym, ap, ℕ, Bool, true, false, if◌then◌else◌, List, [], ◌∷◌, ◌++◌}
-use Rattle.osi_blameless.proofs.Vocabulary.{Option, Some, None, slice_get, eqb-true, Connect, Value, acknowledge, confirm, data2}
-use Rattle.osi_blameless.proofs.Vocabulary.{destination_of, request, Part, Two, Zero, other, Direction, Connection, Reach, Half, is_applied}
-use Rattle.osi_blameless.proofs.Vocabulary.{reach_of, is_open, own, State, class_for, connection_after, found_on, is_stopped, meaning_if}
-use Rattle.osi_blameless.proofs.Vocabulary.{course_after_none, unnamed, meant, takes, Deeds, Joined, Sessions, reference_of, way_of}
-use Rattle.osi_blameless.proofs.Vocabulary.{IsOneOf}
+use Rattle.osi_blameless.proofs.Vocabulary.{arith, ◌≡◌, ◌∙◌, refl, sym, ap, ℕ, Bool, true, false, List, [], ◌∷◌, ◌++◌, Option}
+use Rattle.osi_blameless.proofs.Vocabulary.{Some, None, slice_get, eqb-true, Connect, Value, acknowledge, confirm, data2, destination_of}
+use Rattle.osi_blameless.proofs.Vocabulary.{request, Part, Zero, other, Direction, Connection, Reach, Half, is_applied}
+use Rattle.osi_blameless.proofs.Vocabulary.{is_open, own, State, class_for, connection_after, found_on, is_stopped, meaning_if}
+use Rattle.osi_blameless.proofs.Vocabulary.{meant, takes, Deeds, Joined, Sessions, reference_of, way_of, IsOneOf}
 use Rattle.osi_rules.specs.declared.directions.Direction.{Direction as Way}
 use Rattle.osi_rules.specs.declared.directions.Direction.TheVariants as way
 use Rattle.osi_rules.specs.declared.findings.Reach.TheVariants as reach
-use Rattle.osi_rules.specs.declared.findings.Rule.TheVariants as rule
-use Rattle.osi_rules.specs.Sides as sides
 use Rattle.osi_judge.specs.Connections as joined
 use Rattle.osi_blameless.proofs.sessions.a_right_dt_has_one_place.{AreUsedApart, lost_use, one_use}
 use Rattle.osi_blameless.proofs.sessions.a_unit_is_joined_where_it_is_named.{named_any, named_there, names_there}

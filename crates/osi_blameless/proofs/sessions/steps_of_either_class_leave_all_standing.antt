@@ -5,11 +5,11 @@ use Rattle.osi_blameless.proofs.Vocabulary.{Direction, AsSent, AsParts, CalledLa
 use Rattle.osi_blameless.proofs.Vocabulary.{Deeds, Sessions, unit_passes, way_of, Joint, Steps, passes_own, calls_from}
 use Rattle.osi_honest.specs.Courses.{Course}
 use Rattle.osi_judge.specs.Courses.{Course as Passed}
-use Rattle.osi_blameless.proofs.the_first_break_is_not_of_an_end.{IsNoBreak}
+use Rattle.osi_blameless.proofs.no_unit_of_a_whole_end_is_a_break.{IsNoBreak}
 use Rattle.osi_blameless.proofs.what_a_taker_passes_over.{IsMild}
 use Rattle.osi_blameless.proofs.sessions.a_dt_of_class_0_leaves_all_standing as zero
 use Rattle.osi_blameless.proofs.sessions.a_turn_leaves_all_standing.{all_blameless}
-use Rattle.osi_blameless.proofs.sessions.after_too_many_nobody_is_to_blame.{NoneIsToBlame}
+use Rattle.osi_blameless.proofs.sessions.nobody_of_a_side_is_to_blame.{NoneIsToBlame}
 use Rattle.osi_blameless.proofs.sessions.all_connections_stand.{AllStand}
 use Rattle.osi_blameless.proofs.sessions.each_step_leaves_class_0_one_connection.{Sure, is_zero}
 use Rattle.osi_blameless.proofs.sessions.steps_leave_all_standing.{Standing}

@@ -1,16 +1,15 @@
--- Of each connection that the other side has closed at the judge, its DR is in flight to the end, as long as the end has the connection
--- open. So it is as packets begin and units pass, and as the end takes a turn, if it takes no DR for a connection that it has open after
--- it. For the sessions of an end after a DT or an AK on a connection that its sender had closed.
-use Rattle.osi_blameless.proofs.Vocabulary.{[], ap, arith, Bool, false, if◌then◌else◌, inl, inr, length, List, None, Option, refl, Some}
-use Rattle.osi_blameless.proofs.Vocabulary.{sym, true, ℕ, ◌++◌, ◌∙◌, ◌∷◌, ◌≡◌, ◌⊎◌, eq-eqb, append-nil, slice_get, acknowledge, confirm}
-use Rattle.osi_blameless.proofs.Vocabulary.{Connect, data0, data2, disconnect, disconnected, error, request, Value, is_applied, begins}
-use Rattle.osi_blameless.proofs.Vocabulary.{is_closing, is_silent, own, asked_by, connection_after, found_on, half_after, meaning_if, meant}
+-- Of each connection that the other side has closed at the judge, its DR is in flight to the end, as long as the end has the connection open.
+-- So it is as packets begin and units pass, and as the end takes a turn, if it takes no DR for a connection that it has open after it.
+-- For the sessions of an end after a DT or an AK on a connection that its sender had closed.
+use Rattle.osi_blameless.proofs.Vocabulary.{[], ap, arith, Bool, false, inl, inr, length, List, None, Option, refl, Some, sym}
+use Rattle.osi_blameless.proofs.Vocabulary.{true, ℕ, ◌++◌, ◌∙◌, ◌∷◌, ◌≡◌, ◌⊎◌, eq-eqb, append-nil, slice_get, acknowledge, confirm, Connect}
+use Rattle.osi_blameless.proofs.Vocabulary.{data0, data2, disconnect, disconnected, error, request, Value, is_applied, begins, is_closing}
+use Rattle.osi_blameless.proofs.Vocabulary.{is_silent, own, asked_by, connection_after, found_on, half_after, meaning_if, meant}
 use Rattle.osi_blameless.proofs.Vocabulary.{Traffic as State, takes, Connection, Reach, Half, Phase, other, Direction, Right, all_begin}
 use Rattle.osi_blameless.proofs.Vocabulary.{asked, Joined, reference_of, Sessions, taken, way_of, All, after_add, after_change, after_map}
 use Rattle.osi_blameless.proofs.Vocabulary.{slice_get_within, HaveSamePlaces, IsOneOf, named_by}
 use Rattle.osi_rules.specs.Traffic as traffic
 use Rattle.osi_rules.specs.declared.directions.Direction.TheVariants as way
-use Rattle.osi_rules.specs.declared.findings.Rule.TheVariants as rule
 use Rattle.osi_judge.specs.Connections.{none, packet_begins}
 use Rattle.osi_judge.specs.Connections as joined
 use Rattle.osi_blameless.proofs.sessions.a_unit_is_joined_where_it_is_named.{named_there, names_there}

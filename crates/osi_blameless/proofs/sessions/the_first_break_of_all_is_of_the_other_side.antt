@@ -1,181 +1,198 @@
--- If in each moment before a break of the other side's transport nobody of this side is to blame, the first break of all, of transport
--- and of sessions, is of the other side.
--- For the law that no session of an end is blamed first.
-use Rattle.osi_blameless.proofs.Vocabulary.{[], if◌then◌else◌, inl, inr, List, None, Option, refl, Some, subst, sym, true, ℕ, ◌++◌, ◌∷◌}
-use Rattle.osi_blameless.proofs.Vocabulary.{◌≡◌, ◌⊎◌, AllByRecursion, Value, stops_last, Outcome, takes, Finding, Told, other, Direction}
-use Rattle.osi_blameless.proofs.Vocabulary.{Left, Right, noted_past, AreSpotless, BreaksFirst, IsBreakOf, IsFirstOf, IsQuiet, IsToBlame}
-use Rattle.osi_blameless.proofs.Vocabulary.{of_session, of_transport, Sessions, taken, cause_of, is_break, mark_by, Moment, moment_of}
-use Rattle.osi_blameless.proofs.Vocabulary.{number_at, unit_passes, way_of, First, Mark, arith, Course, differ}
+-- If no session of a side is to blame at any moment, and the judge finds no break of its transport, the first break of all, of transport and
+-- of sessions, is of the other side.
+-- For the laws that an end is never blamed first.
+use Rattle.osi_blameless.proofs.Vocabulary.{arith, ◌≡◌, ◌∙◌, ◌⊎◌, inl, inr, refl, sym, ap, subst, ℕ, Bool, true, false, List, [], ◌∷◌, ◌++◌, Option}
+use Rattle.osi_blameless.proofs.Vocabulary.{None, Some, is_some, AllByRecursion, Value, Capture, other, Direction, Left, Right, Finding, takes}
+use Rattle.osi_blameless.proofs.Vocabulary.{Told, BreaksFirst, IsBreakOf, IsFirstOf, IsToBlame, of_session, of_transport, Cause, First, Mark}
+use Rattle.osi_blameless.proofs.Vocabulary.{Course, Moment, cause_of, changes, comes_to, first_marked, is_break, mark_by, marked_past, marks_of}
+use Rattle.osi_blameless.proofs.Vocabulary.{noted_by, packet_begins, unit_passes, unread, unread_mark, unread_moment, way_of}
 use Rattle.osi_rules.specs.Traffic as traffic
-use Rattle.osi_judge.specs.declared.marks.Cause.TheVariants as cause
-use Rattle.osi_blameless.proofs.the_first_break_is_not_of_an_end.{IsNoBreak}
-use Rattle.osi_blameless.proofs.what_a_unit_leaves_at_a_judge.{unread_over}
-use Rattle.osi_blameless.proofs.what_passes_keeps_a_claim.{IsClaim}
-use Rattle.osi_blameless.proofs.sessions.after_too_many_nobody_is_to_blame.{IsSilenced, NoneIsToBlame, begins_silenced, unit_silenced}
-use Rattle.osi_blameless.proofs.sessions.connections_have_the_same_places.{unit_joins}
+use Rattle.osi_judge.specs.Courses.{breaks}
+use Rattle.osi_judge.specs.States as states
+use Rattle.osi_blameless.proofs.a_break_ends_no_judging_or_all.{mid, other_unbroken, own_unbroken, reached_broke, refuses}
+use Rattle.osi_blameless.proofs.a_break_ends_no_judging_or_all.{some_earlier, unread_if, unread_unbroken}
+use Rattle.osi_blameless.proofs.no_unit_of_a_whole_end_is_a_break.{IsNoBreak}
+use Rattle.osi_blameless.proofs.small_facts_that_many_lemmas_use.{all_join}
+use Rattle.osi_blameless.proofs.all_is_judged_or_nothing.{marked_first}
+use Rattle.osi_blameless.proofs.what_passes_keeps_a_claim.{IsClaim, after_kept}
+use Rattle.osi_blameless.proofs.sessions.nobody_of_a_side_is_to_blame.{NoneWas, moment, unit_past}
 
--- ---- moments
+-- ---- breaks of transport
 
--- nobody broke a rule of transport, and no session of this side is to blame
-pub record IsClean (d : Direction) (m : Moment) : Type 0 where
-  pub transport : IsQuiet m.mark
-  pub sessions : NoneIsToBlame d m.sessions
+-- what was found of the transport at this moment is no break, or one of the other side
+abbrev pub IsOfOther : Direction → Moment → Type 0
+IsOfOther d m = (k : Mark) → m.mark ≡ Some k → is_break k.cause ≡ true → k.direction ≡ other d
 
--- this side broke a rule of transport
-pub record BreaksTransport (e : Direction) (m : Moment) : Type 0 where
-  pub mark : Mark
-  pub is : m.mark ≡ Some mark
-  pub bad : is_break mark.cause ≡ true
-  pub of : mark.direction ≡ e
+-- neither the first break of transport is of this side, nor that of any moment
+pub record IsUnblamed (d : Direction) (c : Course) : Type 0 where
+  pub first : (f : First) → c.first ≡ Some f → f.direction ≡ other d
+  pub past : AllByRecursion (IsOfOther d) c.past
 
-abbrev pub AreClean : Direction → List Moment → Type 0
-AreClean d past = AllByRecursion (IsClean d) past
+-- so it is as long as this side has broken no rule
+abbrev IsMarked : Direction → Course → Type 0
+IsMarked d c = (marks_of d c).broke ≡ None → IsUnblamed d c
 
--- The first moments are clean, and in the next the other side breaks a rule of transport.
-abbrev pub HasBroken : Direction → List Moment → Type 0
-HasBroken d [] = ⊥
-HasBroken d (m ∷ past) = BreaksTransport (other d) m ⊎ (IsClean d m × HasBroken d past)
+same_or_other : (d e : Direction) → (e ≡ d) ⊎ (e ≡ other d)
+same_or_other d e = grind arith
 
-pub clean_then : (d : Direction) (past : List Moment) (m : Moment) → AreClean d past → IsClean d m → AreClean d (past ++ m ∷ [])
-clean_then d [] m h k = (k, tt)
-clean_then d (x ∷ past) m h k = (h.0, clean_then d past m h.1 k)
+-- ---- a mark
 
-pub broken_then : (d : Direction) (past : List Moment) (m : Moment) → AreClean d past → BreaksTransport (other d) m →
-    HasBroken d (past ++ m ∷ [])
-broken_then d [] m h b = inl b
-broken_then d (x ∷ past) m h b = inr (h.0, broken_then d past m h.1 b)
+mark_direction : (e : Direction) (at : ℕ) (v : Value) (n : Option ℕ) (o : Option Cause) (k : Mark) → mark_by e at v n o ≡ Some k →
+    k.direction ≡ e
+mark_direction e at v n o k is = grind arith
 
-pub broken_more : (d : Direction) (past more : List Moment) → HasBroken d past → HasBroken d (past ++ more)
-broken_more d [] more h = absurd h
-broken_more d (x ∷ past) more (inl b) = inl b
-broken_more d (x ∷ past) more (inr (c, h)) = inr (c, broken_more d past more h)
+mild_mark : {A : Type 0} (e : Direction) (at : ℕ) (v : Value) (n : Option ℕ) (f : Finding) (k : Mark) → IsNoBreak f →
+    mark_by e at v n (cause_of f) ≡ Some k → is_break k.cause ≡ true → A
+mild_mark e at v n f k none is bad = grind arith
+
+mild_first : (e : Direction) (at : ℕ) (v : Value) (told : Told) (f : Finding) (c : Course) → IsNoBreak f →
+    (noted_by e at v told (cause_of f) c).first ≡ c.first
+mild_first e at v told f c none = grind (arith, marked_first)
+
+noted_first : (e : Direction) (at : ℕ) (v : Value) (told : Told) (o : Option Cause) (c : Course) (f : First) →
+    (noted_by e at v told o c).first ≡ Some f → (c.first ≡ Some f) ⊎ (f.direction ≡ e)
+noted_first e at v told o c f is = grind (arith, marked_first)
+
+-- the side has broken a rule then
+breaks_one : {A : Type 0} (d : Direction) (m : Mark) (c : Course) → is_break m.cause ≡ true →
+    (marks_of d (changes d (breaks m) (first_marked m c))).broke ≡ None → A
+breaks_one d m c bad none = grind (arith, some_earlier)
+
+-- ---- a unit
+
+module _ (d : Direction) (at : ℕ) (v : Value) (c : Course) where
+  abbrev found : Finding
+  found = (takes (way_of d) v c.traffic).told.finding
+
+  no_break : (f : Finding) → (marks_of d (noted_by d at v (takes (way_of d) v c.traffic).told (cause_of f) (mid d at v c))).broke ≡ None →
+      IsNoBreak f
+  no_break f none = grind (arith, reached_broke, breaks_one)
+
+  then_past : (e : Direction) → AllByRecursion (IsOfOther d) c.past → IsOfOther d (moment e at v c) →
+      AllByRecursion (IsOfOther d) (unit_passes e at v c).past
+  then_past e past last =
+      subst (AllByRecursion (IsOfOther d)) (sym (unit_past e at v c))
+      (all_join (IsOfOther d) c.past (moment e at v c ∷ []) past (last, tt))
+
+  -- of this side
+  own_marked : IsMarked d c → IsMarked d (unit_passes d at v c)
+  own_marked h unbroken =
+      let none = no_break found unbroken in
+      let before = h (sym (own_unbroken d at v c none) ∙ unbroken) in
+      record {
+        first = λ f is. before.first f (sym (mild_first d at v (takes (way_of d) v c.traffic).told found (mid d at v c) none) ∙ is);
+        past = then_past d before.past (λ k is bad. mild_mark d at v _ found k none is bad);
+      }
+
+  -- of the other side
+  other_marked : IsMarked d c → IsMarked d (unit_passes (other d) at v c)
+  other_marked h unbroken =
+      let before = h (sym (other_unbroken d at v c) ∙ unbroken) in
+      record {
+        first = λ f is. by before f (noted_first (other d) at v (takes (way_of (other d)) v c.traffic).told
+            (cause_of (takes (way_of (other d)) v c.traffic).told.finding) (mid (other d) at v c) f is);
+        past = then_past (other d) before.past (λ k is bad. mark_direction (other d) at v _ _ k is);
+      }
+    where
+      by : IsUnblamed d c → (f : First) → (c.first ≡ Some f) ⊎ (f.direction ≡ other d) → f.direction ≡ other d
+      by before f (inl is) = before.first f is
+      by before f (inr of) = of
+
+-- ---- what can't be read
+
+module _ (d : Direction) (at : ℕ) (k : Cause) (c : Course) where
+  bad_past : (e : Direction) → AllByRecursion (IsOfOther d) c.past → (is_break k ≡ true → e ≡ other d) →
+      AllByRecursion (IsOfOther d) (refuses e at k c).past
+  bad_past e past of =
+      subst (AllByRecursion (IsOfOther d)) (sym (marked_past (unread_mark e at k) (traffic.refused_reach (way_of e) c.traffic) _))
+      (all_join (IsOfOther d) c.past (unread_moment e at k c.sessions ∷ []) past (grind arith, tt))
+
+  bad_first : (e : Direction) → ((f : First) → c.first ≡ Some f → f.direction ≡ other d) → (is_break k ≡ true → e ≡ other d) →
+      (f : First) → (refuses e at k c).first ≡ Some f → f.direction ≡ other d
+  bad_first e first of f is = grind (arith, marked_first)
+
+  refused : (e : Direction) → IsUnblamed d c → (is_break k ≡ true → e ≡ other d) → IsUnblamed d (refuses e at k c)
+  refused e h of = record { first = bad_first e h.first of; past = bad_past e h.past of }
+
+  -- of this side
+  own_by : (x : Bool) → is_break k ≡ x → IsMarked d c → IsMarked d (refuses d at k c)
+  own_by true bad h unbroken = grind (arith, reached_broke, breaks_one)
+  own_by false mild h unbroken = refused d (h (grind (arith, reached_broke))) (λ bad. absurd (let no : false ≡ true = sym mild ∙ bad in cc))
+
+  own_if : (b : Bool) → IsMarked d c → IsMarked d (unread_if b d at k c)
+  own_if true h = h
+  own_if false h = own_by (is_break k) refl h
+
+  -- of the other side
+  other_if : (b : Bool) → IsUnblamed d c → IsUnblamed d (unread_if b (other d) at k c)
+  other_if true h = h
+  other_if false h = refused (other d) h (λ bad. refl)
+
+  other_bad : IsMarked d c → IsMarked d (unread (other d) at k c)
+  other_bad h unbroken = other_if (is_some (marks_of (other d) c).halted) (h (sym (unread_unbroken d at k c) ∙ unbroken))
+
+-- ---- whatever passes
+
+module _ (d : Direction) where
+  begins_broke : (e : Direction) (c : Course) → (marks_of d (packet_begins e c)).broke ≡ (marks_of d c).broke
+  begins_broke e c = grind arith
+
+  begins_marked : (e : Direction) (c : Course) → IsMarked d c → IsMarked d (packet_begins e c)
+  begins_marked e c h unbroken = let before = h (sym (begins_broke e c) ∙ unbroken) in record { first = before.first; past = before.past }
+
+  passes_marked : (e : Direction) (at : ℕ) (v : Value) (c : Course) → (e ≡ d) ⊎ (e ≡ other d) → IsMarked d c →
+      IsMarked d (unit_passes e at v c)
+  passes_marked e at v c (inl is) h = subst (λ (x : Direction). IsMarked d (unit_passes x at v c)) (sym is) (own_marked d at v c h)
+  passes_marked e at v c (inr is) h = subst (λ (x : Direction). IsMarked d (unit_passes x at v c)) (sym is) (other_marked d at v c h)
+
+  bad_marked : (e : Direction) (at : ℕ) (k : Cause) (c : Course) → (e ≡ d) ⊎ (e ≡ other d) → IsMarked d c → IsMarked d (unread e at k c)
+  bad_marked e at k c (inl is) h = subst (λ (x : Direction). IsMarked d (unread x at k c)) (sym is)
+      (own_if d at k c (is_some (marks_of d c).halted) h)
+  bad_marked e at k c (inr is) h = subst (λ (x : Direction). IsMarked d (unread x at k c)) (sym is) (other_bad d at k c h)
+
+  marked_claim : IsClaim (IsMarked d)
+  marked_claim = record {
+    begins = begins_marked;
+    passes = λ e at v c h. passes_marked e at v c (same_or_other d e) h;
+    bad = λ e at k c h. bad_marked e at k c (same_or_other d e) h;
+  }
+
+  pub capture_unblamed : (capture : Capture) → (marks_of d (comes_to capture).course).broke ≡ None → IsUnblamed d (comes_to capture).course
+  capture_unblamed capture unbroken =
+      after_kept (IsMarked d) marked_claim capture states.begin
+      (λ none. record { first = λ f is. absurd (cc is); past = tt }) unbroken
 
 -- ---- the first break
+
+all_at : (P : Moment → Type 0) (front back : List Moment) (m : Moment) → AllByRecursion P (front ++ m ∷ back) → P m
+all_at P [] back m h = h.0
+all_at P (x ∷ front) back m h = all_at P front back m h.1
 
 other_of : (d e : Direction) → (e ≡ d → ⊥) → e ≡ other d
 other_of d e h = grind arith
 
-quiet_not : {A : Type 0} (o : Option Mark) (k : Mark) → IsQuiet o → o ≡ Some k → is_break k.cause ≡ true → A
-quiet_not h k quiet is bad = grind (arith, differ)
+pub first_of_all : (d : Direction) (f : First) (past : List Moment) → AllByRecursion (NoneWas d) past →
+    AllByRecursion (IsOfOther d) past → BreaksFirst f past → f.direction ≡ other d
+first_of_all d f past none of b = by b.breaks
+  where
+    at : (P : Moment → Type 0) → AllByRecursion P past → P b.moment
+    at P h = all_at P b.front b.back b.moment (subst (AllByRecursion P) b.parts h)
 
-of_clean : (d : Direction) (f : First) (m : Moment) → IsClean d m → IsBreakOf f m → f.direction ≡ other d
-of_clean d f m c (of_transport k is bad told) = quiet_not m.mark k c.transport is bad
-of_clean d f m c (of_session place quiet layer side blame) =
-    other_of d f.direction (λ same. c.sessions.live place blame.connection blame.there
-    (subst (λ (e : Direction). IsToBlame e blame.connection) same blame.broke))
-
-of_break : (e : Direction) (f : First) (m : Moment) → BreaksTransport e m → IsBreakOf f m → f.direction ≡ e
-of_break e f m b h = grind (arith, quiet_not)
-
-no_list : {A : Type 0} (front back : List Moment) (m : Moment) → [] ≡ front ++ m ∷ back → A
-no_list [] back m e = absurd (cc)
-no_list (y ∷ front) back m e = absurd (cc)
-
-head_same : (x y : Moment) (xs ys : List Moment) → x ∷ xs ≡ y ∷ ys → y ≡ x
-head_same x y xs ys e = cc
-
-tail_same : (x y : Moment) (xs ys : List Moment) → x ∷ xs ≡ y ∷ ys → xs ≡ ys
-tail_same x y xs ys e = cc
-
-module _ (d : Direction) (f : First) (m : Moment) (back : List Moment) (breaks : IsBreakOf f m) where
-  among_clean : (past front : List Moment) → AreClean d past → past ≡ front ++ m ∷ back → f.direction ≡ other d
-  among_clean [] front h is = no_list front back m is
-  among_clean (x ∷ past) [] h is = of_clean d f m (subst (IsClean d) (sym (head_same x m past back is)) h.0) breaks
-  among_clean (x ∷ past) (y ∷ front) h is = among_clean past front h.1 (tail_same x y past (front ++ m ∷ back) is)
-
-  among_broken : (past front : List Moment) → HasBroken d past → past ≡ front ++ m ∷ back → AreSpotless front → f.direction ≡ other d
-  among_broken [] front h is before = absurd h
-  among_broken (x ∷ past) [] (inl b) is before = grind (arith, of_break, head_same)
-  among_broken (x ∷ past) (y ∷ front) (inl b) is before = grind (arith, head_same, quiet_not)
-  among_broken (x ∷ past) [] (inr (c, h)) is before =
-      of_clean d f m (subst (IsClean d) (sym (head_same x m past back is)) c) breaks
-  among_broken (x ∷ past) (y ∷ front) (inr (c, h)) is before =
-      among_broken past front h (tail_same x y past (front ++ m ∷ back) is) before.1
-
--- ---- in the end
-
--- All moments are clean, and no session of this side is to blame for what has passed.
-pub record IsBlameless (d : Direction) (c : Course) : Type 0 where
-  pub clean : AreClean d c.past
-  pub nobody : NoneIsToBlame d c.sessions
-
--- Or the other side has broken a rule of transport.
-abbrev pub Ends : Direction → Course → Type 0
-Ends d c = IsBlameless d c ⊎ HasBroken d c.past
-
-pub first_of_ends : (d : Direction) (f : First) (c : Course) → Ends d c → BreaksFirst f c.past → f.direction ≡ other d
-first_of_ends d f c (inl h) b = search (arith, among_clean, among_broken)
-first_of_ends d f c (inr h) b = search (arith, among_clean, among_broken)
-
--- no moment has a break of transport
-abbrev pub AreQuiet : List Moment → Type 0
-AreQuiet past = AllByRecursion (λ (m : Moment). IsQuiet m.mark) past
-
-quiet_unbroken : (d : Direction) (past : List Moment) → AreQuiet past → HasBroken d past → ⊥
-quiet_unbroken d [] quiet h = h
-quiet_unbroken d (m ∷ past) quiet (inl b) = quiet_not m.mark b.mark quiet.0 b.is b.bad
-quiet_unbroken d (m ∷ past) quiet (inr (c, h)) = quiet_unbroken d past quiet.1 h
-
-pub none_of_ends : (d : Direction) (c : Course) → Ends d c → AreQuiet c.past → NoneIsToBlame d c.sessions
-none_of_ends d c h quiet = grind (arith, quiet_unbroken)
+    by : IsBreakOf f b.moment → f.direction ≡ other d
+    by (of_transport k is bad told) = ap (λ (x : First). x.direction) told ∙ at (IsOfOther d) of k is bad
+    by (of_session place quiet layer side blame) =
+        other_of d f.direction (λ same. (at (NoneWas d) none).live place blame.connection blame.there
+        (subst (λ (e : Direction). IsToBlame e blame.connection) same blame.broke))
 
 -- if it is neither of left nor of right, there is none
 pub neither_first : (o : Option First) (past : List Moment) → ((f : First) → BreaksFirst f past → f.direction ≡ Right) →
     ((f : First) → BreaksFirst f past → f.direction ≡ Left) → IsFirstOf o past → o ≡ None
 neither_first o past left right is = grind arith
 
--- ---- the moment of a unit
-
-module _ (e : Direction) (at : ℕ) (v : Value) (c : Course) where
-  abbrev pub o : Outcome
-  o = takes (way_of e) v c.traffic
-
-  abbrev pub then_joined : Sessions
-  then_joined = taken e at v o.told.meaning o.told.place c.sessions
-
-  abbrev pub moment : Moment
-  moment = moment_of e at v o.told then_joined
-
-  pub unit_past : (unit_passes e at v c).past ≡ c.past ++ moment ∷ []
-  unit_past = noted_past e at v o.told (cause_of o.told.finding) _
-
-  quiet_by : (f : Finding) → IsNoBreak f → IsQuiet (mark_by e at v (number_at o.told.place then_joined) (cause_of f))
-  quiet_by f none = grind arith
-
-  -- it is no break
-  pub unit_clean : (d : Direction) → IsNoBreak o.told.finding → NoneIsToBlame d (unit_passes e at v c).sessions → AreClean d c.past →
-      AreClean d (unit_passes e at v c).past
-  unit_clean d none blameless h = grind (arith, unit_past, clean_then, quiet_by, unit_joins)
-
-module _ (d : Direction) (at : ℕ) (v : Value) (c : Course) where
-  abbrev told : Told
-  told = (takes (way_of (other d)) v c.traffic).told
-
-  breaks_by : (f : Finding) → told.finding ≡ f → (IsNoBreak f → ⊥) → BreaksTransport (other d) (moment (other d) at v c)
-  breaks_by f is broke = search arith
-
-  -- it is a break of the other side
-  pub unit_breaks : (IsNoBreak told.finding → ⊥) → AreClean d c.past → HasBroken d (unit_passes (other d) at v c).past
-  unit_breaks broke h =
-      subst (HasBroken d) (sym (unit_past (other d) at v c))
-      (broken_then d c.past (moment (other d) at v c) h (breaks_by told.finding refl broke))
-
--- ---- what stays so, whatever passes
-
-pub broken_claim : (d : Direction) → IsClaim (λ c. HasBroken d c.past)
-broken_claim d = grind (arith, unit_past, broken_more)
-
--- nothing more is judged, nobody of this side is to blame, and nobody ever was
-pub record IsSilent (d : Direction) (c : Course) : Type 0 where
-  pub silenced : IsSilenced d c
-  pub clean : AreClean d c.past
-
-pub silent_claim : (d : Direction) → IsClaim (IsSilent d)
-silent_claim d = record {
-  begins = λ e c h. record { silenced = begins_silenced d e c h.silenced; clean = h.clean };
-  passes = λ e at v c h. record {
-    silenced = unit_silenced d e at v c h.silenced;
-    clean = grind (arith, unit_clean, stops_last (way_of e) v c.traffic (grind arith), unit_silenced d e at v c h.silenced);
-  };
-  bad = λ e at k c h. subst (IsSilent d) (sym (unread_over e at k c h.silenced.over)) h;
-}
+-- nor is there a first break of transport, if it is of neither
+pub no_transport : (c : Course) → IsUnblamed Left c → IsUnblamed Right c → c.first ≡ None
+no_transport c left right = by c.first left.first right.first
+  where
+    by : (o : Option First) → ((f : First) → o ≡ Some f → f.direction ≡ Right) → ((f : First) → o ≡ Some f → f.direction ≡ Left) → o ≡ None
+    by None left right = refl
+    by (Some f) left right = absurd (let no : Left ≡ Right = sym (right f refl) ∙ left f refl in cc)

@@ -1,7 +1,7 @@
 -- Among units that are written alike, and can be written, are the same CCs: for the same references of both sides, and of the same class.
 -- So what is known of the CCs that a whole end has put holds of those of its joint.
 -- For all connections of a called end and a judge.
-use Rattle.osi_blameless.proofs.Vocabulary.{[], arith, inl, inr, List, map, refl, Some, subst, true, ℕ, ◌++◌, ◌+◌, ◌<◌, ◌∙◌, ◌∷◌, ◌≡◌, ◌⊎◌}
+use Rattle.osi_blameless.proofs.Vocabulary.{[], arith, inl, inr, List, map, refl, Some, subst, true, ℕ, ◌++◌, ◌<◌, ◌∙◌, ◌∷◌, ◌≡◌, ◌⊎◌}
 use Rattle.osi_blameless.proofs.Vocabulary.{AllByRecursion, acknowledge, confirm, Connect, data0, data2, disconnect, disconnected, error}
 use Rattle.osi_blameless.proofs.Vocabulary.{request, Value, written, CanBeWritten, AreAbove, picked_rest, is_false}
 use Rattle.osi_blameless.proofs.sessions.units_written_alike_are_for_the_same.{for_octets, for_written}

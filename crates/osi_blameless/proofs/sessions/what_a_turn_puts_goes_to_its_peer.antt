@@ -1,8 +1,8 @@
 -- What an end puts in a turn for a connection goes to the peer that the connection has there, and the unit with which the connection
 -- opens in the turn had come: so each DT and each AK of the turn has a home at a judge if the connection has.
 -- For calling and called ends.
-use Rattle.osi_blameless.proofs.Vocabulary.{◌≡◌, ◌∙◌, refl, sym, ap, subst, ℕ, suc, zero, ◌<◌, Bool, true, false, List, [], ◌∷◌, ◌++◌}
-use Rattle.osi_blameless.proofs.Vocabulary.{Option, Some, None, is_some, IsSome, Result, if◌then◌else◌, append_assoc, arith, ◌==◌, nat_lt}
+use Rattle.osi_blameless.proofs.Vocabulary.{◌≡◌, ◌∙◌, refl, sym, ap, subst, ℕ, suc, zero, ◌<◌, Bool, true, false, List, [], ◌∷◌, ◌++◌, Option}
+use Rattle.osi_blameless.proofs.Vocabulary.{Some, None, is_some, IsSome, Result, append_assoc, arith, ◌==◌, nat_lt}
 use Rattle.osi_blameless.proofs.Vocabulary.{AllByRecursion, eq-eqb, eqb-true, append-nil, units_of, Value, data0, TpduFault, Standing}
 use Rattle.osi_blameless.proofs.Vocabulary.{link_of, open_link, value_at, linked, packets, EndReason, Direction, State, units_by, Whole}
 use Rattle.osi_blameless.proofs.Vocabulary.{AreApart, GivesTo, Lives, Parts, Continues, Deeds, Marked, all_units, is_of_link, over_acts}

@@ -1,6 +1,6 @@
--- What is judged of each connection within a bound is what is judged of it without one, until the bound is reached. For the
--- law on such a judge.
-use Rattle.osi_blameless.proofs.Vocabulary.{arith, slice_get, ◌≡◌, refl, ap, ℕ, zero, suc, ◌+◌, Bool, List, [], ◌∷◌, ◌++◌, length, map, set}
+-- What a judge with a bound judges of each connection is what a judge without one does, until more has passed than it judges.
+-- For the law on such a judge.
+use Rattle.osi_blameless.proofs.Vocabulary.{arith, slice_get, ◌≡◌, refl, ap, ℕ, zero, suc, Bool, List, [], ◌∷◌, ◌++◌, length, map, set}
 use Rattle.osi_blameless.proofs.Vocabulary.{Option, Some, None, Meaning, Value, offset_of, Direction, All, Octets, Joined, Sessions, adds}
 use Rattle.osi_blameless.proofs.Vocabulary.{all_begin, asked, changed, count, placed, taken, taken_at, number_at, number_of, AreJudgedOf}
 use Rattle.osi_blameless.proofs.Vocabulary.{IsJudgedOf, SessionsOf}

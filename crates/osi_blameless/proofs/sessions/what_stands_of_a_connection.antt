@@ -9,7 +9,6 @@ use Rattle.osi_blameless.proofs.Vocabulary.{leads, picked, picked_first, picked_
 use Rattle.osi_blameless.proofs.Vocabulary.{IsJoinedFrom, IsShownNow, parts_of, with_next, arith, differ}
 use Rattle.osi_honest.specs.Courses.{Course}
 use Rattle.osi_judge.specs.Connections.{packet_begins}
-use Rattle.osi_judge.specs.Lines as lines
 use Rattle.osi_blameless.proofs.small_facts_that_many_lemmas_use.{and_both}
 use Rattle.osi_blameless.proofs.sessions.what_a_judge_shows_goes_on.{end_turns, none_passes, other_begins, other_passes, own_begins}
 use Rattle.osi_blameless.proofs.sessions.what_a_judge_shows_goes_on.{part_begins, part_passes}

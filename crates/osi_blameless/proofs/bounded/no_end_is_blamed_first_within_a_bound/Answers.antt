@@ -1,14 +1,12 @@
-use Rattle.std.proofs.Common.{arith}
-use Rattle.osi_blameless.proofs.Vocabulary.{slice_get, ◌≡◌, ◌⊎◌, inl, inr, ℕ, ◌<◌, ◌^◌, true, false, List, length, Some, Local, Capture}
-use Rattle.osi_blameless.proofs.Vocabulary.{Direction, Left, Right, AsSent, said_again, Holding, SpduLaws, IsFresh, IsSeen, Run, Turn}
-use Rattle.osi_blameless.proofs.Vocabulary.{all_proper, Known, can_begin, IsToBlame, Joined, Sessions, first_in, comes_to, comes_within}
+use Rattle.osi_blameless.proofs.Vocabulary.{ℕ, ◌<◌, ◌^◌, true, false, List, length, Local, Capture}
+use Rattle.osi_blameless.proofs.Vocabulary.{Left, Right, AsSent, said_again, Holding, SpduLaws, IsFresh, IsSeen, Run, Turn}
+use Rattle.osi_blameless.proofs.Vocabulary.{all_proper, Known, can_begin, first_in, comes_to, comes_within}
 use Rattle.osi_blameless.proofs.Vocabulary.{AreOctets}
-use Rattle.osi_blameless.proofs.sessions.a_bound_changes_no_first_break.{ends_so_within}
+use Rattle.osi_blameless.proofs.sessions.a_bound_changes_no_first_break.{blameless_within}
 use Rattle.osi_blameless.proofs.sessions.a_judge_with_a_bound_holds_what_passed.{first_told, some_told}
-use Rattle.osi_blameless.proofs.sessions.after_too_many_nobody_is_to_blame.{NoneIsToBlame}
-use Rattle.osi_blameless.proofs.sessions.no_called_end_is_blamed_first.{called_ends}
-use Rattle.osi_blameless.proofs.sessions.no_calling_end_is_blamed_first.{calling_ends}
-use Rattle.osi_blameless.proofs.sessions.the_first_break_of_all_is_of_the_other_side.{Ends, first_of_ends, neither_first, none_of_ends}
+use Rattle.osi_blameless.proofs.sessions.no_end_is_ever_to_blame.{IsBlameless, blameless_first, called_blameless, calling_blameless}
+use Rattle.osi_blameless.proofs.sessions.no_end_is_ever_to_blame.{none_among}
+use Rattle.osi_blameless.proofs.sessions.the_first_break_of_all_is_of_the_other_side.{neither_first}
 use Rattle.osi_blameless.proofs.bounded.no_end_is_blamed_first_within_a_bound.Goals as goal
 
 -- what the laws of messages and of units state
@@ -27,70 +25,68 @@ known c =
     let law : SpduLaws = record { room = c.few_octets_fit.ensures; digits = c.serial_digits.ensures } in
     record { proper = all_proper law c.what_closes_sends_nothing.ensures.octets; can = can_begin law }
 
--- how a capture of an end ends at a judge with a bound
+-- an end is blameless at a judge with a bound
 called_so : (c : goal.After-an_honest_session_is_explained) (local : Local) (begin end : Holding) (turns : List Turn) (capture : Capture)
     (most : ℕ) → IsFresh false local begin → Run begin turns end → AreOctets capture → IsSeen Right turns capture →
-    length (comes_to capture).course.past < 2 ^ 64 → Ends Right (comes_within most capture).course
+    length (comes_to capture).course.past < 2 ^ 64 → IsBlameless Right (comes_within most capture).course
 called_so c local begin end turns capture most fresh run octets seen few =
-    ends_so_within most Right capture
-    (search (arith, called_ends, known, as_sent))
+    blameless_within most Right capture
+    (called_blameless (known c) (as_sent c) c.what_leaves_in_parts.ensures.read c.an_honest_session_is_explained.ensures.caller
+    c.an_honest_session_is_explained.ensures.called local capture begin end turns fresh run octets seen few)
 
 calling_so : (c : goal.After-an_honest_session_is_explained) (local : Local) (begin end : Holding) (turns : List Turn) (capture : Capture)
     (most : ℕ) → IsFresh true local begin → Run begin turns end → AreOctets capture → IsSeen Left turns capture →
-    length (comes_to capture).course.past < 2 ^ 64 → Ends Left (comes_within most capture).course
+    length (comes_to capture).course.past < 2 ^ 64 → IsBlameless Left (comes_within most capture).course
 calling_so c local begin end turns capture most fresh run octets seen few =
-    ends_so_within most Left capture
-    (search (arith, calling_ends, known, as_sent))
-
--- of no connection, live or done
-of_none : (d : Direction) (s : Sessions) (i : ℕ) (j : Joined) → NoneIsToBlame d s →
-    (slice_get s.live i ≡ Some j) ⊎ (slice_get s.done i ≡ Some j) → IsToBlame d j → ⊥
-of_none d s i j none (inl here) = none.live i j here
-of_none d s i j none (inr here) = none.done i j here
+    blameless_within most Left capture
+    (calling_blameless (known c) (as_sent c) c.what_leaves_in_parts.ensures.read c.an_honest_session_is_explained.ensures.caller
+    c.an_honest_session_is_explained.ensures.called local capture begin end turns fresh run octets seen few)
 
 pub returns-clause-called : goal.returns-clause-called
 returns-clause-called c = λ local begin end turns capture most f fresh run octets seen few first.
-    first_of_ends Right f (comes_within most capture).course
+    blameless_first Right f (comes_within most capture).course
     (called_so c local begin end turns capture most fresh run octets seen few) first
 
 pub returns-clause-calling : goal.returns-clause-calling
 returns-clause-calling c = λ local begin end turns capture most f fresh run octets seen few first.
-    first_of_ends Left f (comes_within most capture).course
+    blameless_first Left f (comes_within most capture).course
     (calling_so c local begin end turns capture most fresh run octets seen few) first
 
 pub returns-clause-both : goal.returns-clause-both
 returns-clause-both c = λ mine theirs begin end called_begin called_end turns called_turns capture most first octets fresh run seen
     called_fresh called_run called_seen few is.
     neither_first first (comes_within most capture).course.past
-    (λ f. first_of_ends Left f (comes_within most capture).course
+    (λ f. blameless_first Left f (comes_within most capture).course
     (calling_so c mine begin end turns capture most fresh run octets seen few))
-    (λ f. first_of_ends Right f (comes_within most capture).course
+    (λ f. blameless_first Right f (comes_within most capture).course
     (called_so c theirs called_begin called_end called_turns capture most called_fresh called_run octets called_seen few)) is
 
 pub returns-clause-called_at_a_judge : goal.returns-clause-called_at_a_judge
 returns-clause-called_at_a_judge c = λ local begin end turns capture most t f fresh run octets seen few was_fed judged told.
-    first_of_ends Right f (comes_within most capture).course
+    blameless_first Right f (comes_within most capture).course
     (called_so c local begin end turns capture most fresh run octets seen few) (some_told most capture t f was_fed judged told)
 
 pub returns-clause-calling_at_a_judge : goal.returns-clause-calling_at_a_judge
 returns-clause-calling_at_a_judge c = λ local begin end turns capture most t f fresh run octets seen few was_fed judged told.
-    first_of_ends Left f (comes_within most capture).course
+    blameless_first Left f (comes_within most capture).course
     (calling_so c local begin end turns capture most fresh run octets seen few) (some_told most capture t f was_fed judged told)
 
 pub returns-clause-both_at_a_judge : goal.returns-clause-both_at_a_judge
 returns-clause-both_at_a_judge c = λ mine theirs begin end called_begin called_end turns called_turns capture most t octets fresh run seen
     called_fresh called_run called_seen few was_fed judged.
     neither_first (first_in t) (comes_within most capture).course.past
-    (λ f. first_of_ends Left f (comes_within most capture).course
+    (λ f. blameless_first Left f (comes_within most capture).course
     (calling_so c mine begin end turns capture most fresh run octets seen few))
-    (λ f. first_of_ends Right f (comes_within most capture).course
+    (λ f. blameless_first Right f (comes_within most capture).course
     (called_so c theirs called_begin called_end called_turns capture most called_fresh called_run octets called_seen few))
     (first_told most capture t was_fed judged)
 
 pub returns-clause-called_nowhere : goal.returns-clause-called_nowhere
 returns-clause-called_nowhere c = λ local begin end turns capture most i j fresh run octets seen few quiet there.
-    search (arith, of_none, none_of_ends, called_so c local begin end turns capture most fresh run octets seen few)
+    none_among Right (comes_within most capture).course.sessions i j
+    (called_so c local begin end turns capture most fresh run octets seen few).never.now there
 
 pub returns-clause-calling_nowhere : goal.returns-clause-calling_nowhere
 returns-clause-calling_nowhere c = λ local begin end turns capture most i j fresh run octets seen few quiet there.
-    search (arith, of_none, none_of_ends, calling_so c local begin end turns capture most fresh run octets seen few)
+    none_among Left (comes_within most capture).course.sessions i j
+    (calling_so c local begin end turns capture most fresh run octets seen few).never.now there

@@ -1,6 +1,5 @@
-use Rattle.std.proofs.Common.{arith}
-use Rattle.osi_blameless.proofs.Vocabulary.{AsSent, said_again, SpduLaws, all_proper, Known, can_begin}
-use Rattle.osi_blameless.proofs.sessions.no_end_is_to_blame_after_a_break.{called_later, calling_later}
+use Rattle.osi_blameless.proofs.Vocabulary.{AsSent, said_again, SpduLaws, all_proper, Known, can_begin, Left, Right, comes_to}
+use Rattle.osi_blameless.proofs.sessions.no_end_is_ever_to_blame.{called_blameless, calling_blameless, none_among}
 use Rattle.osi_blameless.proofs.laws.no_session_of_an_end_is_to_blame_after_a_break.Goals as goal
 
 -- what the laws of messages and of units state
@@ -21,9 +20,12 @@ known c =
 
 pub returns-clause-called : goal.returns-clause-called
 returns-clause-called c = λ local begin end turns capture i j fresh run octets seen few there.
-    called_later (known c) (as_sent c) c.what_leaves_in_parts.ensures.read c.an_honest_session_is_explained.ensures.caller
-    c.an_honest_session_is_explained.ensures.called local capture begin end turns i j fresh run octets seen few there
+    none_among Right (comes_to capture).course.sessions i j
+    (called_blameless (known c) (as_sent c) c.what_leaves_in_parts.ensures.read c.an_honest_session_is_explained.ensures.caller
+    c.an_honest_session_is_explained.ensures.called local capture begin end turns fresh run octets seen few).never.now there
 
 pub returns-clause-calling : goal.returns-clause-calling
 returns-clause-calling c = λ local begin end turns capture i j fresh run octets seen few there.
-    search (arith, calling_later, known, as_sent)
+    none_among Left (comes_to capture).course.sessions i j
+    (calling_blameless (known c) (as_sent c) c.what_leaves_in_parts.ensures.read c.an_honest_session_is_explained.ensures.caller
+    c.an_honest_session_is_explained.ensures.called local capture begin end turns fresh run octets seen few).never.now there

@@ -5,5 +5,5 @@ use Rattle.osi_judge.proofs.sessions.Sessions.ask_new.Goals as goal
 
 pub returns-clause-ok : goal.returns-clause-ok
 returns-clause-ok c s j place h hj le =
-    let r = one_more c.args.self.now.live.items c.args.self.now.done.items s place c.args.connection j le hj h.live h.done in
+    let r = one_more c.args.self.now.live.items c.args.self.now.done s place c.args.connection j le hj h.live h.done in
     grind (arith, room_placed place j s (slice_get s.live place) c.args.self.now.room h.room)

@@ -9,7 +9,7 @@ pub returns-then-place-count_of-clause-ok : goal.returns-then-place-count_of-cla
 returns-then-place-count_of-clause-ok c s h =
     let same = ap length c.deref.ensures.value in
     let le : length c.args.self.now.live.items ≤ c.args.place = omega arith in
-    let r = none_changed c.args.self.now.live.items c.args.self.now.done.items s c.args.place
+    let r = none_changed c.args.self.now.live.items c.args.self.now.done s c.args.place
     (meant c.args.direction c.args.at (value c.args.unit.now) c.args.meaning) le h.live h.done in
     grind (arith, room_changed)
 
@@ -18,7 +18,7 @@ returns-clause-ok c =
     on_ok c.mean.result c.mean.ensures.ok (λ k s h.
     let same = ap length c.deref.ensures.value in
     let lt : c.args.place < length c.args.self.now.live.items = omega arith in
-    let r = one_changed c.args.self.now.live.items c.args.self.now.done.items s c.args.place c.index_mut.result.now c.mean.new.connection
+    let r = one_changed c.args.self.now.live.items c.args.self.now.done s c.args.place c.index_mut.result.now c.mean.new.connection
     (meant c.args.direction c.args.at (value c.args.unit.now) c.args.meaning) lt
     (λ j hj. k j (subst (λ (x : Connection). HoldsJoined x j) (sym c.index_mut.ensures.value) hj)) h.live h.done in
     record {

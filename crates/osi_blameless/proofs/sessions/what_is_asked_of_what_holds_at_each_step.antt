@@ -1,0 +1,154 @@
+-- What is asked of what holds of an end and a judge at each step, by which nobody of the end is to blame as long as one class is not selected;
+-- and what each unit is while all that passes is judged.
+-- For the laws that no session of an end is to blame.
+use Rattle.osi_blameless.proofs.Vocabulary.{◌≡◌, ◌≢◌, ◌∙◌, ◌⊎◌, refl, ap, ℕ, ◌^◌, ◌<◌, ◌≤◌, Bool, false, if◌then◌else◌}
+use Rattle.osi_blameless.proofs.Vocabulary.{List, [], ◌∷◌, ◌++◌, length, Some, is_some, arith, slice_get}
+use Rattle.osi_blameless.proofs.Vocabulary.{length-append, Value, Class, Two, Local, Capture, other, Direction}
+use Rattle.osi_blameless.proofs.Vocabulary.{TooMany, is_stopped, takes, packet, unit, IsFirm, Holding, Deeds}
+use Rattle.osi_blameless.proofs.Vocabulary.{no_deeds, then_did, IsFresh, Turn, Cause, Joined, spoken, marked}
+use Rattle.osi_blameless.proofs.Vocabulary.{marks_of, moved, unit_passes, units_pass, unread, unread_mark, unread_moment}
+use Rattle.osi_blameless.proofs.Vocabulary.{way_of, heard, after, Joint, Step, Steps, TakesTurn, begin, begins_other}
+use Rattle.osi_blameless.proofs.Vocabulary.{begins_own, passes_other, passes_own, calls_from}
+use Rattle.osi_rules.specs.Sides as sides
+use Rattle.osi_rules.specs.Traffic.{State as Traffic}
+use Rattle.osi_rules.specs.Traffic as traffic
+use Rattle.osi_fair.specs.Wholes as wholes
+use Rattle.osi_honest.specs.Courses.{Course}
+use Rattle.osi_judge.specs.Courses.{Course as Passed}
+use Rattle.osi_judge.specs.States as states
+use Rattle.osi_blameless.proofs.steps_are_events.{IsFollowed, own_first}
+use Rattle.osi_blameless.proofs.no_unit_of_a_whole_end_is_a_break.{IsFair}
+use Rattle.osi_blameless.proofs.all_is_judged_or_nothing.{IsJudged}
+use Rattle.osi_blameless.proofs.what_passes_keeps_a_claim.{IsClaim, after_kept, step_kept, units_kept}
+use Rattle.osi_blameless.proofs.what_the_turns_among_steps_do.{TurnDoes}
+use Rattle.osi_blameless.proofs.sessions.a_unit_after_a_dr_is_for_a_closing_connection.{IsAfterDr}
+use Rattle.osi_blameless.proofs.sessions.nobody_of_a_side_is_to_blame.{NoneIsToBlame, moment, unit_past}
+use Rattle.osi_blameless.proofs.sessions.connections_have_the_same_places.{marked_traffic, unit_knows}
+use Rattle.osi_blameless.proofs.sessions.each_step_leaves_class_0_one_connection.{Sure, class_stays}
+use Rattle.osi_blameless.proofs.sessions.steps_of_either_class_leave_all_standing.{IsRight, IsTolerable}
+
+-- ---- what is asked of what holds at each step
+
+-- the courses of all connections of an end
+abbrev pub HaveCourses : Direction → (ℕ → Deeds) → Joint → Type 0
+HaveCourses d deeds j = (r : ℕ) → Course (calls_from d) r (deeds r) j.holding.end
+
+-- A unit of the other side breaks no rule, or its taker passes over that, or it comes after a DR; and it is not one connection too many,
+-- and this class is not selected.
+pub record IsPassed (barred : Class) (d : Direction) (v : Value) (c : Passed) : Type 0 where
+  pub taken : IsTolerable (other d) v c ⊎ IsAfterDr (other d) v c
+  pub firm : IsFirm c.traffic.course
+  pub not : c.traffic.course.class ≡ Some barred → ⊥
+  pub sure : Sure c
+  pub few : (takes (way_of (other d)) v c.traffic).told.finding ≢ TooMany
+
+abbrev pub ArePassed : (barred : Class) (d : Direction) (at : ℕ) → List Value → Passed → Type 0
+ArePassed barred d at [] c = Unit {0}
+ArePassed barred d at (v ∷ vs) c = IsPassed barred d v c × ArePassed barred d at vs (unit_passes (other d) at v c)
+
+-- It holds at the beginning, and each step keeps it as long as nobody breaks a rule and this class is not selected. Then nobody of the end
+-- is to blame, also after each unit of a packet of the other side.
+pub record KeepsUnless (barred : Class) (d : Direction) (local : Local) (Inv : (ℕ → Deeds) → Joint → Type 0) : Type 0 where
+  pub begins : (h : Holding) → IsFresh (calls_from d) local h → Inv (λ r. no_deeds) (begin h)
+  pub own_begins : (deeds : ℕ → Deeds) (old new : Joint) → Steps d begins_own old new → HaveCourses d deeds old →
+      ((i : ℕ) (j : Joined) → slice_get old.course.sessions.live i ≡ Some j → length (heard (spoken (other d) j)) < 2 ^ 64) →
+      Inv deeds old → Inv deeds new
+  pub other_begins : (deeds : ℕ → Deeds) (old new : Joint) → Steps d begins_other old new → Inv deeds old → Inv deeds new
+  pub own_passes : (deeds : ℕ → Deeds) (at : ℕ) (v : Value) (old new : Joint) → Steps d (passes_own at v) old new →
+      IsRight d v old.course → IsFirm old.course.traffic.course → Sure old.course →
+      (old.course.traffic.course.class ≡ Some barred → ⊥) → (new.course.traffic.course.class ≡ Some barred → ⊥) → Inv deeds old →
+      Inv deeds new
+  pub other_passes : (deeds : ℕ → Deeds) (at : ℕ) (octets : List ℕ) (units : List Value) (old new : Joint) →
+      Steps d (passes_other at octets units) old new → ArePassed barred d at units old.course → Inv deeds old → Inv deeds new
+  pub turn : (turn : Turn) (old new : Joint) (t : TakesTurn turn old new) (deeds : ℕ → Deeds)
+      (does : TurnDoes (calls_from d) deeds turn old new t) → IsFollowed d (wholes.begin (calls_from d) local) old →
+      IsFollowed d (wholes.begin (calls_from d) local) new → IsFirm old.course.traffic.course →
+      (old.course.traffic.course.class ≡ Some barred → ⊥) → Inv deeds old → Inv (λ r. then_did (deeds r) (does.of.on.more r)) new
+  pub none : (deeds : ℕ → Deeds) (j : Joint) → HaveCourses d deeds j → Inv deeds j → NoneIsToBlame d j.course.sessions
+  pub none_amid : (deeds : ℕ → Deeds) (at : ℕ) (octets : List ℕ) (front back : List Value) (old new : Joint) →
+      Steps d (passes_other at octets (front ++ back)) old new → HaveCourses d deeds old → ArePassed barred d at front old.course →
+      Inv deeds old → NoneIsToBlame d (units_pass (other d) at front old.course).sessions
+
+-- no unit comes after a DR while class 2 is not selected
+pub early : (d : Direction) (v : Value) (c : Passed) → IsPassed Two d v c → IsTolerable (other d) v c
+early d v c h = grind arith
+
+-- ---- what stays, whatever passes
+
+-- a class stays selected
+class_bad : (k : Class) (b : Bool) (d : Direction) (at : ℕ) (cause : Cause) (c : Passed) → c.traffic.course.class ≡ Some k →
+    (if b then c else marked (unread_mark d at cause) (traffic.refused_reach (way_of d) c.traffic)
+    (moved (unread_moment d at cause c.sessions) (record c { traffic = traffic.refused (way_of d) c.traffic }))).traffic.course.class
+    ≡ Some k
+class_bad k b d at cause c h = grind (arith, marked_traffic, class_stays)
+
+pub class_claim : (k : Class) → IsClaim (λ c. c.traffic.course.class ≡ Some k)
+class_claim k = record {
+  begins = λ d c h. class_stays k (packet (way_of d)) c.traffic h;
+  passes = λ d at v c h.
+      ap (λ (s : Traffic). s.course.class) (unit_knows d at v c) ∙ class_stays k (unit (way_of d) v) c.traffic h;
+  bad = λ d at cause c h. class_bad k (is_some (marks_of d c).halted) d at cause c h;
+}
+
+-- no moment is lost
+pub long_claim : (n : ℕ) → IsClaim (λ c. n ≤ length c.past)
+long_claim n = grind (arith, unit_past, length-append, moment)
+
+-- this class is not selected, and fewer units have passed than a judge counts
+pub record IsWithout (barred : Class) (c : Passed) : Type 0 where
+  pub not : c.traffic.course.class ≡ Some barred → ⊥
+  pub few : length c.past < 2 ^ 64
+
+module _ (barred : Class) where
+  abbrev IsSelected : Passed → Type 0
+  IsSelected c = c.traffic.course.class ≡ Some barred
+
+  without_before : (c new : Passed) → (IsSelected c → IsSelected new) → length c.past ≤ length new.past → IsWithout barred new →
+      IsWithout barred c
+  without_before c new stays longer h = grind arith
+
+  pub step_without : (d : Direction) (step : Step) (old new : Joint) → Steps d step old new → IsWithout barred new.course →
+      IsWithout barred old.course
+  step_without d step old new does h =
+      without_before old.course new.course (step_kept IsSelected (class_claim barred) d step old new does)
+      (step_kept (λ c. length old.course.past ≤ length c.past) (long_claim (length old.course.past)) d step old new does (omega arith)) h
+
+  pub after_without : (capture : Capture) (s : states.State) → IsWithout barred (after capture s).course → IsWithout barred s.course
+  after_without capture s h =
+      without_before s.course (after capture s).course (after_kept IsSelected (class_claim barred) capture s)
+      (after_kept (λ c. length s.course.past ≤ length c.past) (long_claim (length s.course.past)) capture s (omega arith)) h
+
+  pub unread_without : (d : Direction) (at : ℕ) (cause : Cause) (c : Passed) → IsWithout barred (unread d at cause c) → IsWithout barred c
+  unread_without d at cause c h = grind (arith, without_before, class_claim barred, long_claim (length c.past))
+
+  pub units_not : (d : Direction) (at : ℕ) (vs : List Value) (c : Passed) → (IsSelected (units_pass d at vs c) → ⊥) → IsSelected c → ⊥
+  units_not d at vs c not is = not (units_kept IsSelected (class_claim barred) d at vs c is)
+
+-- ---- units
+
+pub units_join : (d : Direction) (at : ℕ) (xs ys : List Value) (c : Passed) →
+    units_pass d at (xs ++ ys) c ≡ units_pass d at ys (units_pass d at xs c)
+units_join d at [] ys c = refl
+units_join d at (x ∷ xs) ys c = units_join d at xs ys (unit_passes d at x c)
+
+pub passed_then : (barred : Class) (d : Direction) (at : ℕ) (xs : List Value) (v : Value) (c : Passed) → ArePassed barred d at xs c →
+    IsPassed barred d v (units_pass (other d) at xs c) → ArePassed barred d at (xs ++ v ∷ []) c
+passed_then barred d at [] v c h k = (k, tt)
+passed_then barred d at (x ∷ xs) v c h k = (h.0, passed_then barred d at xs v (unit_passes (other d) at x c) h.1 k)
+
+-- both sides are judged
+pub firm_so : (c : Passed) → IsJudged c → IsFirm c.traffic.course
+firm_so c j = record { firm = j.firm; left = j.left; right = j.right }
+
+pub goes_so : (e : Direction) (c : Passed) → IsJudged c → is_stopped (way_of e) c.traffic.course ≡ false
+goes_so e c j = grind arith
+
+-- a unit of the end is no break: it is fair
+pub own_right : (d : Direction) (local : Local) → IsFair (way_of d) (wholes.begin (calls_from d) local) → (at : ℕ) (v : Value)
+    (old new : Joint) → Steps d (passes_own at v) old new → IsFollowed d (wholes.begin (calls_from d) local) old →
+    IsJudged old.course → IsRight d v old.course
+own_right d local fair at v old new (read, octets, put, begun, is) f j =
+    let s = own_first d (wholes.begin (calls_from d) local) old new v (read, octets, put) f in
+    let found = fair f.events f.whole v s.rest f.along (f.begun ∙ begun) s.is
+    (ap (λ (t : Traffic). is_stopped (sides.other (way_of d)) t.course) f.judge ∙ (grind arith)) in
+    grind (arith, goes_so)
