@@ -98,8 +98,8 @@ pub fn the_transport_of_an_end_is_blamed_nowhere()
     a_capture_of_an_end_is_steps();
 }
 
-/// The session of an end is not to blame for what a judge shows of it. Take a connection of an end, with what was done there, and what a
-/// judge has joined of it ([`IsShownOf`]): of the own side some of what the session sent, each TSDU after those that the session had
+/// The session of an end is not to blame for what a capture shows of it. Take a connection of an end, with what was done there, and what
+/// a judge has joined of it ([`IsShownOf`]): of the own side some of what the session sent, each TSDU after those that the session had
 /// taken when it sent it; and of the other side what the session took, or more. Then the session of this side neither broke the protocol
 /// nor left the profile, in either class and among any number of other connections.
 ///
@@ -114,10 +114,10 @@ pub fn a_session_that_is_shown_is_not_to_blame()
     an_honest_session_is_explained();
 }
 
-/// What a judge shows of a session goes on so ([`IsShownNow`]), packet by packet. A packet of the end begins that has a DT of the
+/// What a capture shows of a session goes on so ([`IsShownNow`]), packet by packet. A packet of the end begins that has a DT of the
 /// connection (`part_begins`), or has none (`own_begins`); and passes (`part_passes`, `none_passes`). A packet of the other side begins,
-/// and a DT of it passes (`other_begins`, `other_passes`). And the session takes some of what is in flight, and says more (`turns`).
-/// It is assumed that fewer than 2^64 TSDUs of the other side have passed on the connection: a judge counts no further.
+/// and a DT of it passes (`other_begins`, `other_passes`). And the session takes some of what is in flight, and says more (`turns`). It
+/// is assumed that fewer than 2^64 TSDUs of the other side have passed on the connection: a judge counts no further.
 ///
 /// [`IsShownNow`]: ../specs/Shown.antt
 pub fn what_a_judge_shows_goes_on()

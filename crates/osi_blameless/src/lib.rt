@@ -14,13 +14,13 @@
 //!   doesn't change it: [`laws::the_transport_of_an_end_is_never_blamed_first`].
 //! - **Nor is it blamed after the first break**, called or calling, in either class: what a break of the other side leaves to be judged
 //!   of the end is right, or not judged, or beyond what the rules look at: [`laws::the_transport_of_an_end_is_blamed_nowhere`].
-//! - **The session of an end is not to blame for what a judge shows of it.** `IsShownOf` (`specs/Shown`) says what a judge has joined of a
-//!   connection beside what was done there: [`laws::a_session_that_is_shown_is_not_to_blame`]. It goes on so packet by packet:
+//! - **The session of an end is not to blame for what a capture shows of it.** `IsShownOf` (`specs/Shown`) says what a judge has joined of
+//!   a connection beside what was done there: [`laws::a_session_that_is_shown_is_not_to_blame`]. It goes on so packet by packet:
 //!   [`laws::what_a_judge_shows_goes_on`]. A unit is joined at the place that the rules of transport tell:
-//!   [`laws::connections_have_the_same_places`]. In either class, steps of a `Joint` leave this so of all its connections
-//!   (`Standing` in `proofs/sessions`), if nobody breaks a rule, the end takes at each connection the first of what is in flight to
-//!   it, and what it puts in a turn is for the connections that put it. Lemmas there say so of a calling end and of a called end in
-//!   class 2; and of both until class 2 is selected, so in class 0 too.
+//!   [`laws::connections_have_the_same_places`]. In either class, steps of a `Joint` leave this so of all its connections (`Standing` in
+//!   `proofs/sessions`), if nobody breaks a rule, the end takes at each connection the first of what is in flight to it, and what it puts
+//!   in a turn is for the connections that put it. Lemmas there say so of a calling end and of a called end in class 2; and of both until
+//!   class 2 is selected, so in class 0 too.
 //! - **No session of an end is blamed first**, called or calling, in either class, with any number of connections. At each step of a
 //!   `Joint` from the beginning these premises hold as long as nobody breaks a rule, so the first break of all, of transport or of a
 //!   session, is of the other side: [`laws::no_session_of_an_end_is_blamed_first`].

@@ -1,5 +1,5 @@
 -- A session has said each TSDU of which a unit was put, and by then it had taken no more than its link has handed out.
--- For what a judge shows of a session.
+-- For what a capture shows of a session.
 use Rattle.osi_blameless.proofs.Vocabulary.{[], ap, arith, Bool, false, length, List, refl, subst, suc, sym, true, ℕ, ◌++◌}
 use Rattle.osi_blameless.proofs.Vocabulary.{◌+◌, ◌∙◌, ◌∷◌, ◌≡◌, ◌≤◌, flat_map-append, length-append, length-map, AllByRecursion, Value}
 use Rattle.osi_blameless.proofs.Vocabulary.{at_some, move_keeps, all as all_sent, Ends, Standing, give_out, hand_in, hand_out, Move}

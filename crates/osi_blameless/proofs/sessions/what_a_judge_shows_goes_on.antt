@@ -1,5 +1,5 @@
--- What a judge shows of a session as packets of both sides begin and pass, and as the end does more.
--- For the law on a connection of an end and a judge.
+-- What a capture shows of a session as packets of both sides begin and pass, and as the end does
+-- more. For the law on a connection of an end and a judge.
 use Rattle.osi_blameless.proofs.Vocabulary.{[], ap, append_assoc, arith, Bool, false, length, List, map, None, Option, refl, Some, subst}
 use Rattle.osi_blameless.proofs.Vocabulary.{sym, true, ℕ, ◌++◌, ◌+◌, ◌<◌, ◌^◌, ◌∙◌, ◌∷◌, ◌≡◌, ◌≤◌, flat_map-append, append-nil}
 use Rattle.osi_blameless.proofs.Vocabulary.{length-append, length-map, map-append, AllByRecursion, offset_of, Value, parts_in, tsdus_out}
