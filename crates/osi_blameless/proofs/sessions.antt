@@ -81,7 +81,6 @@ pub mod a_turn_of_a_calling_end_until_class_2
 pub mod nobody_of_a_calling_end_is_to_blame_until_class_2
 pub mod no_calling_end_is_blamed_first_in_class_0
 pub mod no_connection_is_opened_before_a_class_is_selected
-pub mod what_is_asked_after_a_loss
 pub mod no_session_of_a_called_end_breaks_first
 pub mod a_called_end_hears_what_comes_until_class_2
 pub mod a_called_end_stands_in_class_0
@@ -98,11 +97,12 @@ pub mod what_a_link_has_begun_is_left_over
 pub mod a_dt_that_is_too_long_stays_so
 pub mod an_end_of_class_0_has_begun_what_a_judge_has_joined
 pub mod the_first_units_of_a_packet_are_a_packet
-pub mod an_end_beside_a_judge_that_judges_all
+pub mod an_end_beside_a_judge
 pub mod an_end_goes_on_as_if_no_break_had_come
 pub mod a_break_in_class_0_leaves_an_end_alone
-pub mod no_session_of_an_end_is_to_blame
-pub mod no_session_of_an_end_is_to_blame_after_a_loss
+pub mod each_step_keeps_an_end_blameless
+pub mod no_session_is_to_blame_unless_class_2_is_selected
+pub mod no_session_is_to_blame_unless_class_0_is_selected
 pub mod a_loss_is_in_class_2_at_a_judge
 pub mod no_end_is_ever_to_blame
 pub mod what_is_judged_within_a_bound

@@ -33,7 +33,7 @@ use Rattle.osi_blameless.proofs.sessions.steps_of_either_class_leave_all_standin
 use Rattle.osi_blameless.proofs.sessions.the_dr_of_the_other_side_is_in_flight.{first_shut}
 use Rattle.osi_blameless.proofs.sessions.units_written_alike_have_the_same_ccs.{AnswersTwo, first_not_zero}
 use Rattle.osi_blameless.proofs.sessions.what_stands_of_a_connection.{Known}
-use Rattle.osi_blameless.proofs.sessions.what_is_asked_after_a_loss.{AreTakenOn, KeepsThroughout}
+use Rattle.osi_blameless.proofs.sessions.what_is_asked_of_what_holds_at_each_step.{ArePassed, Keeps}
 
 none_two : (k : Option Class) → k ≡ None → k ≡ Some Two → ⊥
 none_two k none two = let no : None ≡ Some Two = sym none ∙ two in cc
@@ -54,7 +54,7 @@ module _ (deeds : ℕ → Deeds) (known : Known) (put : List Value) (b : Bool) w
 
 -- ---- a packet of the calling side
 
-fine_of : (at : ℕ) (vs : List Value) (c : Passed) → AreTakenOn Right at vs c → AreFine at vs c
+fine_of : (at : ℕ) (vs : List Value) (c : Passed) → ArePassed Zero Right at vs c → AreFine at vs c
 fine_of at [] c h = tt
 fine_of at (v ∷ vs) c h = search (arith, fine_of at vs (unit_passes Left at v c) h.1)
 
@@ -125,7 +125,7 @@ module _ (local : Local) (proper : AllProper) where
   own_passes deeds at v old new step fine clear then_two (inr h) = none_passes at v old new step clear then_two h
 
   other_passes : (deeds : ℕ → Deeds) (at : ℕ) (octets : List ℕ) (units : List Value) (old new : Joint) →
-      Steps Right (passes_other at octets units) old new → AreTakenOn Right at units old.course →
+      Steps Right (passes_other at octets units) old new → ArePassed Zero Right at units old.course →
       StandsCalled local proper deeds old ⊎ HasSelected old → StandsCalled local proper deeds new ⊎ HasSelected new
   other_passes deeds at octets units old new step taken (inl h) =
       inl (passes_other_stands local proper deeds at octets units old new step (fine_of at units old.course taken) h)
@@ -191,7 +191,7 @@ module _ (local : Local) (proper : AllProper) where
     nobody deeds j courses (inr h) = mute_none Right j.course.sessions h.mute
 
     nobody_amid : (deeds : ℕ → Deeds) (at : ℕ) (front : List Value) (old : Joint) → HaveCourses Right deeds old →
-        AreTakenOn Right at front old.course → StandsCalled local proper deeds old ⊎ HasSelected old →
+        ArePassed Zero Right at front old.course → StandsCalled local proper deeds old ⊎ HasSelected old →
         NoneIsToBlame Right (units_pass Left at front old.course).sessions
     nobody_amid deeds at front old courses taken (inr h) = grind (arith, mute_none, mute_units)
     nobody_amid deeds at front old courses taken (inl h) =
@@ -203,7 +203,7 @@ module _ (local : Local) (proper : AllProper) where
         stand_none known_of parts caller called Right deeds old.put old.begun old.holding.end courses
         (known_from live (units_in old.coming ++ front)) after.traffic after.sessions k.all.stand
 
-    pub called_keeps : KeepsThroughout Right local StandsOrSelected
+    pub called_keeps : Keeps Zero Right local StandsOrSelected
     called_keeps = record {
       begins = stands_first;
       own_begins = λ deeds old new step courses few h. record {

@@ -24,7 +24,7 @@ use Rattle.osi_blameless.proofs.sessions.steps_of_either_class_leave_all_standin
 use Rattle.osi_blameless.proofs.sessions.the_dr_of_the_other_side_is_in_flight.{first_shut}
 use Rattle.osi_blameless.proofs.sessions.what_has_come_before_a_cc.{AreQuiet, begin_quiet, begins_other_quiet, begins_own_quiet}
 use Rattle.osi_blameless.proofs.sessions.what_has_come_before_a_cc.{passes_other_quiet, passes_own_quiet, turns_quiet}
-use Rattle.osi_blameless.proofs.sessions.what_is_asked_after_a_loss.{AreTakenOn, KeepsThroughout}
+use Rattle.osi_blameless.proofs.sessions.what_is_asked_of_what_holds_at_each_step.{ArePassed, Keeps}
 use Rattle.osi_blameless.proofs.sessions.what_stands_of_a_connection.{Known}
 
 -- ---- at the beginning
@@ -37,7 +37,7 @@ standing_first known h = grind (arith, fresh_apart, no_item)
 
 -- ---- a packet of the called side
 
-fine_of : (at : ℕ) (vs : List Value) (c : Passed) → AreTakenOn Left at vs c → AreFine at vs c
+fine_of : (at : ℕ) (vs : List Value) (c : Passed) → ArePassed Zero Left at vs c → AreFine at vs c
 fine_of at [] c h = tt
 fine_of at (v ∷ vs) c h = grind (arith, fine_of at vs (unit_passes Right at v c) h.1)
 
@@ -56,7 +56,7 @@ module _ (local : Local) (two : local.class2 ≡ true) (proper : AllProper) wher
   own_passes deeds at v old new step fine clear then_two h = search (arith, passes_own_stands, passes_own_quiet)
 
   other_passes : (deeds : ℕ → Deeds) (at : ℕ) (octets : List ℕ) (units : List Value) (old new : Joint) →
-      Steps Left (passes_other at octets units) old new → AreTakenOn Left at units old.course → StandsQuiet deeds old →
+      Steps Left (passes_other at octets units) old new → ArePassed Zero Left at units old.course → StandsQuiet deeds old →
       StandsQuiet deeds new
   other_passes deeds at octets units old new step taken h = search (arith, fine_of, passes_other_stands, passes_other_quiet)
 
@@ -83,7 +83,7 @@ module _ (local : Local) (two : local.class2 ≡ true) (proper : AllProper) wher
 
     -- after some units of a packet
     nobody_amid : (deeds : ℕ → Deeds) (at : ℕ) (octets : List ℕ) (front back : List Value) (old new : Joint) →
-        Steps Left (passes_other at octets (front ++ back)) old new → HaveCourses Left deeds old → AreTakenOn Left at front old.course →
+        Steps Left (passes_other at octets (front ++ back)) old new → HaveCourses Left deeds old → ArePassed Zero Left at front old.course →
         StandsQuiet deeds old → NoneIsToBlame Left (units_pass Right at front old.course).sessions
     nobody_amid deeds at octets front back old new (all_octets, read, is) courses taken all =
         let h = all.stands in
@@ -98,7 +98,7 @@ module _ (local : Local) (two : local.class2 ≡ true) (proper : AllProper) wher
         stand_none known_of parts caller called Left deeds old.put old.begun old.holding.end courses
         (known_from live (units_in old.coming ++ front)) after.traffic after.sessions k.stand
 
-    pub calling_keeps : KeepsThroughout Left local StandsQuiet
+    pub calling_keeps : Keeps Zero Left local StandsQuiet
     calling_keeps = record {
       begins = stands_first;
       own_begins = λ deeds old new step courses few h. search (arith, begins_own_stands, begins_own_quiet);
