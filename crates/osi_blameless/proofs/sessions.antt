@@ -35,7 +35,8 @@ pub mod a_turn_does_what_its_deeds_say
 pub mod units_written_alike_are_for_the_same
 pub mod a_cc_comes_before_what_is_put_for_it
 pub mod crs_that_wait_are_above_those_that_passed
-pub mod each_cr_that_passes_gives_a_new_reference
+pub mod ccs_that_wait_are_above_those_that_passed
+pub mod each_reference_of_an_end_is_new
 pub mod nothing_is_done_before_a_cr_passes
 pub mod a_unit_after_a_dr_leaves_all_standing
 pub mod what_an_end_takes_at_each_stage
@@ -53,9 +54,7 @@ pub mod each_unit_of_a_calling_end_has_a_home
 pub mod a_called_end_has_its_lines
 pub mod a_called_end_of_class_2_puts_no_dt_of_class_0
 pub mod each_unit_of_a_called_end_has_a_home
-pub mod ccs_that_wait_are_above_those_that_passed
 pub mod units_written_alike_have_the_same_ccs
-pub mod each_cc_that_passes_gives_a_new_reference
 pub mod nothing_comes_before_a_cc_passes
 pub mod each_cc_of_a_called_end_opens_another_connection
 pub mod a_called_end_of_class_2_has_its_lines

@@ -18,7 +18,7 @@ use Rattle.osi_blameless.proofs.sessions.a_unit_is_joined_where_it_is_named.{joi
 use Rattle.osi_blameless.proofs.sessions.nobody_of_a_side_is_to_blame.{NoneIsToBlame}
 use Rattle.osi_blameless.proofs.sessions.all_connections_stand.{AllStand, Loses, all_room}
 use Rattle.osi_blameless.proofs.sessions.connections_have_the_same_places.{at_same, unit_joins, unit_knows}
-use Rattle.osi_blameless.proofs.sessions.each_cr_that_passes_gives_a_new_reference.{AreUpTo, unit_up}
+use Rattle.osi_blameless.proofs.sessions.each_reference_of_an_end_is_new.{AreUpTo, unit_up}
 use Rattle.osi_blameless.proofs.sessions.nothing_comes_before_a_cc_passes.{IsBelow, left_below}
 use Rattle.osi_blameless.proofs.sessions.nothing_is_done_before_a_cr_passes.{known_from}
 use Rattle.osi_blameless.proofs.sessions.references_of_an_end_are_distinct.{AreDistinct, stays_so, unit_distinct}

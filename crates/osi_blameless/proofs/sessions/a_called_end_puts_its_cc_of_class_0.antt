@@ -21,7 +21,8 @@ use Rattle.osi_blameless.proofs.sessions.a_calling_end_stands_as_units_pass.{kno
 use Rattle.osi_blameless.proofs.sessions.a_turn_after_which_a_cc_of_class_0_waits.{dts_after, no_cc_taken, turns_waiting}
 use Rattle.osi_blameless.proofs.sessions.a_turn_of_a_calling_end_until_class_2.{early_lasts}
 use Rattle.osi_blameless.proofs.sessions.all_connections_stand.{AllStand}
-use Rattle.osi_blameless.proofs.sessions.each_cc_that_passes_gives_a_new_reference.{GoesOn, turns_ahead, waits_above}
+use Rattle.osi_blameless.proofs.sessions.each_reference_of_an_end_is_new.{GoesOn, turns_ahead}
+use Rattle.osi_blameless.proofs.sessions.a_called_end_is_ready.{waits_above}
 use Rattle.osi_blameless.proofs.sessions.each_step_leaves_class_0_one_connection.{Sure}
 use Rattle.osi_blameless.proofs.sessions.each_unit_of_a_calling_end_has_a_home.{IsWrittenAs}
 use Rattle.osi_blameless.proofs.sessions.no_connection_is_opened_before_a_class_is_selected.{AreUncalled, UncalledUntil}
@@ -100,8 +101,8 @@ module _ (local : Local) (proper : AllProper) (turn : Turn) (old new : Joint) (t
   abbrev then_end : Carrier
   then_end = new.holding.end.carrier
 
-  abbrev pub ahead : GoesOn (first local) h.called.ahead.bound new
-  ahead = turns_ahead (first local) proper turn old new t h.called.ahead
+  abbrev pub ahead : GoesOn Right (first local) h.called.ahead.bound new
+  ahead = turns_ahead Right (first local) proper turn old new t h.called.ahead
 
   abbrev f : IsFollowed Right (first local) new
   f = ahead.ahead.followed

@@ -21,7 +21,7 @@ use Rattle.osi_blameless.proofs.sessions.a_turn_does_what_its_deeds_say.{units_j
 use Rattle.osi_blameless.proofs.sessions.a_turn_leaves_all_standing.{Turns}
 use Rattle.osi_blameless.proofs.sessions.all_connections_stand.{all_room}
 use Rattle.osi_blameless.proofs.sessions.connections_have_the_same_places.{at_same, unit_joins}
-use Rattle.osi_blameless.proofs.sessions.each_cc_that_passes_gives_a_new_reference.{gives_new}
+use Rattle.osi_blameless.proofs.sessions.each_reference_of_an_end_is_new.{gives_new}
 use Rattle.osi_blameless.proofs.sessions.each_unit_of_a_turn_has_one_connection.{puts_wait}
 use Rattle.osi_blameless.proofs.sessions.nothing_is_done_before_a_cr_passes.{known_from, may_take}
 use Rattle.osi_blameless.proofs.sessions.references_of_an_end_are_distinct.{AreDistinct, begins_distinct, unit_distinct}
@@ -93,7 +93,7 @@ module _ (local : Local) (proper : AllProper) where
             h.standing;
         distinct = subst (AreDistinct Right) (sym (unit_joins Right at unit old.course))
             (unit_distinct Right Right at unit old.course.traffic old.course.sessions a.places h.distinct
-            (gives_new (first local) at unit old mid step h.called.ahead) (search (arith, all_room, known_at)));
+            (gives_new Right (first local) at unit old mid step h.called.ahead) (search (arith, all_room, known_at)));
         shut = own_passes_shut Right at unit old a.places (search (arith, all_room, known_at)) h.shut;
         can = (subst (AllByRecursion CanBeWritten) put h.can).1;
       })

@@ -34,7 +34,7 @@ use Rattle.osi_blameless.proofs.sessions.a_turn_does_what_its_deeds_say.{turn_le
 use Rattle.osi_blameless.proofs.sessions.a_turn_of_a_called_end_in_class_0.{none_zero, turns_zero}
 use Rattle.osi_blameless.proofs.sessions.nobody_of_a_side_is_to_blame.{NoneIsToBlame}
 use Rattle.osi_blameless.proofs.sessions.connections_have_the_same_places.{Agree, unit_knows}
-use Rattle.osi_blameless.proofs.sessions.each_cc_that_passes_gives_a_new_reference.{turns_ahead}
+use Rattle.osi_blameless.proofs.sessions.each_reference_of_an_end_is_new.{turns_ahead}
 use Rattle.osi_blameless.proofs.sessions.each_step_leaves_class_0_one_connection.{Sure, fresh_sure, sure_claim}
 use Rattle.osi_blameless.proofs.sessions.no_connection_is_opened_before_a_class_is_selected.{UncalledUntil, uncalled_claim}
 use Rattle.osi_blameless.proofs.sessions.no_session_of_a_called_end_breaks_first.{called_first}
@@ -250,7 +250,7 @@ module _ (local : Local) (proper : AllProper) where
       }
 
       turn_by : AllByRecursion AnswersTwo new.put
-          ⊎ Selecting local (turns_ahead (first local) proper turn old new t h.stands.called.ahead).ahead.followed.whole →
+          ⊎ Selecting local (turns_ahead Right (first local) proper turn old new t h.stands.called.ahead).ahead.followed.whole →
           Phase then_deeds new
       turn_by (inl two) = inl (none_turns two)
       turn_by (inr z) =
@@ -259,7 +259,7 @@ module _ (local : Local) (proper : AllProper) where
 
       none_or_selects : Phase then_deeds new
       none_or_selects =
-          turn_by (answers_or_selects local new (turns_ahead (first local) proper turn old new t h.stands.called.ahead).ahead.followed
+          turn_by (answers_or_selects local new (turns_ahead Right (first local) proper turn old new t h.stands.called.ahead).ahead.followed
           (subst (AllByRecursion CanBeWritten) (sym turn_put) (all_more old.put (all_units put) h.stands.can does.of.on.can))
           (subst (λ (c : Passed). IsOngoing c.traffic.course) (sym t.course) (going_on old.course.traffic.course clear))
           (subst Agree (sym t.course) h.stands.standing.all.places))

@@ -21,7 +21,7 @@ use Rattle.osi_blameless.proofs.sessions.a_dt_of_class_0_leaves_all_standing.{Gr
 use Rattle.osi_blameless.proofs.sessions.all_connections_stand.{AllStand, all_room}
 use Rattle.osi_blameless.proofs.sessions.class_0_keeps_its_one_place.{HasOne, IsStill, one_passes, zero_still}
 use Rattle.osi_blameless.proofs.sessions.connections_have_the_same_places.{unit_joins, unit_knows}
-use Rattle.osi_blameless.proofs.sessions.each_cr_that_passes_gives_a_new_reference.{AreUpTo, IsUpTo, IsWithin, unit_up}
+use Rattle.osi_blameless.proofs.sessions.each_reference_of_an_end_is_new.{AreUpTo, IsUpTo, IsWithin, unit_up}
 use Rattle.osi_blameless.proofs.sessions.each_step_leaves_class_0_one_connection.{Sure, is_zero, sure_claim}
 use Rattle.osi_blameless.proofs.sessions.nothing_is_done_before_a_cr_passes.{is_under_way, may_take}
 use Rattle.osi_blameless.proofs.sessions.references_of_an_end_are_distinct.{AreDistinct, GivesNew, unit_distinct}

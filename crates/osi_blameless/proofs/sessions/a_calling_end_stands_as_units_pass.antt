@@ -22,7 +22,7 @@ use Rattle.osi_blameless.proofs.sessions.a_turn_does_what_its_deeds_say.{units_j
 use Rattle.osi_blameless.proofs.sessions.all_connections_stand.{all_room, one_at}
 use Rattle.osi_blameless.proofs.sessions.connections_have_the_same_places.{at_same, unit_joins, unit_knows}
 use Rattle.osi_blameless.proofs.sessions.each_unit_of_a_turn_has_one_connection.{IsMarked, puts_wait}
-use Rattle.osi_blameless.proofs.sessions.each_cr_that_passes_gives_a_new_reference.{gives_new}
+use Rattle.osi_blameless.proofs.sessions.each_reference_of_an_end_is_new.{gives_new}
 use Rattle.osi_blameless.proofs.sessions.nothing_is_done_before_a_cr_passes.{known_from, may_take}
 use Rattle.osi_blameless.proofs.sessions.references_of_an_end_are_distinct.{AreDistinct, begins_distinct, unit_distinct}
 use Rattle.osi_blameless.proofs.sessions.steps_leave_all_standing.{IsProper, Standing, step_begins_other, step_begins_own, step_passes_own}
@@ -83,7 +83,7 @@ module _ (local : Local) (two : local.class2 ≡ true) (proper : AllProper) wher
             h.standing;
         distinct = subst (AreDistinct Left) (sym (unit_joins Left at unit old.course))
             (unit_distinct Left Left at unit old.course.traffic old.course.sessions a.places h.distinct
-            (gives_new _ at unit old mid step h.calling.ahead) (rooms deeds old h));
+            (gives_new Left _ at unit old mid step h.calling.ahead) (rooms deeds old h));
         shut = own_passes_shut Left at unit old a.places (rooms deeds old h) h.shut;
         can = (subst (AllByRecursion CanBeWritten) put h.can).1;
       })

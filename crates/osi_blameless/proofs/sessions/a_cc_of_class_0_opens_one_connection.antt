@@ -17,7 +17,7 @@ use Rattle.osi_blameless.proofs.what_a_taker_passes_over.{IsMild}
 use Rattle.osi_blameless.proofs.sessions.a_unit_is_joined_where_it_is_named.{joined_named}
 use Rattle.osi_blameless.proofs.sessions.class_0_keeps_its_one_place.{HasOne}
 use Rattle.osi_blameless.proofs.sessions.connections_have_the_same_places.{at_same}
-use Rattle.osi_blameless.proofs.sessions.each_cr_that_passes_gives_a_new_reference.{AreUpTo, IsWithin}
+use Rattle.osi_blameless.proofs.sessions.each_reference_of_an_end_is_new.{AreUpTo, IsWithin}
 use Rattle.osi_blameless.proofs.sessions.references_of_an_end_are_distinct.{AreDistinct}
 use Rattle.osi_blameless.proofs.sessions.what_a_unit_does_at_its_place.{Does, asks_again, asks_more, nowhere, somewhere, unit_does}
 

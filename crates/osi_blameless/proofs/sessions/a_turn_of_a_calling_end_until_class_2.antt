@@ -21,7 +21,7 @@ use Rattle.osi_blameless.proofs.sessions.a_turn_does_what_its_deeds_say.{turn_le
 use Rattle.osi_blameless.proofs.sessions.a_turn_leaves_all_standing.{Turns}
 use Rattle.osi_blameless.proofs.sessions.all_connections_stand.{one_at}
 use Rattle.osi_blameless.proofs.sessions.class_0_keeps_its_one_place.{HasOne, still_gone}
-use Rattle.osi_blameless.proofs.sessions.each_cr_that_passes_gives_a_new_reference.{AreUpTo, GoesOn, IsWithin, turns_ahead}
+use Rattle.osi_blameless.proofs.sessions.each_reference_of_an_end_is_new.{AreUpTo, GoesOn, IsWithin, turns_ahead}
 use Rattle.osi_blameless.proofs.sessions.each_step_leaves_class_0_one_connection.{Sure, is_zero}
 use Rattle.osi_blameless.proofs.sessions.each_unit_of_a_calling_end_has_a_home.{IsWrittenAs, written_as}
 use Rattle.osi_blameless.proofs.sessions.nothing_is_done_before_a_cr_passes.{IsNotCc, same_units, turn_undone}
@@ -145,8 +145,8 @@ module _ (local : Local) (proper : AllProper) (turn : Turn) (old new : Joint) (t
   b = h.ahead.bound
 
   -- the whole end goes on
-  g : GoesOn (first local) b new
-  g = turns_ahead (first local) proper turn old new t h.ahead
+  g : GoesOn Left (first local) b new
+  g = turns_ahead Left (first local) proper turn old new t h.ahead
 
   abbrev whole : Whole
   whole = g.ahead.followed.whole
