@@ -44,6 +44,7 @@ pub mod a_calling_end_is_ready
 pub mod a_calling_end_takes_nothing_before_its_cc
 pub mod an_end_takes_what_is_left_for_it
 pub mod a_calling_end_takes_what_is_in_flight
+pub mod an_end_hears_what_breaks_no_rule
 pub mod a_calling_end_hears_what_breaks_no_rule
 pub mod what_has_come_before_a_cc
 pub mod a_calling_end_stands_as_units_pass

@@ -10,7 +10,8 @@ use Rattle.osi_honest.specs.Courses.{Course}
 use Rattle.osi_judge.specs.Courses.{Course as Passed}
 use Rattle.osi_blameless.proofs.small_facts_that_many_lemmas_use.{can_more as all_more}
 use Rattle.osi_blameless.proofs.what_is_put_is_what_is_written.{none_written}
-use Rattle.osi_blameless.proofs.sessions.a_called_end_hears_what_breaks_no_rule.{AreFine, units_heard}
+use Rattle.osi_blameless.proofs.sessions.a_called_end_hears_what_breaks_no_rule.{units_heard}
+use Rattle.osi_blameless.proofs.sessions.an_end_hears_what_breaks_no_rule.{AreFine}
 use Rattle.osi_blameless.proofs.sessions.a_called_end_is_ready.{AreKnown, IsCalled, begins_other_called, begins_own_called, first, is_ready}
 use Rattle.osi_blameless.proofs.sessions.a_called_end_is_ready.{passes_other_called, passes_own_called, turn_homed, turns_called}
 use Rattle.osi_blameless.proofs.sessions.a_called_end_of_class_2_has_its_lines.{has_lines}
@@ -99,16 +100,16 @@ module _ (local : Local) (proper : AllProper) where
       })
 
   pub passes_other_stands : (deeds : ℕ → Deeds) (at : ℕ) (packet : List ℕ) (units : List Value) (old new : Joint) →
-      Steps Right (passes_other at packet units) old new → AreFine at units old.course → StandsCalled deeds old → StandsCalled deeds new
+      Steps Right (passes_other at packet units) old new → AreFine Right at units old.course → StandsCalled deeds old → StandsCalled deeds new
   passes_other_stands deeds at packet units old new (octets, read, is) fine h =
       let mid : Joint = record old { course = units_pass Left at units old.course; coming = old.coming ++ packet ∷ [] } in
       let one : units_in (packet ∷ []) ≡ units = append-nil (units_read (units_of packet)) ∙ ap units_read read in
       let all : units_in old.coming ++ units ≡ units_in (old.coming ++ packet ∷ []) =
       sym (units_join old.coming (packet ∷ []) ∙ ap (λ (l : List Value). units_in old.coming ++ l) one) in
       let k = units_heard deeds (may_take old.holding.end.carrier) old.put old.begun h.called.ahead.bound at units (units_in old.coming)
-      old.course fine (grind arith) in
+      old.course fine (record { stand = h.standing.all; distinct = h.distinct; shut = h.shut }) h.called.ahead.below in
       subst (StandsCalled deeds) (sym is) (record {
-        called = passes_other_called local proper deeds at packet units old mid (octets, read, refl) h.called k.below k.all.up;
+        called = passes_other_called local proper deeds at packet units old mid (octets, read, refl) h.called k.below k.up;
         standing = grind (arith, known_from, may_take);
         distinct = k.all.distinct;
         shut = grind (arith, may_take);

@@ -15,7 +15,7 @@ use Rattle.osi_blameless.proofs.what_a_taker_passes_over.{mild_of}
 use Rattle.osi_blameless.proofs.what_passes_keeps_a_claim.{step_kept}
 use Rattle.osi_blameless.proofs.what_the_turns_among_steps_do.{TurnDoes}
 use Rattle.osi_blameless.proofs.sessions.a_called_end_answers_with_class_2_or_selects_class_0.{answers_or_selects}
-use Rattle.osi_blameless.proofs.sessions.a_called_end_hears_what_breaks_no_rule.{AreFine}
+use Rattle.osi_blameless.proofs.sessions.an_end_hears_what_breaks_no_rule.{AreFine}
 use Rattle.osi_blameless.proofs.sessions.a_called_end_hears_what_comes_until_class_2.{AreTaken, IsAsking, IsNoCc, StandsCalledEarly}
 use Rattle.osi_blameless.proofs.sessions.a_called_end_hears_what_comes_until_class_2.{known_one, none_some, units_early}
 use Rattle.osi_blameless.proofs.sessions.a_called_end_puts_its_cc_of_class_0.{all_unnamed, asking_plain, turns_selecting}
@@ -68,13 +68,17 @@ pub taken_of : (at : ℕ) (vs : List Value) (c : Passed) → ArePassed Two Right
 taken_of at [] c h = tt
 taken_of at (v ∷ vs) c h = grind (arith, early, taken_of at vs (unit_passes Left at v c) h.1)
 
-fine_of : (at : ℕ) (vs : List Value) (c : Passed) → c.traffic.course.class ≡ None → ArePassed Two Right at vs c → AreFine at vs c
+fine_of : (at : ℕ) (vs : List Value) (c : Passed) → c.traffic.course.class ≡ None → ArePassed Two Right at vs c → AreFine Right at vs c
 fine_of at [] c none h = tt
 fine_of at (v ∷ vs) c none h =
     let one = early Right v c h.0 in
     let two : class_for way.Left c.traffic.course ≡ Some Zero → ⊥ =
     λ seen. none_some c.traffic.course.class Zero none (h.0.sure.agrees Zero seen) in (
       record {
+        lasts = record {
+          sure = record { left = h.0.firm.left; right = h.0.firm.right };
+          two = λ zero. none_some c.traffic.course.class Zero none zero;
+        };
         goes = one.goes;
         two = two;
         on = grind (arith, firm_goes);

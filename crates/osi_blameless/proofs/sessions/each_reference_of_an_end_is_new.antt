@@ -144,9 +144,11 @@ above_passes Left b r (request x) put w next given is same end a =
     subst (λ (n : ℕ). (b < n) × WaitAbove Left n next) (same_one x.source r given) (k.new_is, k.above)
 above_passes Right b r (confirm m x) put w next given is same end a =
     let (less, above) = ccs.passes_confirmed b m x put w is a in
-    subst (λ (n : ℕ). (b < n) × WaitAbove Right n next) (same_one x.source r given)
-    (less, subst (λ (l : List Value). RiseAbove next.end.given x.source l) (sym same)
-    (subst (λ (e : Carrier). RiseAbove e.given x.source put) (sym end) above))
+    subst (λ (n : ℕ). (b < n) × WaitAbove Right n next) (same_one x.source r given) (
+      less,
+      subst (λ (l : List Value). RiseAbove next.end.given x.source l) (sym same)
+          (subst (λ (e : Carrier). RiseAbove e.given x.source put) (sym end) above),
+    )
 above_passes d b r v put w next given is same end a = grind arith
 
 -- ---- an end and a judge

@@ -24,7 +24,8 @@ use Rattle.osi_fair.proofs.no_two_open_connections_have_one_peer.{differ}
 use Rattle.osi_fair.proofs.what_becomes_of_a_connection.{Told}
 use Rattle.osi_blameless.proofs.a_carrier_does_events.{none_of}
 use Rattle.osi_blameless.proofs.steps_are_events.{IsFollowed, own_first}
-use Rattle.osi_blameless.proofs.sessions.a_calling_end_hears_what_breaks_no_rule.{AreFine, IsHeardOn, one_plain}
+use Rattle.osi_blameless.proofs.sessions.a_calling_end_hears_what_breaks_no_rule.{one_plain}
+use Rattle.osi_blameless.proofs.sessions.an_end_hears_what_breaks_no_rule.{AreFine, IsHeardOn}
 use Rattle.osi_blameless.proofs.sessions.a_calling_end_is_ready.{IsCalling, first, whole_joined}
 use Rattle.osi_blameless.proofs.sessions.a_calling_end_takes_nothing_before_its_cc.{HasCc, has_cc}
 use Rattle.osi_blameless.proofs.sessions.a_calling_end_takes_what_is_in_flight.{early_lasts}
@@ -282,20 +283,20 @@ module _ (local : Local) (v : Value) (ranges : HasFieldsInRange v) (w : Whole) (
 
 -- ---- the units of a packet of the other side
 
-ongoing_first : (at : ℕ) (vs : List Value) (c : Course) → AreFine at vs c → IsOngoing (units_pass Right at vs c).traffic.course →
+ongoing_first : (at : ℕ) (vs : List Value) (c : Course) → AreFine Left at vs c → IsOngoing (units_pass Right at vs c).traffic.course →
     IsOngoing c.traffic.course
 ongoing_first at [] c fine clear = clear
 ongoing_first at (v ∷ vs) c (one, more) then_clear = one.lasts
 
 -- a DT or an AK that may be for a connection which has not opened is for one whose CC has passed
-fine_tracked : (local : Local) (v : Value) (w : Whole) (c : Course) → IsHeardOn v c →
+fine_tracked : (local : Local) (v : Value) (w : Whole) (c : Course) → IsHeardOn Left v c →
     IsOngoing (takes way.Right v w.judge).state.course → Follows local w → w.judge ≡ c.traffic →
     IsQuiet w.end w.coming w.judge → (r : ℕ) → MayOpen w.end r → IsForOne r v → Tracked w.judge.connections r
 fine_tracked local v w c one then_clear j same q r may for_it =
     tracked_now local v w j (subst (AllGoesOn v Left) (sym same) one.on)
     (subst (λ (s : State). IsOngoing s.course) (sym same) one.lasts) then_clear q r may for_it
 
-units_quiet : (local : Local) (at : ℕ) (vs : List Value) (w : Whole) (c : Course) → AreFine at vs c →
+units_quiet : (local : Local) (at : ℕ) (vs : List Value) (w : Whole) (c : Course) → AreFine Left at vs c →
     IsOngoing (units_pass Right at vs c).traffic.course → AllByRecursion HasFieldsInRange vs → Follows local w → w.judge ≡ c.traffic →
     IsQuiet w.end w.coming w.judge → IsQuiet w.end (w.coming ++ vs) (units_pass Right at vs c).traffic
 units_quiet local at [] w c fine clear ranges j same q = grind (arith, append-nil)
@@ -378,7 +379,7 @@ module _ (local : Local) (two : local.class2 ≡ true) where
 
   pub passes_other_quiet : (deeds : ℕ → Deeds) (at : ℕ) (bytes : List ℕ) (units : List Value) (old new : Joint) →
       Steps Left (passes_other at bytes units) old new → IsCalling local two deeds old →
-      AreFine at units old.course → AreQuiet old → AreQuiet new
+      AreFine Left at units old.course → AreQuiet old → AreQuiet new
   passes_other_quiet deeds at bytes units old new (octets, read, is) h fine q =
       let f = h.ahead.followed in
       let one : units_in (bytes ∷ []) ≡ units = append-nil (units_read (units_of bytes)) ∙ ap units_read read in
