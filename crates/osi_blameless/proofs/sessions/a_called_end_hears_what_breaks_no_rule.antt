@@ -5,7 +5,7 @@ use Rattle.osi_blameless.proofs.Vocabulary.{[], append_assoc, Bool, false, List,
 use Rattle.osi_blameless.proofs.Vocabulary.{AllByRecursion, Value, is_applied, takes, Left, Right, Deeds, Sessions, unit_passes, units_pass}
 use Rattle.osi_blameless.proofs.Vocabulary.{arith, Course}
 use Rattle.osi_rules.specs.declared.directions.Direction.TheVariants as way
-use Rattle.osi_blameless.proofs.sessions.an_end_hears_what_breaks_no_rule.{AreFine, AreHeard, IsHeardOn, IsNotAwaited, lost_known, one_heard}
+use Rattle.osi_blameless.proofs.sessions.an_end_hears_what_breaks_no_rule.{AreFine, AreHeard, IsNotAwaited, lost_known, one_heard}
 use Rattle.osi_blameless.proofs.sessions.each_reference_of_an_end_is_new.{AreUpTo, unit_up}
 use Rattle.osi_blameless.proofs.sessions.nothing_comes_before_a_cc_passes.{IsBelow, left_below}
 use Rattle.osi_blameless.proofs.sessions.references_of_an_end_are_distinct.{GivesNew}

@@ -37,7 +37,8 @@ use Rattle.osi_blameless.proofs.sessions.references_of_an_end_are_distinct.{Give
 use Rattle.osi_blameless.proofs.sessions.units_written_alike_have_the_same_ccs.{AnswersTwo, AreAlike, AreOrdered, HasCc, IsCc, has_either, has_above, has_alike}
 use Rattle.osi_blameless.proofs.sessions.units_written_alike_have_the_same_ccs.{has_back, has_front, none_before, not_twice_alike}
 use Rattle.osi_blameless.proofs.sessions.units_written_alike_have_the_same_ccs.{ordered_alike}
-use Rattle.osi_blameless.proofs.sessions.what_a_turn_puts_goes_to_its_peer.{all_back, all_of_both, same_units}
+use Rattle.osi_blameless.proofs.sessions.what_a_turn_puts_goes_to_its_peer.{all_back, same_units}
+use Rattle.osi_blameless.proofs.small_facts_that_many_lemmas_use.{all_join as all_of_both}
 use Rattle.osi_blameless.proofs.sessions.what_an_end_takes_at_a_connection.{apart_none, during_taken}
 use Rattle.osi_blameless.proofs.sessions.what_is_in_flight_to_an_end.{parts_taken}
 use Rattle.osi_blameless.proofs.sessions.what_is_left_for_an_end.{left_empty}

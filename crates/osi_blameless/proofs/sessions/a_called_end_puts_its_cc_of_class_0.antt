@@ -9,10 +9,10 @@ use Rattle.osi_blameless.proofs.Vocabulary.{stage_there, all_units_more, CanBeWr
 use Rattle.osi_carrier.specs.State.{State as Carrier}
 use Rattle.osi_blameless.proofs.a_carrier_does_events.{none_of}
 use Rattle.osi_blameless.proofs.steps_are_events.{IsFollowed}
-use Rattle.osi_blameless.proofs.what_a_carrier_puts_can_be_written.{all_more}
+use Rattle.osi_blameless.proofs.small_facts_that_many_lemmas_use.{can_more as all_more}
 use Rattle.osi_blameless.proofs.what_is_put_is_what_is_written.{none_written}
 use Rattle.osi_blameless.proofs.sessions.a_called_end_hears_what_comes_until_class_2.{IsAsking, IsNoCc, StandsCalledEarly, known_one}
-use Rattle.osi_blameless.proofs.sessions.a_called_end_hears_what_comes_until_class_2.{none_some}
+use Rattle.osi_blameless.proofs.small_facts_that_many_lemmas_use.{none_some}
 use Rattle.osi_blameless.proofs.sessions.a_called_end_of_class_2_has_its_lines.{has_lines}
 use Rattle.osi_blameless.proofs.sessions.a_called_end_stands_as_units_pass.{StandsCalled}
 use Rattle.osi_blameless.proofs.sessions.a_called_end_stands_in_class_0.{WasOpen, answers_now, cc_not_dt, first, open_before, opens_now}

@@ -1,34 +1,23 @@
 -- A calling end of class 2 hears each unit of the called side: a CC gives a reference for which nothing waits. So all its connections stand after
 -- a packet of the called side.
 -- For all connections of a calling end and a judge.
-use Rattle.osi_blameless.proofs.Vocabulary.{arith, ◌≡◌, ◌∙◌, refl, sym, ap, subst, ℕ, Bool, true, false, List, [], ◌∷◌, ◌++◌, map, Some, None}
-use Rattle.osi_blameless.proofs.Vocabulary.{append_assoc, slice_get, AllByRecursion, append-nil, HasFieldsInRange, Value, acknowledge}
-use Rattle.osi_blameless.proofs.Vocabulary.{confirm, data0, data2, destination_of, disconnect, disconnected, error, Connect, request, written}
-use Rattle.osi_blameless.proofs.Vocabulary.{Zero, Local, Left, Right, Connection, is_applied, is_refused, State, class_for, is_stopped, takes}
-use Rattle.osi_blameless.proofs.Vocabulary.{Whole, next_joined, IsOwned, IsOngoing, Deeds, CanBeWritten, Joined, Sessions, Course}
+use Rattle.osi_blameless.proofs.Vocabulary.{arith, ◌≡◌, ◌∙◌, refl, sym, ap, subst, ℕ, Bool, true, List, [], ◌∷◌, ◌++◌, map, Some}
+use Rattle.osi_blameless.proofs.Vocabulary.{append_assoc, AllByRecursion, append-nil, HasFieldsInRange, Value, acknowledge}
+use Rattle.osi_blameless.proofs.Vocabulary.{confirm, data0, data2, disconnect, disconnected, error, Connect, request, written}
+use Rattle.osi_blameless.proofs.Vocabulary.{Local, Left, Right, is_applied, State, takes}
+use Rattle.osi_blameless.proofs.Vocabulary.{Whole, next_joined, IsOwned, IsOngoing, Deeds, CanBeWritten, Course}
 use Rattle.osi_blameless.proofs.Vocabulary.{unit_passes, units_pass, HaveSamePlaces}
 use Rattle.osi_rules.specs.declared.directions.Direction.TheVariants as way
-use Rattle.osi_rules.specs.declared.findings.Reach.TheVariants as reach
 use Rattle.osi_fair.specs.Wholes as wholes
 use Rattle.osi_fair.proofs.a_calling_end_is_fair_in_class_2.{Joined as Follows}
 use Rattle.osi_blameless.proofs.sessions.an_end_hears_what_breaks_no_rule.{AreFine, AreHeard, IsHeardOn, IsNotAwaited, one_heard}
 use Rattle.osi_blameless.proofs.sessions.a_calling_end_is_ready.{IsPlain}
 use Rattle.osi_blameless.proofs.sessions.a_cc_comes_before_what_is_put_for_it.{nothing_waits}
 use Rattle.osi_blameless.proofs.sessions.a_right_dt_has_one_place.{AreUsedApart, named_apart}
-use Rattle.osi_blameless.proofs.sessions.a_unit_after_a_dr_leaves_all_standing.{after_keeps}
-use Rattle.osi_blameless.proofs.sessions.a_unit_is_joined_where_it_is_named.{joined_any}
-use Rattle.osi_blameless.proofs.sessions.nobody_of_a_side_is_to_blame.{NoneIsToBlame}
-use Rattle.osi_blameless.proofs.sessions.all_connections_stand.{AllStand, Loses, all_room}
-use Rattle.osi_blameless.proofs.sessions.connections_have_the_same_places.{at_same, unit_joins, unit_knows}
-use Rattle.osi_blameless.proofs.sessions.nothing_is_done_before_a_cr_passes.{known_from}
-use Rattle.osi_blameless.proofs.sessions.references_of_an_end_are_distinct.{AreDistinct, GivesNew, stays_so, unit_distinct}
-use Rattle.osi_blameless.proofs.sessions.right_units_leave_all_standing.{dt, link_placed}
-use Rattle.osi_blameless.proofs.sessions.the_dr_of_the_other_side_is_in_flight.{AreShut, HaveRoom, other_shut}
+use Rattle.osi_blameless.proofs.sessions.connections_have_the_same_places.{unit_knows}
+use Rattle.osi_blameless.proofs.sessions.references_of_an_end_are_distinct.{GivesNew}
 use Rattle.osi_blameless.proofs.sessions.units_written_alike_are_for_the_same.{none_written_so}
-use Rattle.osi_blameless.proofs.sessions.what_a_unit_does_at_its_place.{Does, unit_does}
-use Rattle.osi_blameless.proofs.sessions.what_holds_of_a_lost_connection.{now_so}
-use Rattle.osi_blameless.proofs.sessions.what_is_left_for_an_end.{known_left, left_grows, left_same}
-use Rattle.osi_blameless.proofs.sessions.what_passes_leaves_all_standing.{AllGoesOn, IsHeard, no_request, no_zero, other_stands}
+use Rattle.osi_blameless.proofs.sessions.what_passes_leaves_all_standing.{no_request, no_zero}
 use Rattle.osi_blameless.proofs.sessions.what_stands_of_a_connection.{waiting_for}
 
 -- ---- units of the other side

@@ -1,19 +1,19 @@
 -- Until class 2 is selected all connections of a calling end stand at a judge, whatever classes it offers: at the beginning, and after what
 -- passes and is no break, or is passed over. For the session of the connection of an end in class 0.
 use Rattle.osi_blameless.proofs.Vocabulary.{◌≡◌, ◌≢◌, ◌∙◌, refl, sym, ap, subst, ℕ, ◌^◌, ◌<◌, ◌≤◌, Bool, true, false, List, [], ◌∷◌, ◌++◌}
-use Rattle.osi_blameless.proofs.Vocabulary.{length, Some, None, arith, slice_get, AllByRecursion, append-nil, units_of, Connect}
-use Rattle.osi_blameless.proofs.Vocabulary.{HasFieldsInRange, Value, acknowledge, confirm, data0, data2, disconnect, disconnected, error}
-use Rattle.osi_blameless.proofs.Vocabulary.{request, Fits, units_fit, units_found, Part, Zero, Local, Direction, Left, Right, State, takes}
+use Rattle.osi_blameless.proofs.Vocabulary.{length, Some, None, arith, slice_get, append-nil, units_of, Connect}
+use Rattle.osi_blameless.proofs.Vocabulary.{Value, acknowledge, confirm, data0, data2, disconnect, disconnected, error}
+use Rattle.osi_blameless.proofs.Vocabulary.{request, units_fit, units_found, Part, Zero, Local, Direction, Left, Right, State, takes}
 use Rattle.osi_blameless.proofs.Vocabulary.{Holding, Event, HappenAlong, Whole, fresh_apart, no_item, left_class, Holds, holds_first}
 use Rattle.osi_blameless.proofs.Vocabulary.{holds_next, Deeds, no_deeds, units_in, units_read, IsFresh, AllProper, amid, stage_at, Joined}
-use Rattle.osi_blameless.proofs.Vocabulary.{Sessions, spoken, taken, packet_begins, units_pass, heard, parts_of, HaveSamePlaces, Joint, Steps}
+use Rattle.osi_blameless.proofs.Vocabulary.{Sessions, spoken, taken, packet_begins, units_pass, heard, parts_of, Joint, Steps}
 use Rattle.osi_blameless.proofs.Vocabulary.{begin, begins_other, begins_own, passes_other, passes_own}
 use Rattle.osi_carrier.specs.State.{State as Carrier}
 use Rattle.osi_rules.specs.declared.directions.Direction.TheVariants as way
 use Rattle.osi_fair.specs.Wholes as wholes
 use Rattle.osi_honest.specs.Courses.{Course}
 use Rattle.osi_judge.specs.Courses.{Course as Passed}
-use Rattle.osi_blameless.proofs.a_carrier_does_events.{happen_join, none_of}
+use Rattle.osi_blameless.proofs.a_carrier_does_events.{none_of}
 use Rattle.osi_blameless.proofs.steps_are_events.{IsFollowed, begin_followed, own_first}
 use Rattle.osi_blameless.proofs.sessions.a_calling_end_hears_what_comes_until_class_2.{AreTaken, IsGone, IsNotTwo, IsWith, IsZeroAt}
 use Rattle.osi_blameless.proofs.sessions.a_calling_end_hears_what_comes_until_class_2.{StandsEarly, known_below, no_crs}
@@ -22,7 +22,7 @@ use Rattle.osi_blameless.proofs.sessions.a_turn_does_what_its_deeds_say.{units_j
 use Rattle.osi_blameless.proofs.sessions.all_connections_stand.{AllStand, all_begin_other, all_begin_own, all_room, like_same}
 use Rattle.osi_blameless.proofs.sessions.class_0_keeps_its_one_place.{HasOne, IsStill, one_begins, one_passes}
 use Rattle.osi_blameless.proofs.sessions.connections_have_the_same_places.{unit_joins, unit_knows}
-use Rattle.osi_blameless.proofs.sessions.crs_that_wait_are_above_those_that_passed.{AreAbove, above_along, passes_asked}
+use Rattle.osi_blameless.proofs.sessions.crs_that_wait_are_above_those_that_passed.{AreAbove, above_along}
 use Rattle.osi_blameless.proofs.sessions.each_reference_of_an_end_is_new.{IsAhead, AreUpTo, begins_other_ahead}
 use Rattle.osi_blameless.proofs.sessions.each_reference_of_an_end_is_new.{begins_own_ahead, begins_up, gives_new}
 use Rattle.osi_blameless.proofs.sessions.each_reference_of_an_end_is_new.{other_up, passes_highest, passes_other_ahead, passes_own_ahead, unit_up, up_higher}
@@ -35,6 +35,7 @@ use Rattle.osi_blameless.proofs.sessions.units_of_class_0_come_after_its_cc.{qui
 use Rattle.osi_blameless.proofs.sessions.what_passes_leaves_all_standing.{IsReady}
 use Rattle.osi_blameless.proofs.sessions.what_stands_of_a_connection.{Known, stands_other_none}
 use Rattle.osi_blameless.proofs.sessions.what_the_stage_of_a_calling_end_says.{PassesOwn, own_unit}
+use Rattle.osi_blameless.proofs.small_facts_that_many_lemmas_use.{ranges_of}
 
 -- ---- more is known
 
@@ -66,10 +67,6 @@ early_higher deeds b n end put begun coming c up below h = record {
 
 pub undone_higher : (b n : ℕ) (deeds : ℕ → Deeds) (c : Carrier) → b ≤ n → AreUndone b deeds c → AreUndone n deeds c
 undone_higher b n deeds c up u r less = u r (omega (arith, up, less))
-
-pub ranges_of : (units : List Value) → AllByRecursion Fits units → AllByRecursion HasFieldsInRange units
-ranges_of [] h = tt
-ranges_of (v ∷ units) h = (h.0.in_range, ranges_of units h.1)
 
 none_class : {A : Type 0} (c : Passed) → c.traffic.course.class ≡ None → c.traffic.course.class ≡ Some Zero → A
 none_class c h e = absurd (let no : None ≡ Some Zero = sym h ∙ e in cc)

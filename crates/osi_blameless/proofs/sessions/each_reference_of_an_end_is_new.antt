@@ -1,8 +1,8 @@
 -- At a judge each CR of a calling end that passes gives a new reference, and so does each CC of a called end; and this stays so with each step.
 -- For all connections of an end and a judge.
 use Rattle.osi_blameless.proofs.Vocabulary.{◌≡◌, ◌∙◌, ◌⊎◌, inl, inr, refl, sym, ap, subst, ℕ, ◌<◌, ◌≤◌, Bool, false, List, [], ◌∷◌, ◌++◌}
-use Rattle.osi_blameless.proofs.Vocabulary.{length, Option, Some, None, arith, slice_get, AllByRecursion, Connect, Value, acknowledge, confirm, data0}
-use Rattle.osi_blameless.proofs.Vocabulary.{data2, disconnect, disconnected, error, request, Direction, Left, Right, other, State, meaning_if, meant}
+use Rattle.osi_blameless.proofs.Vocabulary.{length, Option, Some, None, arith, slice_get, AllByRecursion, Connect, Value, confirm}
+use Rattle.osi_blameless.proofs.Vocabulary.{request, Direction, Left, Right, other, State, meaning_if, meant}
 use Rattle.osi_blameless.proofs.Vocabulary.{takes, Event, HappenAlong, Whole, after_add, after_set, Turn, AllProper, Room, Joined, Sessions, all_begin, asked}
 use Rattle.osi_blameless.proofs.Vocabulary.{reference_of, taken, Course, unit_passes, units_pass, way_of, Joint, Step, Steps, TakesTurn}
 use Rattle.osi_blameless.proofs.Vocabulary.{begins_other, begins_own, passes_other, passes_own, turns, HaveSamePlaces}
@@ -20,6 +20,7 @@ use Rattle.osi_blameless.proofs.sessions.ccs_that_wait_are_above_those_that_pass
 use Rattle.osi_blameless.proofs.sessions.crs_that_wait_are_above_those_that_passed as crs
 use Rattle.osi_blameless.proofs.sessions.references_of_an_end_are_distinct.{GivesNew, IsUnused}
 use Rattle.osi_blameless.proofs.sessions.what_a_unit_does_at_its_place.{Does, asks_again, asks_more, nowhere, somewhere, unit_does}
+use Rattle.osi_blameless.proofs.sessions.what_stands_of_a_connection.{named_begun}
 
 -- ---- references at a judge
 
@@ -40,9 +41,6 @@ IsUpTo d b v = Unit {0}
 
 pub up_higher : (d : Direction) (b n : ℕ) (t : Sessions) → b ≤ n → AreUpTo d b t → AreUpTo d n t
 up_higher d b n t h u = grind arith
-
-named_begun : (d e : Direction) (j : Joined) → reference_of d (packet_begins e j) ≡ reference_of d j
-named_begun d e j = grind arith
 
 module _ (d : Direction) (b : ℕ) where
   abbrev IsLow : Joined → Type 0

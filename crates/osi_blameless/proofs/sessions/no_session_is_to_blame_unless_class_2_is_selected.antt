@@ -35,9 +35,7 @@ use Rattle.osi_blameless.proofs.sessions.each_step_keeps_an_end_blameless.{done_
 use Rattle.osi_blameless.proofs.sessions.nobody_of_a_side_is_to_blame.{NeverToBlame, never_unapplied, never_unread}
 use Rattle.osi_blameless.proofs.sessions.what_has_no_effect_joins_nothing.{too_many_ends}
 use Rattle.osi_blameless.proofs.sessions.what_is_asked_of_what_holds_at_each_step.{IsWithout, Keeps, firm_so, goes_so, units_join}
-
-not_both : (b : Bool) → b ≡ true → b ≡ false → ⊥
-not_both b h k = cc
+use Rattle.osi_blameless.proofs.sessions.a_session_that_is_shown_is_not_to_blame.{not_both}
 
 own_stopped : (d : Direction) (c : Passed) → IsOver c → is_stopped (way_of d) c.traffic.course ≡ true
 own_stopped d c o = grind arith

@@ -34,10 +34,12 @@ use Rattle.osi_blameless.proofs.sessions.a_unit_after_a_dr_is_for_a_closing_conn
 use Rattle.osi_blameless.proofs.sessions.a_unit_is_joined_where_it_is_named.{named_there, names_there}
 use Rattle.osi_blameless.proofs.sessions.connections_have_the_same_places.{unit_knows}
 use Rattle.osi_blameless.proofs.sessions.nothing_is_done_before_a_cr_passes.{IsNoZero, same_units}
-use Rattle.osi_blameless.proofs.sessions.what_a_turn_puts_goes_to_its_peer.{all_front, one_of}
+use Rattle.osi_blameless.proofs.sessions.what_a_turn_puts_goes_to_its_peer.{one_of}
+use Rattle.osi_blameless.proofs.small_facts_that_many_lemmas_use.{all_front}
 use Rattle.osi_blameless.proofs.sessions.what_a_unit_does_at_its_place.{Does, asks_again, asks_more, nowhere, somewhere, unit_does}
 use Rattle.osi_blameless.proofs.sessions.what_passes_leaves_all_standing.{AllGoesOn}
 use Rattle.osi_blameless.proofs.sessions.what_stands_of_a_connection.{is_for, waiting_for}
+use Rattle.osi_blameless.proofs.small_facts_that_many_lemmas_use.{same_one}
 
 -- ---- what is so
 
@@ -119,9 +121,6 @@ closed_there true r c sound opened (data2 n number end user) named shut = named_
 closed_there true r c sound opened (acknowledge credit n number) named shut = grind (arith, named_so)
 closed_there true r c sound opened (error n cause) named shut = named_so c sound opened (error n cause) named n refl
 
-some_one : (c e : Connection) → Some c ≡ Some e → c ≡ e
-some_one c e h = cc
-
 module _ (local : Local) (v : Value) (w : Whole) (rest : List Value) (put : w.put ≡ v ∷ rest) (begun : w.begun ≡ true) (t : Sessions)
     (places : HaveSamePlaces w.judge.connections t.live) (j : Follows local w)
     (then_clear : IsOngoing (takes way.Left v w.judge).state.course) (q : IsQuiet w.end w.coming w.judge) where
@@ -143,7 +142,7 @@ module _ (local : Local) (v : Value) (w : Whole) (rest : List Value) (put : w.pu
   own_shut i c e at there same tracked shut may =
       let (p, x, here, then_tracked, is) = own_still c.left.reference may (i, c, at, tracked, refl) in
       let one : i ≡ p = own_joined.kept.sane.distinct i p e x there here (same ∙ sym is) in
-      grind (arith, differ, some_one, left_open)
+      grind (arith, differ, same_one, left_open)
 
   own_by : (i : ℕ) (c : Connection) (k : Joined) (b opened : Bool) (r : Reach) → is_open c.left.phase ≡ opened →
       slice_get w.judge.connections i ≡ Some c → IsOneOf c k → (takes way.Left v w.judge).told.place ≡ Some i →
