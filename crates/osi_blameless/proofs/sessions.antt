@@ -70,7 +70,7 @@ pub mod no_more_tsdus_than_moments_have_passed
 pub mod what_is_asked_of_what_holds_at_each_step
 pub mod an_end_that_has_said_nothing_is_not_to_blame
 pub mod a_calling_end_without_class_2_puts_no_dt
-pub mod no_session_of_a_calling_end_breaks_first
+pub mod what_a_calling_end_keeps_unless_in_class_0
 pub mod units_of_class_0_come_after_its_cc
 pub mod what_the_stage_of_a_calling_end_says
 pub mod class_0_keeps_its_one_place
@@ -79,9 +79,9 @@ pub mod a_calling_end_hears_what_comes_until_class_2
 pub mod a_calling_end_stands_until_class_2
 pub mod a_turn_of_a_calling_end_until_class_2
 pub mod nobody_of_a_calling_end_is_to_blame_until_class_2
-pub mod no_calling_end_is_blamed_first_in_class_0
+pub mod what_a_calling_end_keeps_until_class_2
 pub mod no_connection_is_opened_before_a_class_is_selected
-pub mod no_session_of_a_called_end_breaks_first
+pub mod what_a_called_end_keeps_unless_in_class_0
 pub mod a_called_end_hears_what_comes_until_class_2
 pub mod a_called_end_stands_in_class_0
 pub mod a_turn_of_a_called_end_in_class_0
@@ -90,7 +90,7 @@ pub mod a_turn_after_which_a_cc_of_class_0_waits
 pub mod only_a_cc_selects_a_class
 pub mod a_called_end_puts_its_cc_of_class_0
 pub mod a_called_end_stands_until_class_2
-pub mod no_called_end_is_blamed_first_in_class_0
+pub mod what_a_called_end_keeps_until_class_2
 pub mod an_end_of_class_0_has_its_connection_open
 pub mod a_judge_counts_what_it_has_joined_of_a_tsdu
 pub mod what_a_link_has_begun_is_left_over

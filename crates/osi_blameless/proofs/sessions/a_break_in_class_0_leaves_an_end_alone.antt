@@ -65,14 +65,6 @@ units_alone d at [] c a h = h
 units_alone d at (v ∷ vs) c a h =
     units_alone d at vs (unit_passes (other d) at v c) (grind (arith, stops_last)) (never_stopped d (other d) at v c a.stopped h)
 
--- a step is one after what can't be read too
-pub later_too : (d : Direction) (step : Step) (old new : Joint) → Steps d step old new → LaterSteps d step old new
-later_too d (turns turn) old new t = t
-later_too d begins_own old new step = step
-later_too d begins_other old new step = step
-later_too d (passes_own at v) old new step = step
-later_too d (passes_other at packet units) old new (octets, read, is) = (octets, ap units_by read, is)
-
 module _ (known : Known) (d : Direction) (local : Local)
     (fair : IsFair (way_of d) (wholes.begin (calls_from d) local))
     (fair_alone : IsFairAlone (way_of d) (wholes.begin (calls_from d) local)) (Inv : (ℕ → Deeds) → Joint → Type 0)

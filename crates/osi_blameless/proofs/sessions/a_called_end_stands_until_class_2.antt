@@ -38,7 +38,7 @@ use Rattle.osi_blameless.proofs.sessions.connections_have_the_same_places.{Agree
 use Rattle.osi_blameless.proofs.sessions.each_reference_of_an_end_is_new.{turns_ahead}
 use Rattle.osi_blameless.proofs.sessions.each_step_leaves_class_0_one_connection.{Sure, fresh_sure, sure_claim}
 use Rattle.osi_blameless.proofs.sessions.no_connection_is_opened_before_a_class_is_selected.{UncalledUntil, uncalled_claim}
-use Rattle.osi_blameless.proofs.sessions.no_session_of_a_called_end_breaks_first.{called_first}
+use Rattle.osi_blameless.proofs.sessions.what_a_called_end_keeps_unless_in_class_0.{called_first}
 use Rattle.osi_blameless.proofs.sessions.what_is_asked_of_what_holds_at_each_step.{ArePassed, HaveCourses, early}
 use Rattle.osi_blameless.proofs.sessions.only_a_cc_selects_a_class.{selects_none}
 use Rattle.osi_blameless.proofs.sessions.steps_leave_all_standing.{IsProper}

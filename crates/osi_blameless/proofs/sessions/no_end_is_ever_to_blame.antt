@@ -17,10 +17,10 @@ use Rattle.osi_blameless.proofs.sessions.a_calling_end_without_class_2_puts_no_d
 use Rattle.osi_blameless.proofs.sessions.an_end_that_has_said_nothing_is_not_to_blame.{HasSaidNothing, mute_keeps}
 use Rattle.osi_blameless.proofs.sessions.an_end_of_class_0_has_begun_what_a_judge_has_joined.{called_begun, calling_begun}
 use Rattle.osi_blameless.proofs.sessions.nobody_of_a_side_is_to_blame.{NeverToBlame, NoneIsToBlame}
-use Rattle.osi_blameless.proofs.sessions.no_called_end_is_blamed_first_in_class_0.{called_early_keeps}
-use Rattle.osi_blameless.proofs.sessions.no_calling_end_is_blamed_first_in_class_0.{early_keeps}
-use Rattle.osi_blameless.proofs.sessions.no_session_of_a_called_end_breaks_first.{StandsOrSelected, called_keeps}
-use Rattle.osi_blameless.proofs.sessions.no_session_of_a_calling_end_breaks_first.{StandsQuiet, calling_keeps}
+use Rattle.osi_blameless.proofs.sessions.what_a_called_end_keeps_until_class_2.{called_early_keeps}
+use Rattle.osi_blameless.proofs.sessions.what_a_calling_end_keeps_until_class_2.{early_keeps}
+use Rattle.osi_blameless.proofs.sessions.what_a_called_end_keeps_unless_in_class_0.{StandsOrSelected, called_keeps}
+use Rattle.osi_blameless.proofs.sessions.what_a_calling_end_keeps_unless_in_class_0.{StandsQuiet, calling_keeps}
 use Rattle.osi_blameless.proofs.sessions.no_session_is_to_blame_unless_class_2_is_selected.{ends_well}
 use Rattle.osi_blameless.proofs.sessions.no_session_is_to_blame_unless_class_0_is_selected.{never_to_blame}
 use Rattle.osi_blameless.proofs.sessions.a_loss_is_in_class_2_at_a_judge.{capture_two, firm_in_zero}
