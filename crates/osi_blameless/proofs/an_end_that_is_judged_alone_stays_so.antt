@@ -2,7 +2,7 @@
 -- For the law that no session of an end is to blame after a break.
 use Rattle.osi_blameless.proofs.Vocabulary.{◌≡◌, ◌∙◌, ℕ, Bool, List, [], ◌∷◌, sym, ap, subst, Value, Local, other, Direction, Kept}
 use Rattle.osi_blameless.proofs.Vocabulary.{is_stopped, takes, AllProper, Course, way_of, Joint, Step, Steps, begins_other, begins_own}
-use Rattle.osi_blameless.proofs.Vocabulary.{passes_other, passes_own, turns, LaterAlong, LaterSteps}
+use Rattle.osi_blameless.proofs.Vocabulary.{passes_other, passes_own, turns, LaterAlong, LaterSteps, StepsAlong, units_by}
 use Rattle.osi_rules.specs.Traffic.{State as Traffic}
 use Rattle.osi_fair.specs.Wholes as wholes
 use Rattle.osi_blameless.proofs.in_class_0_one_side_alone_is_judged.{IsAlone}
@@ -10,19 +10,40 @@ use Rattle.osi_blameless.proofs.steps_are_events.{IsFollowed, own_first}
 use Rattle.osi_blameless.proofs.no_unit_of_a_whole_end_is_a_break.{IsFairAlone}
 use Rattle.osi_blameless.proofs.what_passes_keeps_a_claim.{IsClaim, step_kept, units_kept}
 
--- what a unit or a packet keeps, steps after what can't be read keep too
+-- ---- steps one after the other
+
+-- each step is one after what can't be read too
+pub later_too : (d : Direction) (step : Step) (old new : Joint) → Steps d step old new → LaterSteps d step old new
+later_too d (turns turn) old new t = t
+later_too d begins_own old new step = step
+later_too d begins_other old new step = step
+later_too d (passes_own at v) old new step = step
+later_too d (passes_other at packet units) old new (octets, read, is) = (octets, ap units_by read, is)
+
+pub along_too : (d : Direction) (steps : List Step) (old new : Joint) → StepsAlong d old steps new → LaterAlong d old steps new
+along_too d [] old new is = is
+along_too d (step ∷ steps) old new (mid, one, more) = (mid, later_too d step old mid one, along_too d steps mid new more)
+
+-- what each of them keeps, they keep
+pub along_kept : (P : Joint → Type 0) (d : Direction) →
+    ((step : Step) (old new : Joint) → LaterSteps d step old new → P old → P new) → (steps : List Step) (old new : Joint) →
+    LaterAlong d old steps new → P old → P new
+along_kept P d keeps [] old new is h = subst P (sym is) h
+along_kept P d keeps (step ∷ steps) old new (mid, one, more) h = along_kept P d keeps steps mid new more (keeps step old mid one h)
+
+-- so what a unit or a packet keeps
+later_one : (P : Course → Type 0) → IsClaim P → (d : Direction) (step : Step) (old new : Joint) → LaterSteps d step old new →
+    P old.course → P new.course
+later_one P k d (turns turn) old new t h = step_kept P k d (turns turn) old new t h
+later_one P k d begins_own old new is h = step_kept P k d begins_own old new is h
+later_one P k d (passes_own at v) old new is h = step_kept P k d (passes_own at v) old new is h
+later_one P k d begins_other old new is h = step_kept P k d begins_other old new is h
+later_one P k d (passes_other at packet units) old new (octets, read, is) h =
+    subst (λ (j : Joint). P j.course) (sym is) (units_kept P k (other d) at units old.course h)
+
 pub later_kept : (P : Course → Type 0) → IsClaim P → (d : Direction) (steps : List Step) (old new : Joint) → LaterAlong d old steps new →
     P old.course → P new.course
-later_kept P k d [] old new is h = subst (λ (j : Joint). P j.course) (sym is) h
-later_kept P k d (step ∷ steps) old new (mid, one, more) h = later_kept P k d steps mid new more (by step one)
-  where
-    by : (step : Step) → LaterSteps d step old mid → P mid.course
-    by (turns turn) t = step_kept P k d (turns turn) old mid t h
-    by begins_own is = step_kept P k d begins_own old mid is h
-    by (passes_own at v) is = step_kept P k d (passes_own at v) old mid is h
-    by begins_other is = step_kept P k d begins_other old mid is h
-    by (passes_other at packet units) (octets, read, is) =
-        subst (λ (j : Joint). P j.course) (sym is) (units_kept P k (other d) at units old.course h)
+later_kept P k d = along_kept (λ (j : Joint). P j.course) d (later_one P k d)
 
 module _ (d : Direction) (proper : AllProper) (is_caller : Bool) (local : Local)
     (fair_alone : IsFairAlone (way_of d) (wholes.begin is_caller local)) where

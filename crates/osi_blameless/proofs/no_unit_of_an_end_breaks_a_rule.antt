@@ -18,7 +18,7 @@ use Rattle.osi_blameless.specs.Spoilt.{GoesOn}
 use Rattle.osi_blameless.proofs.a_break_ends_no_judging_or_all.{IsGoing, IsLeft, all_ends, begins_going, left_claim, known_too, mild_reach}
 use Rattle.osi_blameless.proofs.a_break_ends_no_judging_or_all.{nothing_goes, part_goes, side_known, other_unbroken, own_unbroken}
 use Rattle.osi_blameless.proofs.a_break_ends_no_judging_or_all.{unread_unbroken}
-use Rattle.osi_blameless.proofs.an_end_that_is_judged_alone_stays_so.{own_alone}
+use Rattle.osi_blameless.proofs.an_end_that_is_judged_alone_stays_so.{along_kept, along_too, own_alone}
 use Rattle.osi_blameless.proofs.in_class_0_one_side_alone_is_judged.{AfterUnread, IsAlone, all_over, alone_begins, alone_own, unit_alone}
 use Rattle.osi_blameless.proofs.in_class_0_one_side_alone_is_judged.{unread_alone}
 use Rattle.osi_blameless.proofs.later_steps_are_events.{later_followed, spoilt_followed}
@@ -123,23 +123,12 @@ module _ (d : Direction) where
         })
         by (inr is) = is_left (record { over = all_ends d at v old.course is; unbroken = unbroken })
 
-    step_so : (step : Step) (old new : Joint) → Steps d step old new → IsFollowed d first old → IsBlamedNowhere old.course →
-        IsBlamedNowhere new.course
-    step_so (turns turn) old new t f h = subst IsBlamedNowhere (sym t.course) h
-    step_so begins_own old new step f h = grind (arith, begins_so)
-    step_so (passes_own at v) old new step f h = grind (arith, own_passes_so at v old new step f h)
-    step_so begins_other old new step f h = grind (arith, begins_so)
-    step_so (passes_other at packet units) old new step f h =
-        subst (λ (j : Joint). IsBlamedNowhere j.course) (sym step.2)
-        (others_pass at units old.course (joint_known_once d is_caller local old f) h)
-
-    -- and after what can't be read
     later_so : (step : Step) (old new : Joint) → LaterSteps d step old new → IsFollowed d first old → IsBlamedNowhere old.course →
         IsBlamedNowhere new.course
-    later_so (turns turn) old new t f h = step_so (turns turn) old new t f h
-    later_so begins_own old new step f h = step_so begins_own old new step f h
-    later_so (passes_own at v) old new step f h = step_so (passes_own at v) old new step f h
-    later_so begins_other old new step f h = step_so begins_other old new step f h
+    later_so (turns turn) old new t f h = subst IsBlamedNowhere (sym t.course) h
+    later_so begins_own old new step f h = grind (arith, begins_so)
+    later_so (passes_own at v) old new step f h = grind (arith, own_passes_so at v old new step f h)
+    later_so begins_other old new step f h = grind (arith, begins_so)
     later_so (passes_other at packet units) old new step f h =
         subst (λ (j : Joint). IsBlamedNowhere j.course) (sym step.2)
         (others_pass at units old.course (joint_known_once d is_caller local old f) h)
@@ -149,21 +138,11 @@ module _ (d : Direction) where
       followed : IsFollowed d first j
       nowhere : IsBlamedNowhere j.course
 
-    along_so : (steps : List Step) (old new : Joint) → StepsAlong d old steps new → Stood old → Stood new
-    along_so [] old new is h = subst Stood (sym is) h
-    along_so (step ∷ steps) old new (mid, one, more) h =
-        along_so steps mid new more (record {
-          followed = step_followed d first proper step old mid one h.followed;
-          nowhere = step_so step old mid one h.followed h.nowhere;
-        })
-
-    later_along_so : (steps : List Step) (old new : Joint) → LaterAlong d old steps new → Stood old → Stood new
-    later_along_so [] old new is h = subst Stood (sym is) h
-    later_along_so (step ∷ steps) old new (mid, one, more) h =
-        later_along_so steps mid new more (record {
-          followed = later_followed d first proper step old mid one h.followed;
-          nowhere = later_so step old mid one h.followed h.nowhere;
-        })
+    stood_along : (steps : List Step) (old new : Joint) → LaterAlong d old steps new → Stood old → Stood new
+    stood_along = along_kept Stood d (λ step old new does h. record {
+      followed = later_followed d first proper step old new does h.followed;
+      nowhere = later_so step old new does h.followed h.nowhere;
+    })
 
     -- what can't be read
     module _ (at : ℕ) (cause : Cause) (c : Course) (once : IsKnownOnce c.traffic) where
@@ -191,7 +170,8 @@ module _ (d : Direction) where
   never_blamed proper is_caller local h capture anew fair fair_alone comes = by comes.on
     where
       last : Stood proper is_caller local fair fair_alone comes.last
-      last = along_so proper is_caller local fair fair_alone comes.steps (begin h) comes.last comes.along (record {
+      last = stood_along proper is_caller local fair fair_alone comes.steps (begin h) comes.last
+          (along_too d comes.steps (begin h) comes.last comes.along) (record {
         followed = begin_followed d is_caller local h anew;
         nowhere = grind (arith, nothing);
       })
@@ -199,7 +179,7 @@ module _ (d : Direction) where
       by : ((comes_to capture).course ≡ comes.last.course) ⊎ GoesOn d capture comes.last → IsBlamedNowhere (comes_to capture).course
       by (inl is) = subst IsBlamedNowhere (sym is) last.nowhere
       by (inr g) = subst IsBlamedNowhere (sym g.all)
-          (later_along_so proper is_caller local fair fair_alone g.steps (spoilt d g.at g.cause g.packets comes.last) g.end g.along
+          (stood_along proper is_caller local fair fair_alone g.steps (spoilt d g.at g.cause g.packets comes.last) g.end g.along
           (spoilt_so proper is_caller local fair fair_alone g.at g.cause g.packets g.none comes.last last)).nowhere
 
   unbroken_by : (c : Course) → IsBlamedNowhere c → (marks_of d c).broke ≡ None

@@ -1,6 +1,6 @@
 -- The units that a carrier puts as it takes a unit, and as its user makes a call, can be written, and its links stay numbered.
 -- For what a turn of an end does to its carrier.
-use Rattle.osi_blameless.proofs.Vocabulary.{arith, ◌≡◌, ℕ, ◌≤◌, Bool, true, false, if◌then◌else◌, List, [], ◌∷◌, ◌++◌, Option, Some}
+use Rattle.osi_blameless.proofs.Vocabulary.{arith, ◌≡◌, ℕ, ◌≤◌, Bool, true, false, if◌then◌else◌, List, [], ◌∷◌, Option, Some}
 use Rattle.osi_blameless.proofs.Vocabulary.{None, option_map, is_some, Result, Ok, Err, refl, subst, IfSome, AllByRecursion, tsap_octets}
 use Rattle.osi_blameless.proofs.Vocabulary.{Connect, HasFieldsInRange, IsConnect, Value, confirm, data0, disconnect, error, request, Tsap}
 use Rattle.osi_blameless.proofs.Vocabulary.{Standing, with_tsdu, accept, refuse, selected_by, LinkFault, Class, Two, Zero, closed_with}
@@ -17,6 +17,7 @@ use Rattle.osi_carrier.specs.React.{opens}
 unfoldable use Rattle.osi_carrier.specs.React.{react}
 use Rattle.osi_carrier.specs.State.{Connection, State, asked}
 use Rattle.osi_honest.specs.Writable.{CanBeWritten}
+use Rattle.osi_blameless.proofs.small_facts_that_many_lemmas_use.{can_more}
 
 -- these units can be written, and the links are numbered
 abbrev pub Fine : List Value → State → Type 0
@@ -149,15 +150,10 @@ module _ (s : State) (p : AreNumbered s.live) where
   pub over_fine : (reason : EndReason) (over : Bool) → Fine [] (if over then s else ends reason s)
   over_fine reason over = grind arith
 
-pub all_more : (some others : List Value) → AllByRecursion CanBeWritten some → AllByRecursion CanBeWritten others →
-    AllByRecursion CanBeWritten (some ++ others)
-all_more [] others a b = b
-all_more (v ∷ some) others a b = (a.0, all_more some others a.1 b)
-
 -- several together
 pub together_fine : (r : ℕ) (tsdus : List (List ℕ)) (s : State) → AreNumbered s.live →
     Fine (put_together r tsdus s) (sent_all r tsdus s)
 together_fine r [] s p = (tt, p)
 together_fine r (tsdu ∷ tsdus) s p =
     let first = one_fine s p r tsdu in
-    grind (arith, all_more, together_fine r tsdus (sent r tsdu s) first.1)
+    grind (arith, can_more, together_fine r tsdus (sent r tsdu s) first.1)

@@ -2,7 +2,7 @@
 -- and so they go on, step by step. For the law that no session of an end is to blame after such a break.
 use Rattle.osi_blameless.proofs.Vocabulary.{◌≡◌, ◌∙◌, inl, inr, refl, sym, ap, subst, ℕ, ◌^◌, ◌<◌, ◌≤◌, Bool, true, false, List, [], ◌∷◌}
 use Rattle.osi_blameless.proofs.Vocabulary.{◌++◌, map, length, Some, arith, append_assoc, Result, Ok, AllByRecursion, append-nil, IsOctets}
-use Rattle.osi_blameless.proofs.Vocabulary.{units_of, Value, data0, written, TpduFault, Class, Zero, Local, other, Direction, is_applied}
+use Rattle.osi_blameless.proofs.Vocabulary.{units_of, Value, data0, written, TpduFault, Two, Zero, Local, other, Direction, is_applied}
 use Rattle.osi_blameless.proofs.Vocabulary.{class_for, takes, side_zero, Deeds, AreHard, IsHard, Known, Cause, unit_passes, units_pass}
 use Rattle.osi_blameless.proofs.Vocabulary.{unread, way_of, Joint, Step, Steps, begins_other, begins_own, passes_other, passes_own, turns, stops_last, units_by}
 use Rattle.osi_blameless.proofs.Vocabulary.{calls_from, IsNoPacket, IsUnread, LaterAlong, LaterSteps, spoilt}
@@ -22,7 +22,7 @@ use Rattle.osi_blameless.proofs.what_is_halted_stays_halted.{unread_same}
 use Rattle.osi_blameless.proofs.what_passes_keeps_a_claim.{units_kept}
 use Rattle.osi_blameless.proofs.what_is_judged_beside_a_halted_side.{IsBeside, beside_break, beside_unread}
 use Rattle.osi_blameless.proofs.sessions.a_dt_that_is_too_long_stays_so.{IsTooLong, breaks_too_long}
-use Rattle.osi_blameless.proofs.sessions.an_end_beside_a_judge_that_judges_all.{Goes, other_goes}
+use Rattle.osi_blameless.proofs.sessions.an_end_beside_a_judge.{Goes, other_goes}
 use Rattle.osi_blameless.proofs.sessions.an_end_goes_on_as_if_no_break_had_come.{How, IsAsWithout, IsHardFor, is_over, none_alone, none_comes}
 use Rattle.osi_blameless.proofs.sessions.an_end_goes_on_as_if_no_break_had_come.{other_alone, other_begins_alone, own_alone_so}
 use Rattle.osi_blameless.proofs.sessions.an_end_goes_on_as_if_no_break_had_come.{own_begins_alone, still_units, turn_alone, waits_for}
@@ -30,7 +30,7 @@ use Rattle.osi_blameless.proofs.sessions.an_end_of_class_0_has_begun_what_a_judg
 use Rattle.osi_blameless.proofs.sessions.an_end_of_class_0_has_its_connection_open.{MayBeFollowed}
 use Rattle.osi_blameless.proofs.sessions.each_step_leaves_class_0_one_connection.{Sure, sure_claim}
 use Rattle.osi_blameless.proofs.sessions.no_more_tsdus_than_moments_have_passed.{AreFew, few_claim}
-use Rattle.osi_blameless.proofs.sessions.what_is_asked_of_what_holds_at_each_step.{ArePassed, KeepsUnless, firm_so, goes_so, long_claim}
+use Rattle.osi_blameless.proofs.sessions.what_is_asked_of_what_holds_at_each_step.{ArePassed, Keeps, firm_so, goes_so, long_claim}
 use Rattle.osi_blameless.proofs.sessions.what_is_asked_of_what_holds_at_each_step.{units_join}
 use Rattle.osi_blameless.proofs.sessions.nobody_of_a_side_is_to_blame.{NeverToBlame, NoneIsToBlame, never_begins, never_stopped, never_unit}
 use Rattle.osi_blameless.proofs.sessions.the_first_units_of_a_packet_are_a_packet.{leads_off, leads_read}
@@ -64,29 +64,22 @@ units_alone d at [] c a h = h
 units_alone d at (v ∷ vs) c a h =
     units_alone d at vs (unit_passes (other d) at v c) (grind (arith, stops_last)) (never_stopped d (other d) at v c a.stopped h)
 
--- a step is one after what can't be read too
-pub later_too : (d : Direction) (step : Step) (old new : Joint) → Steps d step old new → LaterSteps d step old new
-later_too d (turns turn) old new t = t
-later_too d begins_own old new step = step
-later_too d begins_other old new step = step
-later_too d (passes_own at v) old new step = step
-later_too d (passes_other at packet units) old new (octets, read, is) = (octets, ap units_by read, is)
-
-module _ (known : Known) (barred : Class) (d : Direction) (local : Local)
+module _ (known : Known) (d : Direction) (local : Local)
     (fair : IsFair (way_of d) (wholes.begin (calls_from d) local))
     (fair_alone : IsFairAlone (way_of d) (wholes.begin (calls_from d) local)) (Inv : (ℕ → Deeds) → Joint → Type 0)
-    (k : KeepsUnless barred d local Inv) (has_begun : HasBegun barred d Inv) where
+    (k : Keeps Two d local Inv) (has_begun : HasBegun d Inv) where
   abbrev pub Judged : (ℕ → Deeds) → Joint → Type 0
-  Judged deeds j = Goes known.proper barred d local Inv k deeds j
+  Judged deeds j = Goes known.proper Two d local Inv k deeds j
 
   abbrev pub AsWithout : Bool → Joint → Type 0
-  AsWithout ends j = IsAsWithout known barred d local fair fair_alone Inv k has_begun ends j
+  AsWithout ends j = IsAsWithout known d local fair fair_alone Inv k has_begun ends j
 
   -- ---- a unit with which the judging of the other side ends
 
   module _ (deeds : ℕ → Deeds) (at : ℕ) (octets : List ℕ) (front back : List Value) (v : Value) (old : Joint) (g : Judged deeds old)
-      (all : IsOctets octets) (read : units_of octets ≡ Ok (front ++ v ∷ back)) (taken : ArePassed barred d at front old.course)
+      (all : IsOctets octets) (read : units_of octets ≡ Ok (front ++ v ∷ back)) (taken : ArePassed Two d at front old.course)
       (judged : IsJudged (units_pass (other d) at front old.course))
+      (never : NeverToBlame d (units_pass (other d) at front old.course))
       (unapplied : is_applied (takes (way_of (other d)) v (units_pass (other d) at front old.course).traffic).told.finding ≡ false)
       (side : (takes (way_of (other d)) v (units_pass (other d) at front old.course).traffic).told.reach ≡ reach.Side)
       (alone : IsAlone d (unit_passes (other d) at v (units_pass (other d) at front old.course)))
@@ -135,7 +128,7 @@ module _ (known : Known) (barred : Class) (d : Direction) (local : Local)
 
     begins_alone : IsFollowed d (wholes.begin (calls_from d) local) new → (w : Joint) → Before w → AsWithout false new
     begins_alone f w b =
-        let s = still_units known barred d local fair fair_alone Inv k has_begun at back (unit_passes (other d) at v c) c (record {
+        let s = still_units known d local fair fair_alone Inv k has_begun at back (unit_passes (other d) at v c) c (record {
           beside = beside_break d at v c zero (goes_so (other d) c judged) unapplied side;
           alone = alone;
           few = (few_claim (other d)).passes (other d) at v c (grind (arith, units_kept, few_claim));
@@ -168,7 +161,7 @@ module _ (known : Known) (barred : Class) (d : Direction) (local : Local)
             let front_read : units_of l.packet ≡ Ok front = leads_read (u ∷ xs) l ∙ ap (λ (f : List Value). Ok f) (sym some) in
             let w : Joint = record old { course = c; coming = old.coming ++ l.packet ∷ [] } in
             begins_alone f w (record {
-              goes = other_goes known.proper barred d local Inv k deeds at l.packet front old w (l.octets, front_read, refl) g taken judged;
+              goes = other_goes known.proper Two d local Inv k deeds at l.packet front old w (l.octets, front_read, refl) g taken judged never;
               holding = refl;
               put = refl;
               begun = refl;
@@ -187,7 +180,7 @@ module _ (known : Known) (barred : Class) (d : Direction) (local : Local)
     abbrev bad : Joint
     bad = spoilt d at cause packets old
 
-    as_without : (ends : Bool) → How known barred d local fair fair_alone Inv k has_begun ends old bad → AsWithout ends bad
+    as_without : (ends : Bool) → How known d local fair fair_alone Inv k has_begun ends old bad → AsWithout ends bad
     as_without ends how = record {
       deeds = deeds;
       without = old;
@@ -215,70 +208,69 @@ module _ (known : Known) (barred : Class) (d : Direction) (local : Local)
 
   -- ---- so they go on
 
-  module _ (apart : barred ≡ Zero → ⊥) where
-    abbrev first : wholes.Whole
-    first = wholes.begin (calls_from d) local
+  abbrev first : wholes.Whole
+  first = wholes.begin (calls_from d) local
 
-    -- what can't be read is nothing more then
-    pub spoilt_alone : (at : ℕ) (cause : Cause) (packets : List (List ℕ)) → units_in packets ≡ [] → (old : Joint) → AsWithout false old →
-        AsWithout false (spoilt d at cause packets old)
-    spoilt_alone at cause packets none old a =
-        let same = unread_same (other d) at cause old.course a.is.alone.halted in
-        record {
-          deeds = a.deeds;
-          without = a.without;
-          is = record {
-            goes = a.is.goes;
-            put = a.is.put;
-            begun = a.is.begun;
-            beside = subst (λ (c : Passed). IsBeside d c a.without.course) (sym same) a.is.beside;
-            alone = subst (IsAlone d) (sym same) a.is.alone;
-            followed = spoilt_followed d first at cause packets none old a.is.followed;
-            few = subst (AreFew (other d)) (sym same) a.is.few;
-            how = by a.is.how;
-          };
-        }
-      where
-        by : How known barred d local fair fair_alone Inv k has_begun false a.without old →
-            How known barred d local fair fair_alone Inv k has_begun false a.without (spoilt d at cause packets old)
-        by (is_over over) = is_over over
-        by (waits_for reads same front extra is all packet more there hard) =
-            waits_for reads same front extra is all packet (more ++ packets)
-            (ap (λ (l : List (List ℕ)). l ++ packets) there ∙ append_assoc front (packet ∷ more) packets) hard
-        by (none_comes spent same is) = absurd (let no : false ≡ true = spent in cc)
+  -- what can't be read is nothing more then
+  pub spoilt_alone : (at : ℕ) (cause : Cause) (packets : List (List ℕ)) → units_in packets ≡ [] → (old : Joint) → AsWithout false old →
+      AsWithout false (spoilt d at cause packets old)
+  spoilt_alone at cause packets none old a =
+      let same = unread_same (other d) at cause old.course a.is.alone.halted in
+      record {
+        deeds = a.deeds;
+        without = a.without;
+        is = record {
+          goes = a.is.goes;
+          put = a.is.put;
+          begun = a.is.begun;
+          beside = subst (λ (c : Passed). IsBeside d c a.without.course) (sym same) a.is.beside;
+          alone = subst (IsAlone d) (sym same) a.is.alone;
+          followed = spoilt_followed d first at cause packets none old a.is.followed;
+          few = subst (AreFew (other d)) (sym same) a.is.few;
+          how = by a.is.how;
+        };
+      }
+    where
+      by : How known d local fair fair_alone Inv k has_begun false a.without old →
+          How known d local fair fair_alone Inv k has_begun false a.without (spoilt d at cause packets old)
+      by (is_over over) = is_over over
+      by (waits_for reads same front extra is all packet more there hard) =
+          waits_for reads same front extra is all packet (more ++ packets)
+          (ap (λ (l : List (List ℕ)). l ++ packets) there ∙ append_assoc front (packet ∷ more) packets) hard
+      by (none_comes spent same is) = absurd (let no : false ≡ true = spent in cc)
 
-    pub later_step : (ends : Bool) (step : Step) (old new : Joint) → LaterSteps d step old new → (ends ≡ true → IsNoPacket step) →
-        length old.course.past < 2 ^ 64 → AsWithout ends old → AsWithout ends new
-    later_step ends (turns turn) old new t none short a = search (arith, turn_alone)
-    later_step ends begins_own old new step none short a = search (arith, own_begins_alone)
-    later_step ends begins_other old new step none short a = search (arith, other_begins_alone)
-    later_step ends (passes_own at v) old new step none short a = search (arith, own_alone_so)
-    later_step true (passes_other at packet units) old new step none short a = absurd (none refl)
-    later_step false (passes_other at packet units) old new (octets, read, is) none short a =
-        other_alone known barred d local fair fair_alone Inv k has_begun apart at packet units old new is
-        (later_followed d first known.proper (passes_other at packet units) old new (octets, read, is) a.is.followed) a
+  pub later_step : (ends : Bool) (step : Step) (old new : Joint) → LaterSteps d step old new → (ends ≡ true → IsNoPacket step) →
+      length old.course.past < 2 ^ 64 → AsWithout ends old → AsWithout ends new
+  later_step ends (turns turn) old new t none short a = search (arith, turn_alone)
+  later_step ends begins_own old new step none short a = search (arith, own_begins_alone)
+  later_step ends begins_other old new step none short a = search (arith, other_begins_alone)
+  later_step ends (passes_own at v) old new step none short a = search (arith, own_alone_so)
+  later_step true (passes_other at packet units) old new step none short a = absurd (none refl)
+  later_step false (passes_other at packet units) old new (octets, read, is) none short a =
+      other_alone known d local fair fair_alone Inv k has_begun at packet units old new is
+      (later_followed d first known.proper (passes_other at packet units) old new (octets, read, is) a.is.followed) a
 
-    -- nobody of the end is to blame
-    pub never_alone : (ends : Bool) (step : Step) (old new : Joint) → LaterSteps d step old new → AsWithout ends old → AsWithout ends new →
-        NeverToBlame d old.course → NeverToBlame d new.course
-    never_alone ends (turns turn) old new t a now never = subst (NeverToBlame d) (sym t.course) never
-    never_alone ends begins_own old new step a now never =
-        subst (λ (j : Joint). NeverToBlame d j.course) (sym step.2) (never_begins d d old.course never)
-    never_alone ends begins_other old new step a now never =
-        subst (λ (j : Joint). NeverToBlame d j.course) (sym step) (never_begins d (other d) old.course never)
-    never_alone ends (passes_own at v) old new step a now never =
-        subst (λ (j : Joint). NeverToBlame d j.course) (sym step.4) (never_unit d d at v old.course never
-        (subst (λ (j : Joint). NoneIsToBlame d j.course.sessions) step.4
-        (none_alone known barred d local fair fair_alone Inv k has_begun ends new now)))
-    never_alone ends (passes_other at packet units) old new step a now never =
-        subst (λ (j : Joint). NeverToBlame d j.course) (sym step.2) (units_alone d at units old.course a.is.alone never)
+  -- nobody of the end is to blame
+  pub never_alone : (ends : Bool) (step : Step) (old new : Joint) → LaterSteps d step old new → AsWithout ends old → AsWithout ends new →
+      NeverToBlame d old.course → NeverToBlame d new.course
+  never_alone ends (turns turn) old new t a now never = subst (NeverToBlame d) (sym t.course) never
+  never_alone ends begins_own old new step a now never =
+      subst (λ (j : Joint). NeverToBlame d j.course) (sym step.2) (never_begins d d old.course never)
+  never_alone ends begins_other old new step a now never =
+      subst (λ (j : Joint). NeverToBlame d j.course) (sym step) (never_begins d (other d) old.course never)
+  never_alone ends (passes_own at v) old new step a now never =
+      subst (λ (j : Joint). NeverToBlame d j.course) (sym step.4) (never_unit d d at v old.course never
+      (subst (λ (j : Joint). NoneIsToBlame d j.course.sessions) step.4
+      (none_alone known d local fair fair_alone Inv k has_begun ends new now)))
+  never_alone ends (passes_other at packet units) old new step a now never =
+      subst (λ (j : Joint). NeverToBlame d j.course) (sym step.2) (units_alone d at units old.course a.is.alone never)
 
-    pub later_alone : (ends : Bool) (steps : List Step) (old new : Joint) → LaterAlong d old steps new →
-        (ends ≡ true → AllByRecursion IsNoPacket steps) → length new.course.past < 2 ^ 64 → AsWithout ends old →
-        NeverToBlame d old.course → NeverToBlame d new.course
-    later_alone ends [] old new is none short a never = subst (λ (j : Joint). NeverToBlame d j.course) (sym is) never
-    later_alone ends (step ∷ steps) old new (mid, one, more) none short a never =
-        let longer = later_kept (λ c. length old.course.past ≤ length c.past) (long_claim (length old.course.past)) d (step ∷ steps) old new
-        (mid, one, more) (omega arith) in
-        let now = later_step ends step old mid one (λ yes. (none yes).0) (omega (arith, longer, short)) a in
-        later_alone ends steps mid new more (λ yes. (none yes).1) short now (never_alone ends step old mid one a now never)
+  pub later_alone : (ends : Bool) (steps : List Step) (old new : Joint) → LaterAlong d old steps new →
+      (ends ≡ true → AllByRecursion IsNoPacket steps) → length new.course.past < 2 ^ 64 → AsWithout ends old →
+      NeverToBlame d old.course → NeverToBlame d new.course
+  later_alone ends [] old new is none short a never = subst (λ (j : Joint). NeverToBlame d j.course) (sym is) never
+  later_alone ends (step ∷ steps) old new (mid, one, more) none short a never =
+      let longer = later_kept (λ c. length old.course.past ≤ length c.past) (long_claim (length old.course.past)) d (step ∷ steps) old new
+      (mid, one, more) (omega arith) in
+      let now = later_step ends step old mid one (λ yes. (none yes).0) (omega (arith, longer, short)) a in
+      later_alone ends steps mid new more (λ yes. (none yes).1) short now (never_alone ends step old mid one a now never)

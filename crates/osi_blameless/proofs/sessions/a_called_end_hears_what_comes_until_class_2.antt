@@ -1,9 +1,9 @@
 -- Until class 2 is selected all connections of a called end stand at a judge as units of the other side pass: CRs and DCs, and in class 0
 -- DTs for its one connection. For the session of the connection of a called end in class 0.
 use Rattle.osi_blameless.proofs.Vocabulary.{arith, ◌≡◌, ◌∙◌, refl, sym, ap, subst, ℕ, ◌<◌, Bool, true, false, List, [], ◌∷◌}
-use Rattle.osi_blameless.proofs.Vocabulary.{◌++◌, Option, Some, None, append_assoc, not, AllByRecursion, list_all, append-nil, Connect, Value}
+use Rattle.osi_blameless.proofs.Vocabulary.{◌++◌, Some, None, append_assoc, not, AllByRecursion, list_all, append-nil, Connect, Value}
 use Rattle.osi_blameless.proofs.Vocabulary.{acknowledge, confirm, data0, data2, disconnect, disconnected, error, request, unit_parts, Part}
-use Rattle.osi_blameless.proofs.Vocabulary.{Class, Zero, Left, Right, is_over, State, is_stopped, takes, left_class, Deeds, taken, Course}
+use Rattle.osi_blameless.proofs.Vocabulary.{Zero, Left, Right, is_over, State, is_stopped, takes, left_class, Deeds, taken, Course}
 use Rattle.osi_blameless.proofs.Vocabulary.{unit_passes, units_pass}
 use Rattle.osi_carrier.specs.State.{State as Carrier}
 use Rattle.osi_rules.specs.declared.directions.Direction.TheVariants as way
@@ -21,11 +21,14 @@ use Rattle.osi_blameless.proofs.sessions.no_connection_is_opened_before_a_class_
 use Rattle.osi_blameless.proofs.sessions.nothing_is_done_before_a_cr_passes.{may_take}
 use Rattle.osi_blameless.proofs.sessions.a_dt_of_class_0_is_in_flight.{zero_grows}
 use Rattle.osi_blameless.proofs.sessions.steps_of_either_class_leave_all_standing.{IsTolerable}
-use Rattle.osi_blameless.proofs.sessions.what_a_turn_puts_goes_to_its_peer.{all_of_both}
+use Rattle.osi_blameless.proofs.small_facts_that_many_lemmas_use.{all_join as all_of_both}
 use Rattle.osi_blameless.proofs.sessions.what_is_in_flight_to_an_end.{flight_same, known_of}
 use Rattle.osi_blameless.proofs.sessions.what_passes_leaves_all_standing as in_two
 use Rattle.osi_blameless.proofs.sessions.what_passes_leaves_all_standing.{IsHeardFirm}
 use Rattle.osi_blameless.proofs.sessions.what_stands_of_a_connection.{Known}
+use Rattle.osi_blameless.proofs.Vocabulary.{differ}
+use Rattle.osi_blameless.proofs.small_facts_that_many_lemmas_use.{none_some}
+use Rattle.osi_blameless.proofs.small_facts_that_many_lemmas_use.{same_one}
 
 -- ---- what holds
 
@@ -81,15 +84,6 @@ AreTaken at [] c = Unit {0}
 AreTaken at (v ∷ vs) c = IsTaken v c × AreTaken at vs (unit_passes Left at v c)
 
 -- ---- small facts
-
-pub none_some : {A : Type 0} (k : Option Class) (a : Class) → k ≡ None → k ≡ Some a → A
-none_some k a h e = absurd (cc)
-
-differ : {A : Type 0} (b : Bool) → b ≡ true → b ≡ false → A
-differ b h k = absurd (cc)
-
-same_place : (p q : ℕ) → Some p ≡ Some q → p ≡ q
-same_place p q e = cc
 
 not_true : (b : Bool) → not b ≡ true → b ≡ false
 not_true b h = grind arith
@@ -193,7 +187,7 @@ module _ (deeds : ℕ → Deeds) (r : ℕ) (end : Carrier) (put : List Value) (b
       place_is p i last user told apart same =
           let here : Some is_z.only.place ≡ Some p =
           sym (told_there Right Left deeds (known coming) put begun last user c.traffic c.sessions h.all is_z) ∙ told in
-          grind (arith, differ, one, is_z, same_place)
+          grind (arith, differ, one, is_z, same_one)
 
       grows : (last : Bool) (user : List ℕ) →
           GrowsThere Right (known coming) (known (coming ++ data0 last user ∷ [])) last user c.traffic c.sessions

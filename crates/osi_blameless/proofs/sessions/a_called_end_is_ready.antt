@@ -25,19 +25,20 @@ use Rattle.osi_blameless.proofs.sessions.a_unit_is_joined_where_it_is_named.{joi
 use Rattle.osi_blameless.proofs.sessions.all_connections_stand.{there_too}
 use Rattle.osi_blameless.proofs.sessions.ccs_that_wait_are_above_those_that_passed.{AreAboveAt, above_along}
 use Rattle.osi_blameless.proofs.sessions.each_cc_of_a_called_end_opens_another_connection.{put_ordered}
-use Rattle.osi_blameless.proofs.sessions.each_cc_that_passes_gives_a_new_reference.{GoesOn, IsAhead, above_unused, begins_other_ahead}
-use Rattle.osi_blameless.proofs.sessions.each_cc_that_passes_gives_a_new_reference.{begins_own_ahead, passes_above, passes_other_ahead}
-use Rattle.osi_blameless.proofs.sessions.each_cc_that_passes_gives_a_new_reference.{passes_own_ahead, turns_ahead, waits_above}
-use Rattle.osi_blameless.proofs.sessions.each_cr_that_passes_gives_a_new_reference.{AreUpTo, IsUpTo}
+use Rattle.osi_blameless.proofs.sessions.each_reference_of_an_end_is_new.{GoesOn, IsAhead, above_unused, begins_other_ahead}
+use Rattle.osi_blameless.proofs.sessions.each_reference_of_an_end_is_new.{begins_own_ahead, passes_above, passes_other_ahead}
+use Rattle.osi_blameless.proofs.sessions.each_reference_of_an_end_is_new.{passes_own_ahead, turns_ahead}
+use Rattle.osi_blameless.proofs.sessions.each_reference_of_an_end_is_new.{AreUpTo, IsUpTo}
 use Rattle.osi_blameless.proofs.sessions.each_unit_of_a_called_end_has_a_home.{OpensByNoCc, called_marked}
 use Rattle.osi_blameless.proofs.sessions.each_unit_of_a_turn_has_one_connection.{HasHome, IsMarked}
 use Rattle.osi_blameless.proofs.sessions.nothing_comes_before_a_cc_passes.{IsBelow, below_higher, none_waits}
 use Rattle.osi_blameless.proofs.sessions.nothing_is_done_before_a_cr_passes.{known_from, may_take}
 use Rattle.osi_blameless.proofs.sessions.references_of_an_end_are_distinct.{GivesNew, IsUnused}
-use Rattle.osi_blameless.proofs.sessions.units_written_alike_have_the_same_ccs.{AnswersTwo, AreAlike, AreOrdered, HasCc, IsCc, has_either}
+use Rattle.osi_blameless.proofs.sessions.units_written_alike_have_the_same_ccs.{AnswersTwo, AreAlike, AreOrdered, HasCc, IsCc, has_either, has_above, has_alike}
 use Rattle.osi_blameless.proofs.sessions.units_written_alike_have_the_same_ccs.{has_back, has_front, none_before, not_twice_alike}
 use Rattle.osi_blameless.proofs.sessions.units_written_alike_have_the_same_ccs.{ordered_alike}
-use Rattle.osi_blameless.proofs.sessions.what_a_turn_puts_goes_to_its_peer.{all_back, all_of_both, same_units}
+use Rattle.osi_blameless.proofs.sessions.what_a_turn_puts_goes_to_its_peer.{all_back, same_units}
+use Rattle.osi_blameless.proofs.small_facts_that_many_lemmas_use.{all_join as all_of_both}
 use Rattle.osi_blameless.proofs.sessions.what_an_end_takes_at_a_connection.{apart_none, during_taken}
 use Rattle.osi_blameless.proofs.sessions.what_is_in_flight_to_an_end.{parts_taken}
 use Rattle.osi_blameless.proofs.sessions.what_is_left_for_an_end.{left_empty}
@@ -102,7 +103,7 @@ module _ (local : Local) where
   -- What was put at a connection whose CC has not passed waits after it. At a connection without a CC nothing was put, and at either
   -- nothing was taken.
   pub record IsCalled (deeds : ℕ → Deeds) (j : Joint) : Type 0 where
-    pub ahead : IsAhead first j
+    pub ahead : IsAhead Right first j
     pub below : AllByRecursion (IsBelow ahead.bound) (units_in j.coming)
     pub unheard : (r : ℕ) → ahead.bound < r → units_taken (deeds r).calls ≡ []
     pub waits : (n r : ℕ) → HasCc n r j.put → (deeds r).put ≡ waiting_for (Some n) j.put
@@ -141,6 +142,11 @@ module _ (local : Local) where
       let given = early_not_given r f.whole.end lasts (has_lines local j f can h.two clear).end.none there in
       grind (arith, above_given, above_up)
 
+  -- a CC that waits is above all references at the judge
+  pub waits_above : (j : Joint) (h : IsAhead Right first j) → AllByRecursion CanBeWritten j.put → (n r : ℕ) → HasCc n r j.put →
+      h.bound < r
+  waits_above j h can n r has = grind (arith, has_above, has_alike)
+
   -- ---- a unit that passes
 
   pub is_ready : (deeds : ℕ → Deeds) (at : ℕ) (unit : Value) (old new : Joint) → Steps Right (passes_own at unit) old new →
@@ -148,7 +154,7 @@ module _ (local : Local) where
       IsReady Right deeds (known_from (may_take old.holding.end.carrier) (units_in old.coming)) unit new.put old.course.traffic
       old.course.sessions
   is_ready deeds at (confirm m x) old new (read, octets, put, begun, is) places known h =
-      let less = passes_above first at m x old new (read, octets, put, begun, is) h.ahead in
+      let less = passes_above Right first at (confirm m x) x.source refl old new (read, octets, put, begun, is) h.ahead in
       let has : HasCc m x.source old.put = subst (HasCc m x.source) (sym put) (inl (refl, refl)) in
       let all : (deeds x.source).put ≡ waiting_for (Some m) new.put =
       h.waits m x.source has ∙ ap (waiting_for (Some m)) put in
@@ -170,7 +176,7 @@ module _ (local : Local) where
   -- ---- each step of the judge
 
   -- nothing is put or passes of what the end has put
-  still : (deeds : ℕ → Deeds) (old new : Joint) (h : IsCalled deeds old) (g : GoesOn first h.ahead.bound new) → new.put ≡ old.put →
+  still : (deeds : ℕ → Deeds) (old new : Joint) (h : IsCalled deeds old) (g : GoesOn Right first h.ahead.bound new) → new.put ≡ old.put →
       AllByRecursion (IsBelow h.ahead.bound) (units_in new.coming) → IsCalled deeds new
   still deeds old new h g same below =
       record {
@@ -189,13 +195,13 @@ module _ (local : Local) where
   pub begins_own_called : AllProper → (deeds : ℕ → Deeds) (old new : Joint) → Steps Right begins_own old new → IsCalled deeds old →
       IsCalled deeds new
   begins_own_called proper deeds old new step h =
-      still deeds old new h (begins_own_ahead first proper old new step h.ahead) (ap (λ (j : Joint). j.put) step.2)
+      still deeds old new h (begins_own_ahead Right first proper old new step h.ahead) (ap (λ (j : Joint). j.put) step.2)
       (subst (λ (j : Joint). AllByRecursion (IsBelow h.ahead.bound) (units_in j.coming)) (sym step.2) h.below)
 
   pub begins_other_called : AllProper → (deeds : ℕ → Deeds) (old new : Joint) → Steps Right begins_other old new → IsCalled deeds old →
       IsCalled deeds new
   begins_other_called proper deeds old new step h =
-      still deeds old new h (begins_other_ahead first proper old new step h.ahead) (ap (λ (j : Joint). j.put) step)
+      still deeds old new h (begins_other_ahead Right first proper old new step h.ahead) (ap (λ (j : Joint). j.put) step)
       (subst (λ (j : Joint). AllByRecursion (IsBelow h.ahead.bound) (units_in j.coming)) (sym step) h.below)
 
   -- the units of a packet of the other side are no CCs, and those of connections are for references of the judge
@@ -205,7 +211,7 @@ module _ (local : Local) where
       IsCalled deeds new
   passes_other_called proper deeds at packet units old new step h below up =
       let one : units_in (packet ∷ []) ≡ units = append-nil (units_read (units_of packet)) ∙ ap units_read step.1 in
-      still deeds old new h (passes_other_ahead first proper at packet units old new step h.ahead up)
+      still deeds old new h (passes_other_ahead Right first proper at packet units old new step h.ahead up)
       (ap (λ (j : Joint). j.put) step.2)
       (grind (arith, units_join, all_of_both))
 
@@ -217,7 +223,8 @@ module _ (local : Local) where
       Steps Right (passes_own at unit) old new → HaveSamePlaces old.course.traffic.connections old.course.sessions.live →
       IsCalled deeds old → IsCalled deeds new
   passes_own_called proper deeds at unit old new step places h =
-      let g = passes_own_ahead first proper at unit old new step places h.ahead in
+      let p = passes_own_ahead Right first proper at unit old new step places h.ahead in
+      let g = p.on in
       let put = step.2 in
       let ordered : AreOrdered (unit ∷ new.put) = subst AreOrdered put h.ordered in
       record {
@@ -229,7 +236,7 @@ module _ (local : Local) where
             h.waits n r (subst (HasCc n r) (sym put) (inr has)) ∙ ap (waiting_for (Some n)) put
             ∙ picked_rest (is_for (Some n)) unit new.put (not_so (is_for (Some n) unit) (λ e. ordered.0 n r e has));
         spent = λ r less.
-            spent_next (deeds r) g.ahead.bound r unit new.put g.gives less
+            spent_next (deeds r) g.ahead.bound r unit new.put p.up less
             (subst (λ (l : List Value). ((deeds r).put ≡ []) ⊎ ((n : ℕ) × HasCc n r l)) put
             (h.spent r (omega (arith, less))));
         ordered = ordered.1;
@@ -250,8 +257,8 @@ module _ (local : Local) where
     abbrev f : IsFollowed Right first old
     f = h.ahead.followed
 
-    g : GoesOn first h.ahead.bound new
-    g = turns_ahead first proper turn old new t h.ahead
+    g : GoesOn Right first h.ahead.bound new
+    g = turns_ahead Right first proper turn old new t h.ahead
 
     turn_put : new.put ≡ old.put ++ all_units on.put
     turn_put = t.put ∙ ap (λ (l : List Value). old.put ++ l) units
@@ -270,7 +277,7 @@ module _ (local : Local) where
 
     -- the reference of a CC that waits now
     above_old : (n r : ℕ) → HasCc n r new.put → h.ahead.bound < r
-    above_old n r has = grind (arith, g, waits_above first new g.ahead can_new n r has)
+    above_old n r has = grind (arith, g, waits_above new g.ahead can_new n r has)
 
     home_low : (i j : ℕ) → HasHome Right i j old.course.traffic old.course.sessions → i ≤ h.ahead.bound
     home_low i j home = (h.ahead.below.live home.place home.joined i home.here home.mine).1
@@ -368,7 +375,7 @@ module _ (local : Local) where
     news : AllByRecursion (λ (v : Value). GivesNew Right v old.course.sessions) (all_units on.put)
     news =
         all_new (all_units on.put)
-        (λ n r has. above_unused h.ahead.bound r old.course.sessions h.ahead.below
+        (λ n r has. above_unused Right h.ahead.bound r old.course.sessions h.ahead.below
         (above_old n r (subst (HasCc n r) (sym turn_put) (has_back n r old.put (all_units on.put) has))))
 
     pub turn_homed : AllByRecursion (IsMarked Right old.course.traffic old.course.sessions) on.put

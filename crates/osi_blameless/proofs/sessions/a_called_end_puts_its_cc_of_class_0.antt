@@ -9,10 +9,10 @@ use Rattle.osi_blameless.proofs.Vocabulary.{stage_there, all_units_more, CanBeWr
 use Rattle.osi_carrier.specs.State.{State as Carrier}
 use Rattle.osi_blameless.proofs.a_carrier_does_events.{none_of}
 use Rattle.osi_blameless.proofs.steps_are_events.{IsFollowed}
-use Rattle.osi_blameless.proofs.what_a_carrier_puts_can_be_written.{all_more}
+use Rattle.osi_blameless.proofs.small_facts_that_many_lemmas_use.{can_more as all_more}
 use Rattle.osi_blameless.proofs.what_is_put_is_what_is_written.{none_written}
 use Rattle.osi_blameless.proofs.sessions.a_called_end_hears_what_comes_until_class_2.{IsAsking, IsNoCc, StandsCalledEarly, known_one}
-use Rattle.osi_blameless.proofs.sessions.a_called_end_hears_what_comes_until_class_2.{none_some}
+use Rattle.osi_blameless.proofs.small_facts_that_many_lemmas_use.{none_some}
 use Rattle.osi_blameless.proofs.sessions.a_called_end_of_class_2_has_its_lines.{has_lines}
 use Rattle.osi_blameless.proofs.sessions.a_called_end_stands_as_units_pass.{StandsCalled}
 use Rattle.osi_blameless.proofs.sessions.a_called_end_stands_in_class_0.{WasOpen, answers_now, cc_not_dt, first, open_before, opens_now}
@@ -21,7 +21,8 @@ use Rattle.osi_blameless.proofs.sessions.a_calling_end_stands_as_units_pass.{kno
 use Rattle.osi_blameless.proofs.sessions.a_turn_after_which_a_cc_of_class_0_waits.{dts_after, no_cc_taken, turns_waiting}
 use Rattle.osi_blameless.proofs.sessions.a_turn_of_a_calling_end_until_class_2.{early_lasts}
 use Rattle.osi_blameless.proofs.sessions.all_connections_stand.{AllStand}
-use Rattle.osi_blameless.proofs.sessions.each_cc_that_passes_gives_a_new_reference.{GoesOn, turns_ahead, waits_above}
+use Rattle.osi_blameless.proofs.sessions.each_reference_of_an_end_is_new.{GoesOn, turns_ahead}
+use Rattle.osi_blameless.proofs.sessions.a_called_end_is_ready.{waits_above}
 use Rattle.osi_blameless.proofs.sessions.each_step_leaves_class_0_one_connection.{Sure}
 use Rattle.osi_blameless.proofs.sessions.each_unit_of_a_calling_end_has_a_home.{IsWrittenAs}
 use Rattle.osi_blameless.proofs.sessions.no_connection_is_opened_before_a_class_is_selected.{AreUncalled, UncalledUntil}
@@ -100,8 +101,8 @@ module _ (local : Local) (proper : AllProper) (turn : Turn) (old new : Joint) (t
   abbrev then_end : Carrier
   then_end = new.holding.end.carrier
 
-  abbrev pub ahead : GoesOn (first local) h.called.ahead.bound new
-  ahead = turns_ahead (first local) proper turn old new t h.called.ahead
+  abbrev pub ahead : GoesOn Right (first local) h.called.ahead.bound new
+  ahead = turns_ahead Right (first local) proper turn old new t h.called.ahead
 
   abbrev f : IsFollowed Right (first local) new
   f = ahead.ahead.followed

@@ -10,7 +10,8 @@ use Rattle.osi_honest.specs.Courses.{Course}
 use Rattle.osi_judge.specs.Courses.{Course as Passed}
 use Rattle.osi_blameless.proofs.small_facts_that_many_lemmas_use.{can_more as all_more}
 use Rattle.osi_blameless.proofs.what_is_put_is_what_is_written.{none_written}
-use Rattle.osi_blameless.proofs.sessions.a_called_end_hears_what_breaks_no_rule.{AreFine, units_heard}
+use Rattle.osi_blameless.proofs.sessions.a_called_end_hears_what_breaks_no_rule.{units_heard}
+use Rattle.osi_blameless.proofs.sessions.an_end_hears_what_breaks_no_rule.{AreFine}
 use Rattle.osi_blameless.proofs.sessions.a_called_end_is_ready.{AreKnown, IsCalled, begins_other_called, begins_own_called, first, is_ready}
 use Rattle.osi_blameless.proofs.sessions.a_called_end_is_ready.{passes_other_called, passes_own_called, turn_homed, turns_called}
 use Rattle.osi_blameless.proofs.sessions.a_called_end_of_class_2_has_its_lines.{has_lines}
@@ -21,7 +22,7 @@ use Rattle.osi_blameless.proofs.sessions.a_turn_does_what_its_deeds_say.{units_j
 use Rattle.osi_blameless.proofs.sessions.a_turn_leaves_all_standing.{Turns}
 use Rattle.osi_blameless.proofs.sessions.all_connections_stand.{all_room}
 use Rattle.osi_blameless.proofs.sessions.connections_have_the_same_places.{at_same, unit_joins}
-use Rattle.osi_blameless.proofs.sessions.each_cc_that_passes_gives_a_new_reference.{gives_new}
+use Rattle.osi_blameless.proofs.sessions.each_reference_of_an_end_is_new.{gives_new}
 use Rattle.osi_blameless.proofs.sessions.each_unit_of_a_turn_has_one_connection.{puts_wait}
 use Rattle.osi_blameless.proofs.sessions.nothing_is_done_before_a_cr_passes.{known_from, may_take}
 use Rattle.osi_blameless.proofs.sessions.references_of_an_end_are_distinct.{AreDistinct, begins_distinct, unit_distinct}
@@ -93,22 +94,22 @@ module _ (local : Local) (proper : AllProper) where
             h.standing;
         distinct = subst (AreDistinct Right) (sym (unit_joins Right at unit old.course))
             (unit_distinct Right Right at unit old.course.traffic old.course.sessions a.places h.distinct
-            (gives_new (first local) at unit old mid step h.called.ahead) (search (arith, all_room, known_at)));
+            (gives_new Right (first local) at unit old mid step h.called.ahead) (search (arith, all_room, known_at)));
         shut = own_passes_shut Right at unit old a.places (search (arith, all_room, known_at)) h.shut;
         can = (subst (AllByRecursion CanBeWritten) put h.can).1;
       })
 
   pub passes_other_stands : (deeds : ℕ → Deeds) (at : ℕ) (packet : List ℕ) (units : List Value) (old new : Joint) →
-      Steps Right (passes_other at packet units) old new → AreFine at units old.course → StandsCalled deeds old → StandsCalled deeds new
+      Steps Right (passes_other at packet units) old new → AreFine Right at units old.course → StandsCalled deeds old → StandsCalled deeds new
   passes_other_stands deeds at packet units old new (octets, read, is) fine h =
       let mid : Joint = record old { course = units_pass Left at units old.course; coming = old.coming ++ packet ∷ [] } in
       let one : units_in (packet ∷ []) ≡ units = append-nil (units_read (units_of packet)) ∙ ap units_read read in
       let all : units_in old.coming ++ units ≡ units_in (old.coming ++ packet ∷ []) =
       sym (units_join old.coming (packet ∷ []) ∙ ap (λ (l : List Value). units_in old.coming ++ l) one) in
       let k = units_heard deeds (may_take old.holding.end.carrier) old.put old.begun h.called.ahead.bound at units (units_in old.coming)
-      old.course fine (grind arith) in
+      old.course fine (record { stand = h.standing.all; distinct = h.distinct; shut = h.shut }) h.called.ahead.below in
       subst (StandsCalled deeds) (sym is) (record {
-        called = passes_other_called local proper deeds at packet units old mid (octets, read, refl) h.called k.below k.all.up;
+        called = passes_other_called local proper deeds at packet units old mid (octets, read, refl) h.called k.below k.up;
         standing = grind (arith, known_from, may_take);
         distinct = k.all.distinct;
         shut = grind (arith, may_take);

@@ -15,9 +15,10 @@ use Rattle.osi_blameless.proofs.what_a_taker_passes_over.{mild_of}
 use Rattle.osi_blameless.proofs.what_passes_keeps_a_claim.{step_kept}
 use Rattle.osi_blameless.proofs.what_the_turns_among_steps_do.{TurnDoes}
 use Rattle.osi_blameless.proofs.sessions.a_called_end_answers_with_class_2_or_selects_class_0.{answers_or_selects}
-use Rattle.osi_blameless.proofs.sessions.a_called_end_hears_what_breaks_no_rule.{AreFine}
+use Rattle.osi_blameless.proofs.sessions.an_end_hears_what_breaks_no_rule.{AreFine}
 use Rattle.osi_blameless.proofs.sessions.a_called_end_hears_what_comes_until_class_2.{AreTaken, IsAsking, IsNoCc, StandsCalledEarly}
-use Rattle.osi_blameless.proofs.sessions.a_called_end_hears_what_comes_until_class_2.{known_one, none_some, units_early}
+use Rattle.osi_blameless.proofs.sessions.a_called_end_hears_what_comes_until_class_2.{known_one, units_early}
+use Rattle.osi_blameless.proofs.small_facts_that_many_lemmas_use.{none_some}
 use Rattle.osi_blameless.proofs.sessions.a_called_end_puts_its_cc_of_class_0.{all_unnamed, asking_plain, turns_selecting}
 use Rattle.osi_blameless.proofs.sessions.a_called_end_stands_as_units_pass.{StandsCalled, begins_other_stands, begins_own_stands}
 use Rattle.osi_blameless.proofs.sessions.a_called_end_stands_as_units_pass.{passes_other_stands, passes_own_stands, turns_stand}
@@ -34,10 +35,10 @@ use Rattle.osi_blameless.proofs.sessions.a_turn_does_what_its_deeds_say.{turn_le
 use Rattle.osi_blameless.proofs.sessions.a_turn_of_a_called_end_in_class_0.{none_zero, turns_zero}
 use Rattle.osi_blameless.proofs.sessions.nobody_of_a_side_is_to_blame.{NoneIsToBlame}
 use Rattle.osi_blameless.proofs.sessions.connections_have_the_same_places.{Agree, unit_knows}
-use Rattle.osi_blameless.proofs.sessions.each_cc_that_passes_gives_a_new_reference.{turns_ahead}
+use Rattle.osi_blameless.proofs.sessions.each_reference_of_an_end_is_new.{turns_ahead}
 use Rattle.osi_blameless.proofs.sessions.each_step_leaves_class_0_one_connection.{Sure, fresh_sure, sure_claim}
 use Rattle.osi_blameless.proofs.sessions.no_connection_is_opened_before_a_class_is_selected.{UncalledUntil, uncalled_claim}
-use Rattle.osi_blameless.proofs.sessions.no_session_of_a_called_end_breaks_first.{called_first}
+use Rattle.osi_blameless.proofs.sessions.what_a_called_end_keeps_unless_in_class_0.{called_first}
 use Rattle.osi_blameless.proofs.sessions.what_is_asked_of_what_holds_at_each_step.{ArePassed, HaveCourses, early}
 use Rattle.osi_blameless.proofs.sessions.only_a_cc_selects_a_class.{selects_none}
 use Rattle.osi_blameless.proofs.sessions.steps_leave_all_standing.{IsProper}
@@ -45,7 +46,7 @@ use Rattle.osi_blameless.proofs.sessions.what_passes_leaves_all_standing.{firm_g
 use Rattle.osi_blameless.proofs.sessions.steps_of_either_class_leave_all_standing.{IsRight, stand_none}
 use Rattle.osi_blameless.proofs.sessions.units_written_alike_have_the_same_ccs.{AnswersTwo, HasCc, has_back, has_front}
 use Rattle.osi_blameless.proofs.sessions.what_a_turn_puts_goes_to_its_peer.{all_back, all_so}
-use Rattle.osi_blameless.proofs.what_a_carrier_puts_can_be_written.{all_more}
+use Rattle.osi_blameless.proofs.small_facts_that_many_lemmas_use.{can_more as all_more}
 
 -- ---- small facts
 
@@ -68,13 +69,17 @@ pub taken_of : (at : ℕ) (vs : List Value) (c : Passed) → ArePassed Two Right
 taken_of at [] c h = tt
 taken_of at (v ∷ vs) c h = grind (arith, early, taken_of at vs (unit_passes Left at v c) h.1)
 
-fine_of : (at : ℕ) (vs : List Value) (c : Passed) → c.traffic.course.class ≡ None → ArePassed Two Right at vs c → AreFine at vs c
+fine_of : (at : ℕ) (vs : List Value) (c : Passed) → c.traffic.course.class ≡ None → ArePassed Two Right at vs c → AreFine Right at vs c
 fine_of at [] c none h = tt
 fine_of at (v ∷ vs) c none h =
     let one = early Right v c h.0 in
     let two : class_for way.Left c.traffic.course ≡ Some Zero → ⊥ =
     λ seen. none_some c.traffic.course.class Zero none (h.0.sure.agrees Zero seen) in (
       record {
+        lasts = record {
+          sure = record { left = h.0.firm.left; right = h.0.firm.right };
+          two = λ zero. none_some c.traffic.course.class Zero none zero;
+        };
         goes = one.goes;
         two = two;
         on = grind (arith, firm_goes);
@@ -250,7 +255,7 @@ module _ (local : Local) (proper : AllProper) where
       }
 
       turn_by : AllByRecursion AnswersTwo new.put
-          ⊎ Selecting local (turns_ahead (first local) proper turn old new t h.stands.called.ahead).ahead.followed.whole →
+          ⊎ Selecting local (turns_ahead Right (first local) proper turn old new t h.stands.called.ahead).ahead.followed.whole →
           Phase then_deeds new
       turn_by (inl two) = inl (none_turns two)
       turn_by (inr z) =
@@ -259,7 +264,7 @@ module _ (local : Local) (proper : AllProper) where
 
       none_or_selects : Phase then_deeds new
       none_or_selects =
-          turn_by (answers_or_selects local new (turns_ahead (first local) proper turn old new t h.stands.called.ahead).ahead.followed
+          turn_by (answers_or_selects local new (turns_ahead Right (first local) proper turn old new t h.stands.called.ahead).ahead.followed
           (subst (AllByRecursion CanBeWritten) (sym turn_put) (all_more old.put (all_units put) h.stands.can does.of.on.can))
           (subst (λ (c : Passed). IsOngoing c.traffic.course) (sym t.course) (going_on old.course.traffic.course clear))
           (subst Agree (sym t.course) h.stands.standing.all.places))

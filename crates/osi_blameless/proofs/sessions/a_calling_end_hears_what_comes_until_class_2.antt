@@ -1,13 +1,13 @@
 -- Until class 2 is selected all connections of a calling end stand at a judge as units of the other side pass: answers to its CRs, and in
 -- class 0 DTs for its one connection. For the session of the connection of an end in class 0.
 use Rattle.osi_blameless.proofs.Vocabulary.{◌≡◌, ◌∙◌, refl, sym, ap, subst, ℕ, ◌<◌, ◌≤◌, Bool, true, false, List, [], ◌∷◌}
-use Rattle.osi_blameless.proofs.Vocabulary.{◌++◌, map, Option, Some, None, is_some, arith, append_assoc, ◌&&◌, ◌||◌, nat_le, AllByRecursion}
-use Rattle.osi_blameless.proofs.Vocabulary.{le-leb, lt-ltb, append-nil, Connect, HasFieldsInRange, Value, acknowledge, confirm, data0}
-use Rattle.osi_blameless.proofs.Vocabulary.{data2, disconnect, disconnected, error, request, written, unit_parts, Part, Class, Two, Zero}
-use Rattle.osi_blameless.proofs.Vocabulary.{Local, EndReason, Direction, Left, Right, Connection, Finding, TooMany, Reach, is_applied}
-use Rattle.osi_blameless.proofs.Vocabulary.{is_refused, State, class_for, class_of, is_stopped, stops_by, takes, stops_are_said, has_given}
-use Rattle.osi_blameless.proofs.Vocabulary.{Whole, zero_stays, Holds, holds_next, lasts_passing, Deeds, amid, past, stage_at, stage_over}
-use Rattle.osi_blameless.proofs.Vocabulary.{Sessions, taken, Course, unit_passes, units_pass, way_of}
+use Rattle.osi_blameless.proofs.Vocabulary.{◌++◌, map, Option, Some, None, is_some, arith, append_assoc, ◌||◌, AllByRecursion}
+use Rattle.osi_blameless.proofs.Vocabulary.{append-nil, Connect, HasFieldsInRange, Value, acknowledge, confirm, data0, data2}
+use Rattle.osi_blameless.proofs.Vocabulary.{disconnect, disconnected, error, request, written, unit_parts, Part, Class, Two, Zero, Local}
+use Rattle.osi_blameless.proofs.Vocabulary.{EndReason, Direction, Left, Right, Connection, Finding, TooMany, Reach, is_applied, is_refused}
+use Rattle.osi_blameless.proofs.Vocabulary.{State, class_for, class_of, is_stopped, stops_by, takes, stops_are_said, has_given, Whole}
+use Rattle.osi_blameless.proofs.Vocabulary.{zero_stays, Holds, holds_next, lasts_passing, Deeds, amid, past, stage_at, stage_over, Sessions}
+use Rattle.osi_blameless.proofs.Vocabulary.{taken, Course, unit_passes, units_pass, way_of}
 use Rattle.osi_carrier.specs.State.{State as Carrier}
 use Rattle.osi_rules.specs.declared.directions.Direction.TheVariants as way
 use Rattle.osi_fair.specs.Naming.{unit as passing}
@@ -21,19 +21,23 @@ use Rattle.osi_blameless.proofs.sessions.a_dt_of_class_0_leaves_all_standing.{Gr
 use Rattle.osi_blameless.proofs.sessions.all_connections_stand.{AllStand, all_room}
 use Rattle.osi_blameless.proofs.sessions.class_0_keeps_its_one_place.{HasOne, IsStill, one_passes, zero_still}
 use Rattle.osi_blameless.proofs.sessions.connections_have_the_same_places.{unit_joins, unit_knows}
-use Rattle.osi_blameless.proofs.sessions.each_cr_that_passes_gives_a_new_reference.{AreUpTo, IsUpTo, IsWithin, unit_up}
+use Rattle.osi_blameless.proofs.sessions.each_reference_of_an_end_is_new.{AreUpTo, IsUpTo, IsWithin, unit_up}
 use Rattle.osi_blameless.proofs.sessions.each_step_leaves_class_0_one_connection.{Sure, is_zero, sure_claim}
 use Rattle.osi_blameless.proofs.sessions.nothing_is_done_before_a_cr_passes.{is_under_way, may_take}
 use Rattle.osi_blameless.proofs.sessions.references_of_an_end_are_distinct.{AreDistinct, GivesNew, unit_distinct}
 use Rattle.osi_blameless.proofs.sessions.a_dt_of_class_0_is_in_flight.{zero_grows, zero_stays as flight_stays}
 use Rattle.osi_blameless.proofs.sessions.steps_of_either_class_leave_all_standing.{IsTolerable}
 use Rattle.osi_blameless.proofs.sessions.units_of_class_0_come_after_its_cc.{InOrder, IsCcFor, IsLater, IsQuiet, order_more, quiet_cc}
-use Rattle.osi_blameless.proofs.sessions.what_a_turn_puts_goes_to_its_peer.{all_of_both}
+use Rattle.osi_blameless.proofs.small_facts_that_many_lemmas_use.{all_join as all_of_both}
 use Rattle.osi_blameless.proofs.sessions.what_is_in_flight_to_an_end.{flight_same, known_of}
 use Rattle.osi_blameless.proofs.sessions.what_passes_leaves_all_standing as in_two
 use Rattle.osi_blameless.proofs.sessions.what_passes_leaves_all_standing.{IsHeardFirm}
 use Rattle.osi_blameless.proofs.sessions.what_stands_of_a_connection.{Known, waiting_for}
 use Rattle.osi_blameless.proofs.sessions.what_the_stage_of_a_calling_end_says.{AwaitsAnswer, awaits, cc_comes, gone, one_early}
+use Rattle.osi_blameless.proofs.small_facts_that_many_lemmas_use.{given_so}
+use Rattle.osi_blameless.proofs.small_facts_that_many_lemmas_use.{none_some}
+use Rattle.osi_blameless.proofs.small_facts_that_many_lemmas_use.{over_none}
+use Rattle.osi_blameless.proofs.small_facts_that_many_lemmas_use.{same_one}
 
 -- ---- what holds
 
@@ -80,21 +84,12 @@ IsNotTwo c = c.traffic.course.class ≡ Some Two → ⊥
 none_zero : {A : Type 0} (k : Option Class) → k ≡ None → k ≡ Some Zero → A
 none_zero k h e = absurd (cc)
 
-none_some : {A : Type 0} (k : Option Class) (a : Class) → k ≡ None → k ≡ Some a → A
-none_some k a h e = absurd (cc)
-
-over_none : {A : Type 0} (o : Option EndReason) → is_some o ≡ true → o ≡ None → A
-over_none o h e = grind arith
-
 no_written : (put : List Value) → [] ≡ map written put → put ≡ []
 no_written [] e = refl
 no_written (v ∷ put) e = absurd (cc)
 
 same_number : (m n : ℕ) (x y : Connect) → confirm m x ≡ confirm n y → n ≡ m
 same_number m n x y e = cc
-
-given_so : (r : ℕ) (c : Carrier) → 0 < r → r ≤ c.given → has_given r c ≡ true
-given_so r c some up = ap (λ (b : Bool). b && nat_le r c.given) (lt-ltb 0 r some) ∙ le-leb r c.given up
 
 past_not : (q : ℕ) (end : Carrier) → stage_at q end ≡ past → may_take end q ≡ false
 past_not q end e = ap is_under_way e
@@ -104,9 +99,6 @@ few_of f h many = let no : false ≡ true = sym (ap is_applied many) ∙ h in cc
 
 refused_not : (c : Connection) → is_refused c.right.phase ≡ true → is_refused c.right.phase ≡ false → ⊥
 refused_not c h k = grind arith
-
-same_place : (p q : ℕ) → Some p ≡ Some q → p ≡ q
-same_place p q e = cc
 
 -- ---- units that break no rule, or are passed over
 
@@ -214,7 +206,7 @@ module _ (local : Local) (deeds : ℕ → Deeds) (b : ℕ) (end : Carrier) (put 
     place_is p i last user told apart same =
         let here : Some is_z.only.place ≡ Some p =
         sym (told_there Left Right deeds (known_below b end coming) put begun last user c.traffic c.sessions h.all is_z) ∙ told in
-        search (arith, refused_not, is_z, same_place)
+        search (arith, refused_not, is_z, same_one)
 
     gone_here : (q : ℕ) → stage_at q end ≡ past → may_take end q ≡ false
     gone_here q e = past_not q end e

@@ -15,9 +15,9 @@ use Rattle.osi_blameless.proofs.steps_are_events.{IsFollowed, begin_followed, ow
 use Rattle.osi_blameless.proofs.sessions.a_right_dt_has_one_place.{AreUsedApart, named_apart}
 use Rattle.osi_blameless.proofs.sessions.a_turn_does_what_its_deeds_say.{turn_leaves, units_join}
 use Rattle.osi_blameless.proofs.sessions.crs_that_wait_are_above_those_that_passed.{AreAbove, above_along, passes_asked}
-use Rattle.osi_blameless.proofs.sessions.each_cr_that_passes_gives_a_new_reference.{AreAhead, GoesOn, IsUpTo, begins_other_ahead}
-use Rattle.osi_blameless.proofs.sessions.each_cr_that_passes_gives_a_new_reference.{begins_own_ahead, passes_other_ahead}
-use Rattle.osi_blameless.proofs.sessions.each_cr_that_passes_gives_a_new_reference.{passes_own_ahead, turns_ahead}
+use Rattle.osi_blameless.proofs.sessions.each_reference_of_an_end_is_new.{IsAhead, GoesOn, IsUpTo, begins_other_ahead}
+use Rattle.osi_blameless.proofs.sessions.each_reference_of_an_end_is_new.{begins_own_ahead, passes_other_ahead, other_up}
+use Rattle.osi_blameless.proofs.sessions.each_reference_of_an_end_is_new.{passes_own_ahead, turns_ahead}
 use Rattle.osi_blameless.proofs.sessions.nothing_is_done_before_a_cr_passes.{AreUndone, IsNoZero, cr_calm, cr_ready, known_from, none_come}
 use Rattle.osi_blameless.proofs.sessions.nothing_is_done_before_a_cr_passes.{may_take, turn_undone}
 use Rattle.osi_blameless.proofs.sessions.what_passes_leaves_all_standing.{IsReady}
@@ -72,7 +72,7 @@ module _ (local : Local) (two : local.class2 ≡ true) where
       (w.peers (subst (λ (s : State). IsOngoing s.course) (sym f.judge) clear)))
 
   pub record IsCalling (deeds : ℕ → Deeds) (j : Joint) : Type 0 where
-    pub ahead : AreAhead first j
+    pub ahead : IsAhead Left first j
     pub undone : AreUndone ahead.bound deeds j.holding.end.carrier
     pub zero : AllByRecursion IsNoZero (units_in j.coming)
 
@@ -120,7 +120,7 @@ module _ (local : Local) (two : local.class2 ≡ true) where
   higher b n deeds c up u r less = u r (omega (arith, up, less))
 
   -- the end does nothing
-  still : (deeds : ℕ → Deeds) (old new : Joint) (h : IsCalling deeds old) → GoesOn first h.ahead.bound new →
+  still : (deeds : ℕ → Deeds) (old new : Joint) (h : IsCalling deeds old) → GoesOn Left first h.ahead.bound new →
       new.holding ≡ old.holding → AllByRecursion IsNoZero (units_in new.coming) → IsCalling deeds new
   still deeds old new h g same zero = record {
     ahead = g.ahead;
@@ -131,20 +131,20 @@ module _ (local : Local) (two : local.class2 ≡ true) where
   pub begins_own_calling : AllProper → (deeds : ℕ → Deeds) (old new : Joint) → Steps Left begins_own old new → IsCalling deeds old →
       IsCalling deeds new
   begins_own_calling proper deeds old new step h =
-      still deeds old new h (begins_own_ahead first proper old new step h.ahead) (ap (λ (j : Joint). j.holding) step.2)
+      still deeds old new h (begins_own_ahead Left first proper old new step h.ahead) (ap (λ (j : Joint). j.holding) step.2)
       (subst (λ (j : Joint). AllByRecursion IsNoZero (units_in j.coming)) (sym step.2) h.zero)
 
   pub begins_other_calling : AllProper → (deeds : ℕ → Deeds) (old new : Joint) → Steps Left begins_other old new → IsCalling deeds old →
       IsCalling deeds new
   begins_other_calling proper deeds old new step h =
-      still deeds old new h (begins_other_ahead first proper old new step h.ahead) (ap (λ (j : Joint). j.holding) step)
+      still deeds old new h (begins_other_ahead Left first proper old new step h.ahead) (ap (λ (j : Joint). j.holding) step)
       (subst (λ (j : Joint). AllByRecursion IsNoZero (units_in j.coming)) (sym step) h.zero)
 
   pub passes_own_calling : AllProper → (deeds : ℕ → Deeds) (at : ℕ) (unit : Value) (old new : Joint) →
       Steps Left (passes_own at unit) old new → HaveSamePlaces old.course.traffic.connections old.course.sessions.live →
       IsCalling deeds old → IsCalling deeds new
   passes_own_calling proper deeds at unit old new step places h =
-      still deeds old new h (passes_own_ahead first proper at unit old new step places h.ahead) (ap (λ (j : Joint). j.holding) step.4)
+      still deeds old new h (passes_own_ahead Left first proper at unit old new step places h.ahead).on (ap (λ (j : Joint). j.holding) step.4)
       (subst (λ (j : Joint). AllByRecursion IsNoZero (units_in j.coming)) (sym step.4) h.zero)
 
   pub passes_other_plain : AllProper → (deeds : ℕ → Deeds) (at : ℕ) (packet : List ℕ) (units : List Value) (old new : Joint) →
@@ -153,7 +153,8 @@ module _ (local : Local) (two : local.class2 ≡ true) where
   passes_other_plain proper deeds at packet units old new step places h plain =
       let one : units_in (packet ∷ []) ≡ units = append-nil (units_read (units_of packet)) ∙ ap units_read step.1 in
       still deeds old new h
-      (passes_other_ahead first proper at packet units old new step places h.ahead (ups h.ahead.bound units plain))
+      (passes_other_ahead Left first proper at packet units old new step h.ahead
+      (other_up Left first at h.ahead.bound packet units old new step places (ups h.ahead.bound units plain) h.ahead.below))
       (ap (λ (j : Joint). j.holding) step.2)
       (grind (arith, units_join, all_join, zeros))
 
@@ -164,7 +165,7 @@ module _ (local : Local) (two : local.class2 ≡ true) where
       HaveSamePlaces old.course.traffic.connections old.course.sessions.live → IsOngoing old.course.traffic.course →
       IsCalling deeds old → IsCalling (λ r. then_did (deeds r) (on.more r)) new
   turns_calling proper turn old new t deeds on life places clear h =
-      let g = turns_ahead first proper turn old new t h.ahead in
+      let g = turns_ahead Left first proper turn old new t h.ahead in
       record {
         ahead = g.ahead;
         undone = higher h.ahead.bound g.ahead.bound (λ r. then_did (deeds r) (on.more r)) new.holding.end.carrier g.rises

@@ -11,7 +11,8 @@ use Rattle.osi_honest.specs.Courses.{Course}
 use Rattle.osi_judge.specs.Courses.{Course as Passed}
 use Rattle.osi_blameless.proofs.small_facts_that_many_lemmas_use.{can_more as all_more, ranges_of}
 use Rattle.osi_blameless.proofs.what_is_put_is_what_is_written.{none_written}
-use Rattle.osi_blameless.proofs.sessions.a_calling_end_hears_what_breaks_no_rule.{AreFine, IsBehind, fine_plain, units_heard}
+use Rattle.osi_blameless.proofs.sessions.a_calling_end_hears_what_breaks_no_rule.{IsBehind, fine_plain, units_heard}
+use Rattle.osi_blameless.proofs.sessions.an_end_hears_what_breaks_no_rule.{AreFine}
 use Rattle.osi_blameless.proofs.sessions.a_calling_end_is_ready.{IsCalling, begins_other_calling, begins_own_calling, is_ready}
 use Rattle.osi_blameless.proofs.sessions.a_calling_end_is_ready.{passes_other_plain, passes_own_calling, turns_calling, whole_followed}
 use Rattle.osi_blameless.proofs.sessions.a_calling_end_is_ready.{peers_apart, whole_joined}
@@ -22,7 +23,7 @@ use Rattle.osi_blameless.proofs.sessions.a_turn_does_what_its_deeds_say.{units_j
 use Rattle.osi_blameless.proofs.sessions.all_connections_stand.{all_room, one_at}
 use Rattle.osi_blameless.proofs.sessions.connections_have_the_same_places.{at_same, unit_joins, unit_knows}
 use Rattle.osi_blameless.proofs.sessions.each_unit_of_a_turn_has_one_connection.{IsMarked, puts_wait}
-use Rattle.osi_blameless.proofs.sessions.each_cr_that_passes_gives_a_new_reference.{gives_new}
+use Rattle.osi_blameless.proofs.sessions.each_reference_of_an_end_is_new.{gives_new}
 use Rattle.osi_blameless.proofs.sessions.nothing_is_done_before_a_cr_passes.{known_from, may_take}
 use Rattle.osi_blameless.proofs.sessions.references_of_an_end_are_distinct.{AreDistinct, begins_distinct, unit_distinct}
 use Rattle.osi_blameless.proofs.sessions.steps_leave_all_standing.{IsProper, Standing, step_begins_other, step_begins_own, step_passes_own}
@@ -83,13 +84,13 @@ module _ (local : Local) (two : local.class2 ≡ true) (proper : AllProper) wher
             h.standing;
         distinct = subst (AreDistinct Left) (sym (unit_joins Left at unit old.course))
             (unit_distinct Left Left at unit old.course.traffic old.course.sessions a.places h.distinct
-            (gives_new _ at unit old mid step h.calling.ahead) (rooms deeds old h));
+            (gives_new Left _ at unit old mid step h.calling.ahead) (rooms deeds old h));
         shut = own_passes_shut Left at unit old a.places (rooms deeds old h) h.shut;
         can = (subst (AllByRecursion CanBeWritten) put h.can).1;
       })
 
   pub passes_other_stands : (deeds : ℕ → Deeds) (at : ℕ) (packet : List ℕ) (units : List Value) (old new : Joint) →
-      Steps Left (passes_other at packet units) old new → AreFine at units old.course → StandsCalling deeds old → StandsCalling deeds new
+      Steps Left (passes_other at packet units) old new → AreFine Left at units old.course → StandsCalling deeds old → StandsCalling deeds new
   passes_other_stands deeds at packet units old new (octets, read, is) fine h =
       let mid : Joint = record old { course = units_pass Right at units old.course; coming = old.coming ++ packet ∷ [] } in
       let f = h.calling.ahead.followed in
@@ -97,7 +98,7 @@ module _ (local : Local) (two : local.class2 ≡ true) (proper : AllProper) wher
       let one : units_in (packet ∷ []) ≡ units = append-nil (units_read (units_of packet)) ∙ ap units_read read in
       let all : units_in old.coming ++ units ≡ units_in (old.coming ++ packet ∷ []) =
       sym (units_join old.coming (packet ∷ []) ∙ ap (λ (l : List Value). units_in old.coming ++ l) one) in
-      let k = units_heard local deeds (may_take old.holding.end.carrier) old.put h.can old.begun at units (units_in old.coming)
+      let k = units_heard local old.put h.can deeds (may_take old.holding.end.carrier) old.begun at units (units_in old.coming)
       old.course fine (ranges_of units (units_fit units packet (units_found packet units octets read))) behind
       (record { stand = h.standing.all; distinct = h.distinct; shut = h.shut }) in
       subst (StandsCalling deeds) (sym is) (record {

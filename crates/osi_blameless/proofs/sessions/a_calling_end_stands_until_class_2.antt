@@ -1,19 +1,19 @@
 -- Until class 2 is selected all connections of a calling end stand at a judge, whatever classes it offers: at the beginning, and after what
 -- passes and is no break, or is passed over. For the session of the connection of an end in class 0.
 use Rattle.osi_blameless.proofs.Vocabulary.{◌≡◌, ◌≢◌, ◌∙◌, refl, sym, ap, subst, ℕ, ◌^◌, ◌<◌, ◌≤◌, Bool, true, false, List, [], ◌∷◌, ◌++◌}
-use Rattle.osi_blameless.proofs.Vocabulary.{length, Some, None, arith, slice_get, AllByRecursion, append-nil, units_of, Connect}
-use Rattle.osi_blameless.proofs.Vocabulary.{HasFieldsInRange, Value, acknowledge, confirm, data0, data2, disconnect, disconnected, error}
-use Rattle.osi_blameless.proofs.Vocabulary.{request, Fits, units_fit, units_found, Part, Zero, Local, Direction, Left, Right, State, takes}
+use Rattle.osi_blameless.proofs.Vocabulary.{length, Some, None, arith, slice_get, append-nil, units_of, Connect}
+use Rattle.osi_blameless.proofs.Vocabulary.{Value, acknowledge, confirm, data0, data2, disconnect, disconnected, error}
+use Rattle.osi_blameless.proofs.Vocabulary.{request, units_fit, units_found, Part, Zero, Local, Direction, Left, Right, State, takes}
 use Rattle.osi_blameless.proofs.Vocabulary.{Holding, Event, HappenAlong, Whole, fresh_apart, no_item, left_class, Holds, holds_first}
 use Rattle.osi_blameless.proofs.Vocabulary.{holds_next, Deeds, no_deeds, units_in, units_read, IsFresh, AllProper, amid, stage_at, Joined}
-use Rattle.osi_blameless.proofs.Vocabulary.{Sessions, spoken, taken, packet_begins, units_pass, heard, parts_of, HaveSamePlaces, Joint}
-use Rattle.osi_blameless.proofs.Vocabulary.{Steps, begin, begins_other, begins_own, passes_other, passes_own}
+use Rattle.osi_blameless.proofs.Vocabulary.{Sessions, spoken, taken, packet_begins, units_pass, heard, parts_of, Joint, Steps}
+use Rattle.osi_blameless.proofs.Vocabulary.{begin, begins_other, begins_own, passes_other, passes_own}
 use Rattle.osi_carrier.specs.State.{State as Carrier}
 use Rattle.osi_rules.specs.declared.directions.Direction.TheVariants as way
 use Rattle.osi_fair.specs.Wholes as wholes
 use Rattle.osi_honest.specs.Courses.{Course}
 use Rattle.osi_judge.specs.Courses.{Course as Passed}
-use Rattle.osi_blameless.proofs.a_carrier_does_events.{happen_join, none_of}
+use Rattle.osi_blameless.proofs.a_carrier_does_events.{none_of}
 use Rattle.osi_blameless.proofs.steps_are_events.{IsFollowed, begin_followed, own_first}
 use Rattle.osi_blameless.proofs.sessions.a_calling_end_hears_what_comes_until_class_2.{AreTaken, IsGone, IsNotTwo, IsWith, IsZeroAt}
 use Rattle.osi_blameless.proofs.sessions.a_calling_end_hears_what_comes_until_class_2.{StandsEarly, known_below, no_crs}
@@ -22,10 +22,10 @@ use Rattle.osi_blameless.proofs.sessions.a_turn_does_what_its_deeds_say.{units_j
 use Rattle.osi_blameless.proofs.sessions.all_connections_stand.{AllStand, all_begin_other, all_begin_own, all_room, like_same}
 use Rattle.osi_blameless.proofs.sessions.class_0_keeps_its_one_place.{HasOne, IsStill, one_begins, one_passes}
 use Rattle.osi_blameless.proofs.sessions.connections_have_the_same_places.{unit_joins, unit_knows}
-use Rattle.osi_blameless.proofs.sessions.crs_that_wait_are_above_those_that_passed.{AreAbove, above_along, passes_asked}
-use Rattle.osi_blameless.proofs.sessions.each_cr_that_passes_gives_a_new_reference.{AreAhead, AreUpTo, begins_other_ahead}
-use Rattle.osi_blameless.proofs.sessions.each_cr_that_passes_gives_a_new_reference.{begins_own_ahead, begins_up, gives_new}
-use Rattle.osi_blameless.proofs.sessions.each_cr_that_passes_gives_a_new_reference.{passes_other_ahead, passes_own_ahead, unit_up}
+use Rattle.osi_blameless.proofs.sessions.crs_that_wait_are_above_those_that_passed.{AreAbove, above_along}
+use Rattle.osi_blameless.proofs.sessions.each_reference_of_an_end_is_new.{IsAhead, AreUpTo, begins_other_ahead}
+use Rattle.osi_blameless.proofs.sessions.each_reference_of_an_end_is_new.{begins_own_ahead, begins_up, gives_new}
+use Rattle.osi_blameless.proofs.sessions.each_reference_of_an_end_is_new.{other_up, passes_highest, passes_other_ahead, passes_own_ahead, unit_up, up_higher}
 use Rattle.osi_blameless.proofs.sessions.each_step_leaves_class_0_one_connection.{fresh_sure, sure_claim}
 use Rattle.osi_blameless.proofs.sessions.nothing_is_done_before_a_cr_passes.{AreUndone, cr_ready}
 use Rattle.osi_blameless.proofs.sessions.references_of_an_end_are_distinct.{AreDistinct, begins_distinct, unit_distinct}
@@ -35,6 +35,7 @@ use Rattle.osi_blameless.proofs.sessions.units_of_class_0_come_after_its_cc.{qui
 use Rattle.osi_blameless.proofs.sessions.what_passes_leaves_all_standing.{IsReady}
 use Rattle.osi_blameless.proofs.sessions.what_stands_of_a_connection.{Known, stands_other_none}
 use Rattle.osi_blameless.proofs.sessions.what_the_stage_of_a_calling_end_says.{PassesOwn, own_unit}
+use Rattle.osi_blameless.proofs.small_facts_that_many_lemmas_use.{ranges_of}
 
 -- ---- more is known
 
@@ -64,15 +65,8 @@ early_higher deeds b n end put begun coming c up below h = record {
   zero = h.zero;
 }
 
-up_higher : (b n : ℕ) (t : Sessions) → b ≤ n → AreUpTo Left b t → AreUpTo Left n t
-up_higher b n t h u = grind arith
-
 pub undone_higher : (b n : ℕ) (deeds : ℕ → Deeds) (c : Carrier) → b ≤ n → AreUndone b deeds c → AreUndone n deeds c
 undone_higher b n deeds c up u r less = u r (omega (arith, up, less))
-
-pub ranges_of : (units : List Value) → AllByRecursion Fits units → AllByRecursion HasFieldsInRange units
-ranges_of [] h = tt
-ranges_of (v ∷ units) h = (h.0.in_range, ranges_of units h.1)
 
 none_class : {A : Type 0} (c : Passed) → c.traffic.course.class ≡ None → c.traffic.course.class ≡ Some Zero → A
 none_class c h e = absurd (let no : None ≡ Some Zero = sym h ∙ e in cc)
@@ -108,7 +102,7 @@ module _ (local : Local) where
 
   -- Nothing is done for a CR that has not passed, and no connection is open, until class 0 is selected.
   pub record StandsUntilTwo (deeds : ℕ → Deeds) (j : Joint) : Type 0 where
-    pub ahead : AreAhead first j
+    pub ahead : IsAhead Left first j
     pub early : StandsEarly deeds ahead.bound j.holding.end.carrier j.put j.begun (units_in j.coming) j.course
     pub undone : j.course.traffic.course.class ≡ None → AreUndone ahead.bound deeds j.holding.end.carrier
     pub shut : j.course.traffic.course.class ≡ None → (q peer : ℕ) → 0 < q → stage_at q j.holding.end.carrier ≡ amid peer → ⊥
@@ -117,7 +111,7 @@ module _ (local : Local) where
   -- ---- at the beginning
 
   -- the references of CRs that have passed were given
-  pub given_so : (j : Joint) (a : AreAhead first j) → j.holding.end.carrier.ended ≡ None → a.bound ≤ j.holding.end.carrier.given
+  pub given_so : (j : Joint) (a : IsAhead Left first j) → j.holding.end.carrier.ended ≡ None → a.bound ≤ j.holding.end.carrier.given
   given_so j a lasts = grind (arith, none_of)
 
   pub begin_early : (holding : Holding) → IsFresh true local holding → StandsUntilTwo (λ r. no_deeds) (begin holding)
@@ -158,7 +152,7 @@ module _ (local : Local) where
       StandsUntilTwo deeds old → StandsUntilTwo deeds new
   begins_own_early proper deeds old new (some, none, is) courses few h =
       let mid : Joint = record old { begun = true; course = packet_begins Left old.course } in
-      let g = begins_own_ahead first proper old mid (some, none, refl) h.ahead in
+      let g = begins_own_ahead Left first proper old mid (some, none, refl) h.ahead in
       let b = h.ahead.bound in
       let end = old.holding.end.carrier in
       let coming = units_in old.coming in
@@ -184,7 +178,7 @@ module _ (local : Local) where
       StandsUntilTwo deeds old → StandsUntilTwo deeds new
   begins_other_early proper deeds old new is h =
       let mid : Joint = record old { course = packet_begins Right old.course } in
-      let g = begins_other_ahead first proper old mid refl h.ahead in
+      let g = begins_other_ahead Left first proper old mid refl h.ahead in
       let b = h.ahead.bound in
       let end = old.holding.end.carrier in
       let coming = units_in old.coming in
@@ -214,8 +208,9 @@ module _ (local : Local) where
       let b = h.ahead.bound in
       let end = old.holding.end.carrier in
       let f = h.ahead.followed in
-      let g = passes_other_ahead first proper at packet units old mid (octets, read, refl) h.early.all.places h.ahead
-      (no_crs b at units old.course taken) in
+      let g = passes_other_ahead Left first proper at packet units old mid (octets, read, refl) h.ahead
+      (other_up Left first at b packet units old mid (octets, read, refl) h.early.all.places (no_crs b at units old.course taken)
+      h.ahead.below) in
       let beside : IsWith local end old.put old.course = search (arith, runs_staged) in
       let one : units_in (packet ∷ []) ≡ units = append-nil (units_read (units_of packet)) ∙ ap units_read read in
       let all : units_in old.coming ++ units ≡ units_in mid.coming =
@@ -236,47 +231,6 @@ module _ (local : Local) where
 
   abbrev own_passed : (at : ℕ) → Value → Joint → List Value → Joint
   own_passed at unit old put = record old { put = put; begun = false; course = units_pass Left at (unit ∷ []) old.course }
-
-  -- a CR that passes gives the highest reference
-  record IsAsked (x : Connect) (b : ℕ) (j : Joint) : Type 0 where
-    higher : b < x.source
-    ahead : AreAhead first j
-    bound : ahead.bound ≡ x.source
-
-  cr_ahead : (at : ℕ) (x : Connect) (old : Joint) (put : List Value) →
-      Steps Left (passes_own at (request x)) old (own_passed at (request x) old put) →
-      HaveSamePlaces old.course.traffic.connections old.course.sessions.live → (h : AreAhead first old) →
-      IsAsked x h.bound (own_passed at (request x) old put)
-  cr_ahead at x old put (read, octets, is, begun, same) places h =
-      let f = h.followed in
-      let mid = own_passed at (request x) old put in
-      let s = own_first Left first old mid (request x) (read, octets, is) f in
-      let next : Whole = record f.whole { put = s.rest; begun = false; judge = (takes way.Left (request x) f.whole.judge).state } in
-      let k = passes_asked h.bound x s.rest f.whole next s.is refl refl h.above in
-      let up : h.bound ≤ x.source = (let less = k.new_is in omega (arith, less)) in
-      record {
-        higher = k.new_is;
-        ahead = record {
-          followed = record {
-            whole = next;
-            events = f.events ++ wholes.passes_own ∷ [];
-            along = happen_join way.Left f.events (wholes.passes_own ∷ []) first f.whole next f.along
-                (next, (request x, s.is, f.begun ∙ begun, refl), refl);
-            put = s.same;
-            begun = refl;
-            judge = ap (λ (t : State). (takes way.Left (request x) t).state) f.judge ∙ sym (unit_knows Left at (request x) old.course);
-            coming = f.coming;
-            like = f.like;
-            can = s.can;
-            links = f.links;
-          };
-          bound = x.source;
-          above = k.above;
-          below = unit_up Left Left x.source at (request x) old.course places
-              ((let less = k.new_is in omega (arith, less)), omega arith) (up_higher h.bound x.source old.course.sessions up h.below);
-        };
-        bound = refl;
-      }
 
   asking_class : (w : Whole) (x : Connect) → PassesOwn w (request x) → w.judge.course.class ≡ None
   asking_class w x h = grind arith
@@ -308,7 +262,7 @@ module _ (local : Local) where
         distinct_own =
             subst (AreDistinct Left) (sym (unit_joins Left at unit old.course))
             (unit_distinct Left Left at unit old.course.traffic old.course.sessions h.early.all.places h.early.distinct
-            (gives_new first at unit old mid step h.ahead)
+            (gives_new Left first at unit old mid step h.ahead)
             (λ i j here.
             all_room Left deeds (known_below b end coming) old.put old.begun old.course.traffic old.course.sessions h.early.all i j here))
 
@@ -333,10 +287,10 @@ module _ (local : Local) where
         IsRight Left (request x) old.course → old.course.traffic.course.class ≡ None →
         StandsUntilTwo deeds (own_passed at (request x) old put)
     own_cr x step right class =
-        let k = cr_ahead at x old put step h.early.all.places h.ahead in
+        let k = passes_highest Left first at (request x) x.source refl old (own_passed at (request x) old put) step h.early.all.places h.ahead in
         let n = x.source in
         let up : b ≤ n = (let less = k.higher in omega (arith, less)) in
-        let below = up_higher b n old.course.sessions up h.early.below in
+        let below = up_higher Left b n old.course.sessions up h.early.below in
         let some : 0 < n = (let less = k.higher in omega (arith, less)) in
         let e = early_higher deeds b n end old.put old.begun coming old.course up below h.early in
         let ready =
@@ -362,7 +316,7 @@ module _ (local : Local) where
     own_dt last user step right class seen =
         let unit = data0 last user in
         let after = own_passed at unit old put in
-        let g = passes_own_ahead first proper at unit old after step h.early.all.places h.ahead in
+        let g = (passes_own_ahead Left first proper at unit old after step h.early.all.places h.ahead).on in
         let z = h.early.zero class in
         let still : IsStill Left unit old.course.traffic = tt in
         let now : StandsEarly deeds b end put false coming after.course =

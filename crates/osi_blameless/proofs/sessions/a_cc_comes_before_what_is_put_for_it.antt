@@ -1,18 +1,20 @@
 -- A CC that has its effect gives a reference that no connection has which the calling end has not closed. So none of the units that wait
 -- to pass are for this reference: each of them is for a connection whose CC has passed.
 -- For all connections of an end and a judge.
-use Rattle.osi_blameless.proofs.Vocabulary.{◌≡◌, ◌∙◌, refl, ap, ℕ, Bool, true, false, if◌then◌else◌, List, [], ◌∷◌, Option, Some, arith}
-use Rattle.osi_blameless.proofs.Vocabulary.{◌||◌, ◌&&◌, not, slice_get, AllByRecursion, Connect, Value, confirm, destination_of, Class}
-use Rattle.osi_blameless.proofs.Vocabulary.{Left, Connection, Broke, Outside, Phase, is_applied, first_failed, given_again, is_closing}
-use Rattle.osi_blameless.proofs.Vocabulary.{is_open, uses, State, at_found, at_place, found_on, route_in, in_doubt, routed, takes}
-use Rattle.osi_blameless.proofs.Vocabulary.{unnamed_by, uses_source, IsOwned, asking, is_tracked, stray, none_true, picked_rest, Sessions}
-use Rattle.osi_blameless.proofs.Vocabulary.{HaveSamePlaces, named_by}
+use Rattle.osi_blameless.proofs.Vocabulary.{◌≡◌, ◌∙◌, refl, ap, ℕ, Bool, true, false, if◌then◌else◌, List, [], ◌∷◌, Option, Some, arith, ◌||◌}
+use Rattle.osi_blameless.proofs.Vocabulary.{not, slice_get, AllByRecursion, Connect, Value, confirm, destination_of, Class, Left}
+use Rattle.osi_blameless.proofs.Vocabulary.{Connection, Broke, Outside, Phase, is_applied, first_failed, given_again, is_closing, is_open}
+use Rattle.osi_blameless.proofs.Vocabulary.{uses, State, at_found, at_place, found_on, route_in, in_doubt, routed, takes, unnamed_by}
+use Rattle.osi_blameless.proofs.Vocabulary.{uses_source, IsOwned, asking, is_tracked, stray, none_true, picked_rest, Sessions, HaveSamePlaces}
+use Rattle.osi_blameless.proofs.Vocabulary.{named_by}
 use Rattle.osi_rules.specs.declared.directions.Direction.TheVariants as way
 use Rattle.osi_rules.specs.declared.findings.Rule.TheVariants as rule
 use Rattle.osi_fair.proofs.each_connection_has_its_line.{of}
 use Rattle.osi_blameless.proofs.sessions.a_right_dt_has_one_place.{AreUsedApart, still_used}
 use Rattle.osi_blameless.proofs.sessions.connections_have_the_same_places.{at_same}
 use Rattle.osi_blameless.proofs.sessions.what_stands_of_a_connection.{is_for, waiting_for}
+use Rattle.osi_blameless.proofs.Vocabulary.{differ}
+use Rattle.osi_blameless.proofs.small_facts_that_many_lemmas_use.{and_both}
 
 -- ---- a CC that has its effect
 
@@ -50,12 +52,6 @@ module _ (n : ℕ) (x : Connect) (s : State) where
 
 -- ---- so no connection that is open has its reference
 
-differ : {A : Type 0} (b : Bool) → b ≡ true → b ≡ false → A
-differ b h k = absurd (cc)
-
-both_so : (a b : Bool) → (a && b) ≡ true → (a ≡ true) × (b ≡ true)
-both_so a b h = grind arith
-
 named_tracked : (p : Phase) (r : ℕ) → (is_open p || is_closing p) ≡ true → named_by p r ≡ Some r
 named_tracked p r h = grind arith
 
@@ -69,7 +65,7 @@ module _ (n : ℕ) (x : Connect) (s : State) (t : Sessions) (places : HaveSamePl
       c.right.reference ≡ x.source → ⊥
   none_open i c there tracked same =
       let (j, here, one) = at_same s.connections t.live i c places there in
-      let (live, answered) = both_so (is_open c.left.phase) (is_open c.right.phase || is_closing c.right.phase) tracked in
+      let (live, answered) = and_both (is_open c.left.phase) (is_open c.right.phase || is_closing c.right.phase) tracked in
       let named : j.called ≡ Some x.source =
       one.called ∙ named_tracked c.right.phase c.right.reference answered ∙ ap (λ (m : ℕ). Some m) same in
       differ (uses way.Right x.source c)

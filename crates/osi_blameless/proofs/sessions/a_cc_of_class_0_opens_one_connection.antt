@@ -17,23 +17,16 @@ use Rattle.osi_blameless.proofs.what_a_taker_passes_over.{IsMild}
 use Rattle.osi_blameless.proofs.sessions.a_unit_is_joined_where_it_is_named.{joined_named}
 use Rattle.osi_blameless.proofs.sessions.class_0_keeps_its_one_place.{HasOne}
 use Rattle.osi_blameless.proofs.sessions.connections_have_the_same_places.{at_same}
-use Rattle.osi_blameless.proofs.sessions.each_cr_that_passes_gives_a_new_reference.{AreUpTo, IsWithin}
+use Rattle.osi_blameless.proofs.sessions.each_reference_of_an_end_is_new.{AreUpTo, IsWithin}
 use Rattle.osi_blameless.proofs.sessions.references_of_an_end_are_distinct.{AreDistinct}
 use Rattle.osi_blameless.proofs.sessions.what_a_unit_does_at_its_place.{Does, asks_again, asks_more, nowhere, somewhere, unit_does}
+use Rattle.osi_blameless.proofs.Vocabulary.{differ}
+use Rattle.osi_blameless.proofs.small_facts_that_many_lemmas_use.{same_one}
 
 -- ---- small facts
 
 no_place : {A : Type 0} (o : Option ℕ) (i : ℕ) → o ≡ None → o ≡ Some i → A
 no_place o i h k = absurd (cc)
-
-differ : {A : Type 0} (b : Bool) → b ≡ true → b ≡ false → A
-differ b h k = absurd (cc)
-
-some_same : (m n : ℕ) → Some m ≡ Some n → m ≡ n
-some_same m n e = cc
-
-same_item : {X : Type 0} (x y : X) → Some x ≡ Some y → x ≡ y
-same_item x y e = cc
 
 silent_not : {A : Type 0} (p : Phase) → is_silent p ≡ true → is_refused p ≡ true → A
 silent_not h h2 k = grind arith
@@ -108,7 +101,7 @@ module _ (n : ℕ) (x : Connect) (at : ℕ) (c : Course) (places : HaveSamePlace
       let (k, here, one) = at_same s.connections t.live effect.place effect.connection places effect.there in
       let mine : Some k.calling ≡ Some n =
       joined_named side.Right unit c n effect.place effect.connection k places refl effect.told effect.there effect.judged here in
-      sym (some_same k.calling n mine) ∙ one.calling ∙ by (effect.place == p) refl
+      sym (same_one k.calling n mine) ∙ one.calling ∙ by (effect.place == p) refl
     where
       at_it : slice_get cs effect.place ≡ Some effect.connection
       at_it = ap (λ (y : State). slice_get y.connections effect.place) (sym judge) ∙ effect.there
@@ -116,7 +109,7 @@ module _ (n : ℕ) (x : Connect) (at : ℕ) (c : Course) (places : HaveSamePlace
       by : (b : Bool) → (effect.place == p) ≡ b → effect.connection.left.reference ≡ r
       by true e =
           let same : effect.connection ≡ w.c =
-          same_item effect.connection w.c (sym at_it ∙ ap (slice_get cs) (eqb-true effect.place p e) ∙ w.at) in
+          same_one effect.connection w.c (sym at_it ∙ ap (slice_get cs) (eqb-true effect.place p e) ∙ w.at) in
           ap (λ (y : Connection). y.left.reference) same ∙ w.reference
       by false e =
           silent_not effect.connection.right.phase effect.silent

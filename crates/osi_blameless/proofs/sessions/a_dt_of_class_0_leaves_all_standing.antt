@@ -19,6 +19,7 @@ use Rattle.osi_blameless.proofs.sessions.right_units_leave_all_standing.{StaysEl
 use Rattle.osi_blameless.proofs.sessions.what_a_judge_shows_goes_on.{named_added}
 use Rattle.osi_blameless.proofs.sessions.what_stands_of_a_connection.{Known, Stands, stands_elsewhere, stands_other_none, stands_other_part}
 use Rattle.osi_blameless.proofs.sessions.what_stands_of_a_connection.{stands_part}
+use Rattle.osi_blameless.proofs.small_facts_that_many_lemmas_use.{same_one}
 
 -- ---- small facts
 
@@ -27,9 +28,6 @@ no_place i e = absurd (cc)
 
 same_place : (p i : ℕ) → Some p ≡ Some i → p ≡ i
 same_place p i e = cc
-
-same_one : (c e : Connection) → Some c ≡ Some e → c ≡ e
-same_one c e h = cc
 
 -- ---- a DT of either side has its place
 

@@ -11,10 +11,10 @@ use Rattle.std.proofs.lemmas.List.Concat.{flat_map-append}
 use Rattle.osi_carrier.specs.State.{State as Carrier}
 use Rattle.osi_judge.specs.Courses.{Course as Passed}
 use Rattle.osi_blameless.proofs.steps_are_events.{IsFollowed, step_followed}
-use Rattle.osi_blameless.proofs.what_a_carrier_puts_can_be_written.{all_more}
+use Rattle.osi_blameless.proofs.small_facts_that_many_lemmas_use.{can_more as all_more}
 use Rattle.osi_blameless.proofs.sessions.a_called_end_answers_with_class_2_or_selects_class_0.{answers_or_selects}
 use Rattle.osi_blameless.proofs.sessions.a_called_end_hears_what_comes_until_class_2.{IsAsking, IsNoCc, StandsCalledEarly, known_one}
-use Rattle.osi_blameless.proofs.sessions.a_called_end_hears_what_comes_until_class_2.{none_some}
+use Rattle.osi_blameless.proofs.small_facts_that_many_lemmas_use.{none_some}
 use Rattle.osi_blameless.proofs.sessions.a_called_end_stands_in_class_0.{WasOpen, answers_now, cc_not_dt, first, not_early, open_before}
 use Rattle.osi_blameless.proofs.sessions.a_called_end_stands_in_class_0.{open_so, opens_now, put_so}
 use Rattle.osi_blameless.proofs.sessions.a_called_end_stands_until_its_cc_of_class_0_passes.{StandsAnswering, asking_none}
@@ -25,17 +25,16 @@ use Rattle.osi_blameless.proofs.sessions.each_unit_of_a_calling_end_has_a_home.{
 use Rattle.osi_blameless.proofs.sessions.no_connection_is_opened_before_a_class_is_selected.{UncalledUntil}
 use Rattle.osi_blameless.proofs.sessions.steps_leave_all_standing.{step_turns}
 use Rattle.osi_blameless.proofs.sessions.units_written_alike_have_the_same_ccs.{AnswersTwo}
-use Rattle.osi_blameless.proofs.sessions.what_a_turn_puts_goes_to_its_peer.{all_back, all_front, all_so, none_for, one_of}
+use Rattle.osi_blameless.proofs.sessions.what_a_turn_puts_goes_to_its_peer.{all_back, all_so, none_for, one_of}
+use Rattle.osi_blameless.proofs.small_facts_that_many_lemmas_use.{all_front}
 use Rattle.osi_blameless.proofs.sessions.what_a_turn_puts_waits.{Agree, marks_wait}
 use Rattle.osi_blameless.proofs.sessions.what_an_end_takes_at_each_stage.{AreCalm, turn_takes}
 use Rattle.osi_blameless.proofs.sessions.what_is_in_flight_to_an_end.{parts_taken}
 use Rattle.osi_blameless.proofs.sessions.what_stands_of_a_connection.{is_for, waiting_for}
 use Rattle.osi_blameless.proofs.sessions.what_the_stage_of_a_calling_end_says.{IsDt0, all_data}
+use Rattle.osi_blameless.proofs.Vocabulary.{differ}
 
 -- ---- small facts
-
-differ : {A : Type 0} (b : Bool) → b ≡ true → b ≡ false → A
-differ b h k = absurd (cc)
 
 never : {A : Type 0} → false ≡ true → A
 never e = absurd (cc)

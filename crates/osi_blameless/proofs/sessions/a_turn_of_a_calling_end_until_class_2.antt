@@ -1,12 +1,12 @@
 -- Until class 2 is selected, a turn of a calling end leaves all its connections standing at a judge: what it puts is for its one connection
 -- in class 0, and what it takes there is the first of what is in flight. For the session of the connection of an end in class 0.
 use Rattle.osi_blameless.proofs.Vocabulary.{◌≡◌, ◌∙◌, refl, sym, ap, subst, ℕ, zero, suc, ◌<◌, ◌≤◌, Bool, true, false, List, [], ◌∷◌, ◌++◌}
-use Rattle.osi_blameless.proofs.Vocabulary.{Option, Some, None, arith, is_some, append_assoc, inl, inr, ◌⊎◌, ◌&&◌, ◌==◌, nat_le, nat_lt}
-use Rattle.osi_blameless.proofs.Vocabulary.{slice_get, AllByRecursion, eq-eqb, eqb-true, le-leb, lt-ltb, Connect, Value, confirm, Class}
-use Rattle.osi_blameless.proofs.Vocabulary.{Two, Zero, Local, Left, Right, Connection, is_open, State, has_given, Whole, unlike, IsFirm}
-use Rattle.osi_blameless.proofs.Vocabulary.{AreApart, Opens, Continues, Deeds, then_did, units_in, Marked, all_units, is_of_link, Turn}
-use Rattle.osi_blameless.proofs.Vocabulary.{AllProper, Life, amid, early, opens_by, past, stage_at, stage_over, stays, all_units_more}
-use Rattle.osi_blameless.proofs.Vocabulary.{none_mark, Joined, reference_of, Joint, TakesTurn, IsOneOf}
+use Rattle.osi_blameless.proofs.Vocabulary.{Option, Some, None, arith, is_some, append_assoc, inl, inr, ◌⊎◌, ◌==◌, nat_lt}
+use Rattle.osi_blameless.proofs.Vocabulary.{slice_get, AllByRecursion, eq-eqb, eqb-true, lt-ltb, Connect, Value, confirm, Class, Two}
+use Rattle.osi_blameless.proofs.Vocabulary.{Zero, Local, Left, Right, Connection, is_open, State, Whole, unlike, IsFirm, AreApart}
+use Rattle.osi_blameless.proofs.Vocabulary.{Opens, Continues, Deeds, then_did, units_in, Marked, all_units, is_of_link, Turn, AllProper, Life}
+use Rattle.osi_blameless.proofs.Vocabulary.{amid, early, opens_by, past, stage_at, stage_over, stays, all_units_more, none_mark, Joined}
+use Rattle.osi_blameless.proofs.Vocabulary.{reference_of, Joint, TakesTurn, IsOneOf}
 use Rattle.osi_carrier.specs.State.{State as Carrier}
 use Rattle.osi_fair.proofs.how_requests_go_on.{Stage}
 use Rattle.osi_honest.proofs.courses.how_long_a_connection_is_open.{Stage as Time}
@@ -22,7 +22,7 @@ use Rattle.osi_blameless.proofs.sessions.a_turn_does_what_its_deeds_say.{turn_le
 use Rattle.osi_blameless.proofs.sessions.a_turn_leaves_all_standing.{Turns}
 use Rattle.osi_blameless.proofs.sessions.all_connections_stand.{one_at}
 use Rattle.osi_blameless.proofs.sessions.class_0_keeps_its_one_place.{HasOne, still_gone}
-use Rattle.osi_blameless.proofs.sessions.each_cr_that_passes_gives_a_new_reference.{AreUpTo, GoesOn, IsWithin, turns_ahead}
+use Rattle.osi_blameless.proofs.sessions.each_reference_of_an_end_is_new.{AreUpTo, GoesOn, IsWithin, turns_ahead}
 use Rattle.osi_blameless.proofs.sessions.each_step_leaves_class_0_one_connection.{Sure, is_zero}
 use Rattle.osi_blameless.proofs.sessions.each_unit_of_a_calling_end_has_a_home.{IsWrittenAs, written_as}
 use Rattle.osi_blameless.proofs.sessions.nothing_is_done_before_a_cr_passes.{IsNotCc, same_units, turn_undone}
@@ -30,11 +30,16 @@ use Rattle.osi_blameless.proofs.sessions.references_of_an_end_are_distinct.{AreD
 use Rattle.osi_blameless.proofs.sessions.steps_leave_all_standing.{step_turns}
 use Rattle.osi_blameless.proofs.sessions.units_of_class_0_come_after_its_cc.{HasCc, InOrder, IsCcFor, IsQuiet, order_back, order_calm}
 use Rattle.osi_blameless.proofs.sessions.units_of_class_0_come_after_its_cc.{quiet_none}
-use Rattle.osi_blameless.proofs.sessions.what_a_turn_puts_goes_to_its_peer.{all_back, all_front, none_for, one_of}
+use Rattle.osi_blameless.proofs.sessions.what_a_turn_puts_goes_to_its_peer.{all_back, none_for, one_of}
+use Rattle.osi_blameless.proofs.small_facts_that_many_lemmas_use.{all_front}
 use Rattle.osi_blameless.proofs.sessions.what_a_turn_puts_waits.{Agree, marks_wait}
 use Rattle.osi_blameless.proofs.sessions.what_an_end_takes_at_each_stage.{AreCalm, turn_takes}
 use Rattle.osi_blameless.proofs.sessions.what_stands_of_a_connection.{is_for, waiting_for}
 use Rattle.osi_blameless.proofs.sessions.what_the_stage_of_a_calling_end_says.{IsDt0, cc_waits, dts_put}
+use Rattle.osi_blameless.proofs.Vocabulary.{differ}
+use Rattle.osi_blameless.proofs.small_facts_that_many_lemmas_use.{same_one}
+use Rattle.osi_blameless.proofs.small_facts_that_many_lemmas_use.{given_so}
+use Rattle.osi_blameless.proofs.small_facts_that_many_lemmas_use.{none_first}
 
 -- ---- small facts
 
@@ -44,24 +49,8 @@ early_amid s peer e h = absurd (cc (sym e ∙ h))
 pub past_amid : {A : Type 0} (s : Time) (peer : ℕ) → s ≡ past → s ≡ amid peer → A
 past_amid s peer e h = absurd (cc (sym e ∙ h))
 
-differ : {A : Type 0} (b : Bool) → b ≡ true → b ≡ false → A
-differ b h k = absurd (cc)
-
 pub early_lasts : (r : ℕ) (c : Carrier) → stage_at r c ≡ early → c.ended ≡ None
 early_lasts r c may = grind (arith, stage_at, stage_over)
-
-given_so : (r : ℕ) (c : Carrier) → 0 < r → r ≤ c.given → has_given r c ≡ true
-given_so r c some up = ap (λ (b : Bool). b && nat_le r c.given) (lt-ltb 0 r some) ∙ le-leb r c.given up
-
-none_first : (xs ys : List Value) → xs ++ ys ≡ [] → xs ≡ []
-none_first [] ys e = refl
-none_first (x ∷ xs) ys e = absurd (cc)
-
-same_item : (x y : Connection) → Some x ≡ Some y → x ≡ y
-same_item x y e = cc
-
-some_same : (m n : ℕ) → Some m ≡ Some n → m ≡ n
-some_same m n e = cc
 
 -- what holds of each, by its place
 pub each_of : {X : Type 0} (P : X → Type 0) (before xs : List X) →
@@ -146,8 +135,8 @@ module _ (local : Local) (proper : AllProper) (turn : Turn) (old new : Joint) (t
   b = h.ahead.bound
 
   -- the whole end goes on
-  g : GoesOn (first local) b new
-  g = turns_ahead (first local) proper turn old new t h.ahead
+  g : GoesOn Left (first local) b new
+  g = turns_ahead Left (first local) proper turn old new t h.ahead
 
   abbrev whole : Whole
   whole = g.ahead.followed.whole
@@ -272,9 +261,9 @@ module _ (local : Local) (proper : AllProper) (turn : Turn) (old new : Joint) (t
         by : (x : Bool) → (i == only.place) ≡ x → Agree r (reference_of Right j) on.put
         by true e =
             let same : i ≡ only.place = eqb-true i only.place e in
-            let is : c ≡ only.connection = same_item c only.connection (sym there ∙ ap (slice_get s.connections) same ∙ only.there) in
+            let is : c ≡ only.connection = same_one c only.connection (sym there ∙ ap (slice_get s.connections) same ∙ only.there) in
             let mine_too = z.one.mine j (ap (slice_get old.course.sessions.live) (sym (same ∙ only_is)) ∙ here) in
-            agree_zero r (reference_of Right j) some (some_same r z.r (sym mine ∙ mine_too))
+            agree_zero r (reference_of Right j) some (same_one r z.r (sym mine ∙ mine_too))
             (both_named Right c j one (ap (λ (y : Connection). is_open y.right.phase) is ∙ only.right)) on.put marked_r on.by_links dts
         by false e =
             let apart : i ≡ only.place → ⊥ = unlike i only.place e in

@@ -1,7 +1,7 @@
 -- An end of class 0 to which no DT is in flight has begun of a TSDU what a judge has joined of it: a calling end and a called one.
 -- For a TSDU of the other side that becomes too long.
 use Rattle.osi_blameless.proofs.Vocabulary.{arith, ◌≡◌, ◌∙◌, ◌⊎◌, inl, inr, refl, ap, subst, ℕ, ◌<◌, List, [], Some, eq-eqb, eqb-true}
-use Rattle.osi_blameless.proofs.Vocabulary.{slice_get, AllByRecursion, Standing, Part, Class, Two, Zero, Local, RiseFrom, linked, other}
+use Rattle.osi_blameless.proofs.Vocabulary.{slice_get, AllByRecursion, Standing, Part, Two, Zero, Local, RiseFrom, linked, other}
 use Rattle.osi_blameless.proofs.Vocabulary.{Direction, Left, Right, has_given, unlike, IsFirm, Deeds, AllProper, IsZeroAt, IsSane, amid}
 use Rattle.osi_blameless.proofs.Vocabulary.{stage_at, stage_is, Joined, spoken, begun_octets, Joint}
 use Rattle.osi_carrier.specs.State.{State as Carrier}
@@ -22,11 +22,11 @@ use Rattle.osi_blameless.proofs.sessions.nothing_is_done_before_a_cr_passes.{is_
 use Rattle.osi_blameless.proofs.sessions.what_a_link_has_begun_is_left_over.{joined_is_begun, none_in_flight}
 use Rattle.osi_blameless.proofs.sessions.what_is_in_flight_to_an_end.{known_of}
 
--- If class 0 is selected, and another class is not, what a judge has joined of the unfinished TSDU of the other side is what the link has
+-- If class 0 is selected, and class 2 is not, what a judge has joined of the unfinished TSDU of the other side is what the link has
 -- begun.
-abbrev pub HasBegun : (barred : Class) → (d : Direction) → ((ℕ → Deeds) → Joint → Type 0) → Type 0
-HasBegun barred d Inv = (deeds : ℕ → Deeds) (j : Joint) → Inv deeds j → HaveCourses d deeds j → IsSane j.holding →
-    IsFirm j.course.traffic.course → j.course.traffic.course.class ≡ Some Zero → (j.course.traffic.course.class ≡ Some barred → ⊥) →
+abbrev pub HasBegun : (d : Direction) → ((ℕ → Deeds) → Joint → Type 0) → Type 0
+HasBegun d Inv = (deeds : ℕ → Deeds) (j : Joint) → Inv deeds j → HaveCourses d deeds j → IsSane j.holding →
+    IsFirm j.course.traffic.course → j.course.traffic.course.class ≡ Some Zero → (j.course.traffic.course.class ≡ Some Two → ⊥) →
     AllByRecursion MayBeFollowed (units_in j.coming) → (r peer : ℕ) (link : Standing) → IsZeroAt r peer link j.holding.end.carrier →
     (o : IsOnly j.course.traffic) (x : Joined) → slice_get j.course.sessions.live o.place ≡ Some x →
     begun_octets (spoken (other d) x).begun ≡ link.ends.joining.begun
@@ -48,7 +48,7 @@ module _ (r peer : ℕ) (link : Standing) (c : Carrier) (z : IsZeroAt r peer lin
 
 -- ---- a calling end
 
-pub calling_begun : (local : Local) → HasBegun Two Left (StandsUntilTwo local)
+pub calling_begun : (local : Local) → HasBegun Left (StandsUntilTwo local)
 calling_begun local deeds j h courses sane firm class not all r peer link at o x here =
     let end = j.holding.end.carrier in
     let z = h.early.zero class in
@@ -76,7 +76,7 @@ zero_called local deeds j h courses sane firm all r peer link at o x here =
     (grind (arith, eqb-true, unlike))
     (λ q later is sure. none_later r peer link end at j.coming all q later is sure.2)
 
-pub called_begun : (local : Local) (proper : AllProper) → HasBegun Two Right (StandsCalledUntilTwo local proper)
+pub called_begun : (local : Local) (proper : AllProper) → HasBegun Right (StandsCalledUntilTwo local proper)
 called_begun local proper deeds j h courses sane firm class not all r peer link at o x here = by h.how
   where
     by : StandsInNone local proper deeds j ⊎ (StandsAnswering local deeds j ⊎ StandsInZero local deeds j) →

@@ -1,6 +1,6 @@
 -- No session of an end is to blame that has sent no DT; and what passes keeps that so, unless it is a DT of the end.
 -- For the law that no session of an end is blamed first, if the end doesn't offer class 2 and class 0 is not selected.
-use Rattle.osi_blameless.proofs.Vocabulary.{[], Bool, false, inl, inr, List, Some, subst, sym, ℕ, ◌∙◌, ◌∷◌, ◌≡◌, ◌⊎◌, slice_get, Value, Local}
+use Rattle.osi_blameless.proofs.Vocabulary.{[], Bool, false, inl, inr, List, Some, subst, sym, ℕ, ◌∙◌, ◌∷◌, ◌≡◌, ◌⊎◌, slice_get, Value, Zero, Local}
 use Rattle.osi_blameless.proofs.Vocabulary.{meaning_if, meant, Traffic as State, takes, other, Direction, AllProper, Deeds, all_begin, asked}
 use Rattle.osi_blameless.proofs.Vocabulary.{Joined, Sessions, spoken, taken, unit_passes, units_pass, way_of, Room, after_add}
 use Rattle.osi_blameless.proofs.Vocabulary.{after_set, IsOngoing, begins_other, begins_own, Joint, passes_other, passes_own, Step, Steps}
@@ -14,7 +14,7 @@ use Rattle.osi_blameless.proofs.sessions.all_connections_stand.{map_of}
 use Rattle.osi_blameless.proofs.sessions.connections_have_the_same_places.{Agree, packet_agrees, unit_agrees, unit_joins, units_agree}
 use Rattle.osi_blameless.proofs.sessions.what_a_unit_does_at_its_place.{Does, asks_again, asks_more, nowhere, somewhere, unit_does}
 use Rattle.osi_blameless.proofs.sessions.what_stands_of_a_connection.{is_part}
-use Rattle.osi_blameless.proofs.sessions.what_is_asked_after_a_loss.{KeepsThroughout}
+use Rattle.osi_blameless.proofs.sessions.what_is_asked_of_what_holds_at_each_step.{Keeps}
 
 -- ---- sides that have said nothing
 
@@ -96,7 +96,7 @@ module _ (proper : AllProper) (d : Direction) (local : Local) where
       IsMute d new.course.sessions → HasSaidNothing d local deeds old → HasSaidNothing d local then_deeds new
   stays_mute deeds then_deeds step old new does places mute h = grind (arith, step_followed)
 
-  pub mute_keeps : PutsNoDt d local → KeepsThroughout d local (HasSaidNothing d local)
+  pub mute_keeps : PutsNoDt d local → Keeps Zero d local (HasSaidNothing d local)
   mute_keeps none_put = record {
     begins = grind (arith, begin_followed);
     own_begins = λ deeds old new step courses few h.

@@ -14,6 +14,8 @@ use Rattle.osi_blameless.proofs.what_a_taker_passes_over.{IsMild}
 use Rattle.osi_blameless.proofs.sessions.all_connections_stand.{map_of}
 use Rattle.osi_blameless.proofs.sessions.class_0_has_one_connection.{set_other}
 use Rattle.osi_blameless.proofs.sessions.what_a_unit_does_at_its_place.{Does, asks_again, asks_more, nowhere, somewhere, unit_does}
+use Rattle.osi_blameless.proofs.small_facts_that_many_lemmas_use.{same_one}
+use Rattle.osi_blameless.proofs.sessions.what_stands_of_a_connection.{named_begun}
 
 -- The called side has not refused the connection at this place, to which this side gave this reference. Of each other one, the reference
 -- of this side is gone.
@@ -31,9 +33,6 @@ pub still_gone : (d : Direction) (r : ℕ) (gone then_gone : ℕ → Type 0) (s 
 still_gone d r gone then_gone s t f h = grind arith
 
 -- ---- a packet begins
-
-named_begun : (d e : Direction) (j : Joined) → reference_of d (packet_begins e j) ≡ reference_of d j
-named_begun d e j = grind arith
 
 pub one_begins : (d e : Direction) (r : ℕ) (gone : ℕ → Type 0) (s : State) (t : Sessions) → HasOne d r gone s t →
     HasOne d r gone (traffic.packet_begins (way_of e) s) (all_begin e t)
@@ -89,9 +88,6 @@ here_so e v s i h is = grind arith
 no_cr : {A : Type 0} (e : Direction) (v : Value) (s : State) (x : Connect) → v ≡ request x → IsStill e v s → A
 no_cr e v s x is h = absurd (subst (λ (u : Value). IsStill e u s) is h)
 
-same_item : {X : Type 0} (x y : X) → Some x ≡ Some y → x ≡ y
-same_item x y e = cc
-
 module _ (d e : Direction) (r : ℕ) (gone : ℕ → Type 0) (at : ℕ) (v : Value) (s : State) (t : Sessions) (h : HasOne d r gone s t) where
   abbrev After : State → Sessions → Type 0
   After s t = HasOne d r gone s t
@@ -119,7 +115,7 @@ module _ (d e : Direction) (r : ℕ) (gone : ℕ → Type 0) (at : ℕ) (v : Val
         (z : Connection) × (slice_get (set s.connections p new) h.place ≡ Some z) × (is_refused z.right.phase ≡ false)
     place_by true is =
         let same = eqb-true h.place p is in
-        let one : h.connection ≡ c = same_item h.connection c (sym h.there ∙ ap (slice_get s.connections) same ∙ there) in (
+        let one : h.connection ≡ c = same_one h.connection c (sym h.there ∙ ap (slice_get s.connections) same ∙ there) in (
           new,
           ap (slice_get (set s.connections p new)) same ∙ set_there s.connections p new c there,
           after_up (way_of e) v b x c kind (ap (λ (z : Connection). is_refused z.right.phase) (sym one) ∙ h.up),

@@ -24,11 +24,9 @@ use Rattle.osi_blameless.proofs.sessions.each_unit_of_a_turn_has_one_connection.
 use Rattle.osi_blameless.proofs.sessions.references_of_an_end_are_distinct.{GivesNew, IsUnused}
 use Rattle.osi_blameless.proofs.sessions.what_a_turn_puts_goes_to_its_peer.{IsNotZero, IsThere, Lived, by_units, came, linked_so, none_shut}
 use Rattle.osi_blameless.proofs.sessions.what_a_turn_puts_goes_to_its_peer.{one_of, put_for, turn_marked, whole_lasts}
+use Rattle.osi_blameless.proofs.small_facts_that_many_lemmas_use.{not_some}
 
 -- ---- small facts
-
-not_none : {A : Type 0} (o : Option ℕ) (n : ℕ) → o ≡ Some n → o ≡ None → A
-not_none o n h k = let no : Some n ≡ None = sym h ∙ k in absurd (cc)
 
 pub same_number : (o : Option ℕ) (m n : ℕ) → o ≡ Some m → o ≡ Some n → m ≡ n
 same_number o m n h k = let both : Some m ≡ Some n = sym h ∙ k in cc
@@ -104,8 +102,8 @@ module _ (local : Local) (w : Whole) (t : Sessions) (f : Called local w) (apart 
 
   at_home : (q peer : ℕ) (link : Standing) → value_at q w.end.live ≡ Some (linked peer link) → (p : ℕ) (c : Connection) →
       slice_get w.judge.connections p ≡ Some c → f.refs p ≡ Some q → StandsAt p c → IsHomed Right q peer w.judge t
-  at_home q peer link is p c at index (comes x a none ask none_given) = not_none (f.refs p) q index none_given
-  at_home q peer link is p c at index (refuses x a reason put none none_given seen) = not_none (f.refs p) q index none_given
+  at_home q peer link is p c at index (comes x a none ask none_given) = not_some (f.refs p) q index none_given
+  at_home q peer link is p c at index (refuses x a reason put none none_given seen) = not_some (f.refs p) q index none_given
   at_home q peer link is p c at index (answers h none) =
       let name : h.r ≡ q = same_number (f.refs p) h.r q h.index index in
       let same : peer ≡ h.x.source =

@@ -22,8 +22,9 @@ use Rattle.osi_blameless.proofs.sessions.a_whole_end_runs_along.{calling_followe
 use Rattle.osi_blameless.proofs.sessions.connections_have_the_same_places.{at_same}
 use Rattle.osi_blameless.proofs.sessions.each_unit_of_a_turn_has_one_connection.{HasHome, IsMarked, known}
 use Rattle.osi_blameless.proofs.sessions.nothing_is_done_before_a_cr_passes.{IsNotCc, same_units}
-use Rattle.osi_blameless.proofs.sessions.what_a_turn_puts_goes_to_its_peer.{GoesTo, IsPutFor, all_back, all_of_both, all_so, goes_to}
-use Rattle.osi_blameless.proofs.sessions.what_a_turn_puts_goes_to_its_peer.{one_of, turn_marked, whole_lasts}
+use Rattle.osi_blameless.proofs.sessions.what_a_turn_puts_goes_to_its_peer.{GoesTo, IsPutFor, all_back, all_so, goes_to, one_of}
+use Rattle.osi_blameless.proofs.small_facts_that_many_lemmas_use.{all_join as all_of_both}
+use Rattle.osi_blameless.proofs.sessions.what_a_turn_puts_goes_to_its_peer.{turn_marked, whole_lasts}
 
 -- ---- a connection that is open at the judge has a home there
 

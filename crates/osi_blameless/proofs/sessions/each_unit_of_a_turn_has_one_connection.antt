@@ -10,6 +10,9 @@ use Rattle.osi_blameless.proofs.sessions.all_connections_stand.{AllStand, one_at
 use Rattle.osi_blameless.proofs.sessions.references_of_an_end_are_distinct.{AreDistinct}
 use Rattle.osi_blameless.proofs.sessions.what_a_turn_puts_waits.{Agree, marks_wait}
 use Rattle.osi_blameless.proofs.sessions.what_stands_of_a_connection.{Known, is_for, names_it, waiting_for}
+use Rattle.osi_blameless.proofs.Vocabulary.{differ}
+use Rattle.osi_blameless.proofs.small_facts_that_many_lemmas_use.{same_one}
+use Rattle.osi_blameless.proofs.small_facts_that_many_lemmas_use.{same_bool}
 
 -- a connection with these references, which this end has not closed, at the judge
 pub record HasHome (d : Direction) (r peer : ℕ) (s : State) (t : Sessions) : Type 0 where
@@ -22,16 +25,13 @@ pub record HasHome (d : Direction) (r peer : ℕ) (s : State) (t : Sessions) : T
   pub mine : reference_of d joined ≡ Some r
   pub theirs : reference_of (other d) joined ≡ Some peer
 
-some_same : {X : Type 0} (x y : X) → Some x ≡ Some y → x ≡ y
-some_same x y e = cc
-
 module _ (d : Direction) (deeds : ℕ → Deeds) (known : Known) (put : List Value) (b : Bool) (s : State) (t : Sessions)
     (a : AllStand d deeds known put b s t) (apart : AreUsedApart d s.connections) where
   -- the reference of the other side tells which it is
   pub one_home : (q r peer : ℕ) → HasHome d q peer s t → HasHome d r peer s t → q ≡ r
   one_home q r peer h k =
       let same : h.place ≡ k.place = search (arith, one_use, one_at) in
-      grind (arith, some_same)
+      grind (arith, same_one)
 
 -- Of a unit that is put: the judge knows its connection by these references, and this end has not closed it there. Or its CC has not
 -- passed: then no connection has its reference, and none that is open is for the same reference of the other side.
@@ -66,12 +66,6 @@ names_so o n h = grind (arith, eqb-true)
 names_back : (o : Option ℕ) (n : ℕ) → o ≡ Some n → names_it o n ≡ true
 names_back o n e = ap (λ (x : Option ℕ). names_it x n) e ∙ eq-eqb n n refl
 
-same_bool : (a b : Bool) → (a ≡ true → b ≡ true) → (b ≡ true → a ≡ true) → a ≡ b
-same_bool a b h k = grind arith
-
-differ : {A : Type 0} (b : Bool) → b ≡ true → b ≡ false → A
-differ b h k = absurd (cc)
-
 module _ (d : Direction) (deeds : ℕ → Deeds) (known_so : Known) (put : List Value) (b : Bool) (s : State) (t : Sessions)
     (a : AllStand d deeds known_so put b s t) (apart : AreUsedApart d s.connections) (distinct : AreDistinct d t) (i : ℕ) (c : Connection)
     (j : Joined) (r : ℕ) (there : slice_get s.connections i ≡ Some c) (here : slice_get t.live i ≡ Some j)
@@ -81,7 +75,7 @@ module _ (d : Direction) (deeds : ℕ → Deeds) (known_so : Known) (put : List 
   marked_one m n is (unknown no_open no_name) = grind (arith, same_bool, is_for, eqb-true, names_so, for_is)
   marked_one m n is (known h) =
       same_bool (m.0 == r) (is_for (reference_of (other d) j) m.1)
-      (grind (arith, eqb-true, some_same, for_is, names_back))
+      (grind (arith, eqb-true, same_one, for_is, names_back))
       (λ e.
       let home : HasHome d r n s t = grind (arith, names_so, for_is) in
       eq-eqb m.0 r (one_home d deeds known_so put b s t a apart m.0 r n h home))

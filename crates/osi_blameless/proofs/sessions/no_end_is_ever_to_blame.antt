@@ -1,7 +1,7 @@
 -- No session of an end is ever to blame, whatever the other side breaks, whichever class is selected; so the first break of all is of the
 -- other side. For the laws that no session of an end is to blame after a break, nor blamed first.
 use Rattle.osi_blameless.proofs.Vocabulary.{slice_get, ◌⊎◌, ℕ, inl, inr, ◌≡◌, refl, ◌^◌, ◌<◌, Bool, false, true, List, length, Option}
-use Rattle.osi_blameless.proofs.Vocabulary.{Some, Class, Two, Zero, Local, Capture, Direction, Left, Right, other, AsSent, AsParts, CalledLaw}
+use Rattle.osi_blameless.proofs.Vocabulary.{Some, Class, Zero, Local, Capture, Direction, Left, Right, other, AsSent, AsParts, CalledLaw}
 use Rattle.osi_blameless.proofs.Vocabulary.{CallerLaw, Holding, IsFresh, IsSeen, Run, Turn, Known, IsToBlame, Joined, Sessions, Course, comes_to}
 use Rattle.osi_blameless.proofs.Vocabulary.{AreOctets, differ, BreaksFirst, First}
 use Rattle.osi_blameless.proofs.a_capture_is_steps.{capture_steps}
@@ -17,12 +17,12 @@ use Rattle.osi_blameless.proofs.sessions.a_calling_end_without_class_2_puts_no_d
 use Rattle.osi_blameless.proofs.sessions.an_end_that_has_said_nothing_is_not_to_blame.{HasSaidNothing, mute_keeps}
 use Rattle.osi_blameless.proofs.sessions.an_end_of_class_0_has_begun_what_a_judge_has_joined.{called_begun, calling_begun}
 use Rattle.osi_blameless.proofs.sessions.nobody_of_a_side_is_to_blame.{NeverToBlame, NoneIsToBlame}
-use Rattle.osi_blameless.proofs.sessions.no_called_end_is_blamed_first_in_class_0.{called_early_keeps}
-use Rattle.osi_blameless.proofs.sessions.no_calling_end_is_blamed_first_in_class_0.{early_keeps}
-use Rattle.osi_blameless.proofs.sessions.no_session_of_a_called_end_breaks_first.{StandsOrSelected, called_keeps}
-use Rattle.osi_blameless.proofs.sessions.no_session_of_a_calling_end_breaks_first.{StandsQuiet, calling_keeps}
-use Rattle.osi_blameless.proofs.sessions.no_session_of_an_end_is_to_blame.{ends_well}
-use Rattle.osi_blameless.proofs.sessions.no_session_of_an_end_is_to_blame_after_a_loss.{never_to_blame}
+use Rattle.osi_blameless.proofs.sessions.what_a_called_end_keeps_until_class_2.{called_early_keeps}
+use Rattle.osi_blameless.proofs.sessions.what_a_calling_end_keeps_until_class_2.{early_keeps}
+use Rattle.osi_blameless.proofs.sessions.what_a_called_end_keeps_unless_in_class_0.{StandsOrSelected, called_keeps}
+use Rattle.osi_blameless.proofs.sessions.what_a_calling_end_keeps_unless_in_class_0.{StandsQuiet, calling_keeps}
+use Rattle.osi_blameless.proofs.sessions.no_session_is_to_blame_unless_class_2_is_selected.{ends_well}
+use Rattle.osi_blameless.proofs.sessions.no_session_is_to_blame_unless_class_0_is_selected.{never_to_blame}
 use Rattle.osi_blameless.proofs.sessions.a_loss_is_in_class_2_at_a_judge.{capture_two, firm_in_zero}
 use Rattle.osi_blameless.proofs.sessions.steps_of_either_class_leave_all_standing.{zero_by}
 use Rattle.osi_blameless.proofs.sessions.the_first_break_of_all_is_of_the_other_side.{IsUnblamed, capture_unblamed, first_of_all}
@@ -61,7 +61,7 @@ module _ (known : Known) (known_of : AsSent) (parts : AsParts) (caller : CallerL
         in_zero : selected ≡ Some Zero → NeverToBlame Right course
         in_zero zero =
             by_class_0 Right zero
-            (ends_well known Two Right local (called_is_fair local) (called_is_fair_in_class_0 local)
+            (ends_well known Right local (called_is_fair local) (called_is_fair_in_class_0 local)
             (StandsCalledUntilTwo local known.proper)
             (called_early_keeps local known.proper known_of parts caller called) (called_begun local known.proper) begin capture fresh comes
             (record { not = λ two. zero_two selected zero two; few = few }))
@@ -77,7 +77,7 @@ module _ (known : Known) (known_of : AsSent) (parts : AsParts) (caller : CallerL
         in_zero : selected ≡ Some Zero → NeverToBlame Left course
         in_zero zero =
             by_class_0 Left zero
-            (ends_well known Two Left local (calling_is_fair local) (calling_is_fair_in_class_0 local) (StandsUntilTwo local)
+            (ends_well known Left local (calling_is_fair local) (calling_is_fair_in_class_0 local) (StandsUntilTwo local)
             (early_keeps local known.proper known_of parts caller called) (calling_begun local) begin capture fresh comes
             (record { not = λ two. zero_two selected zero two; few = few }))
 

@@ -6,7 +6,7 @@ use Rattle.osi_blameless.proofs.Vocabulary.{request, Value, Zero, is_refused, cl
 use Rattle.osi_blameless.proofs.Vocabulary.{HaveSamePlaces, picked_rest, Course}
 use Rattle.osi_rules.specs.declared.directions.Direction.TheVariants as way
 use Rattle.osi_blameless.proofs.sessions.a_unit_is_joined_where_it_is_named.{joined_any}
-use Rattle.osi_blameless.proofs.sessions.each_cr_that_passes_gives_a_new_reference.{AreUpTo}
+use Rattle.osi_blameless.proofs.sessions.each_reference_of_an_end_is_new.{AreUpTo}
 use Rattle.osi_blameless.proofs.sessions.right_units_leave_all_standing.{ak, cc_placed, dt, link_placed}
 use Rattle.osi_blameless.proofs.sessions.what_a_unit_does_at_its_place.{Does, asks_again, asks_more, nowhere, somewhere, unit_does}
 use Rattle.osi_blameless.proofs.sessions.what_passes_leaves_all_standing.{AllGoesOn, no_zero}

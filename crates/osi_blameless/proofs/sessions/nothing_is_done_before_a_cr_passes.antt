@@ -15,11 +15,12 @@ use Rattle.osi_blameless.proofs.a_carrier_does_events.{none_of}
 use Rattle.osi_blameless.proofs.steps_are_events.{IsFollowed}
 use Rattle.osi_blameless.proofs.sessions.a_turn_does_what_its_deeds_say.{turn_uses}
 use Rattle.osi_blameless.proofs.sessions.connections_have_the_same_places.{at_same}
-use Rattle.osi_blameless.proofs.sessions.each_cr_that_passes_gives_a_new_reference.{AreUpTo}
+use Rattle.osi_blameless.proofs.sessions.each_reference_of_an_end_is_new.{AreUpTo}
 use Rattle.osi_blameless.proofs.sessions.what_is_in_flight_to_an_end.{parts_taken}
 use Rattle.osi_blameless.proofs.sessions.what_is_left_for_an_end.{known_left, left_empty}
 use Rattle.osi_blameless.proofs.sessions.what_passes_leaves_all_standing.{IsReady}
 use Rattle.osi_blameless.proofs.sessions.what_stands_of_a_connection.{Known, is_for, waiting_for}
+use Rattle.osi_blameless.proofs.small_facts_that_many_lemmas_use.{all_left}
 
 -- ---- one connection
 
@@ -71,10 +72,6 @@ module _ (r : ℕ) (deeds more : Deeds) (took put : List Marked) (put_is : more.
 abbrev pub AreUndone : ℕ → (ℕ → Deeds) → Carrier → Type 0
 AreUndone b deeds c = (r : ℕ) → b < r → IsUndone (deeds r) (stage_at r c)
 
-all_front : (P : Value → Type 0) (xs ys : List Value) → AllByRecursion P (xs ++ ys) → AllByRecursion P xs
-all_front P [] ys h = tt
-all_front P (x ∷ xs) ys h = (h.0, all_front P xs ys h.1)
-
 never_early : {A : Type 0} (s : Stage) → s ≡ past → s ≡ early → A
 never_early s e h = absurd (cc (sym e ∙ h))
 
@@ -93,7 +90,7 @@ turn_undone b turn old new t deeds on life none u r less =
         AllByRecursion (IsNotCc r) (all_units on.took)
     by None lasts is =
         let s = turn_uses turn old new t true deeds on lasts in
-        all_front (IsNotCc r) (all_units on.took) (s.left ++ units_in new.coming)
+        all_left (IsNotCc r) (all_units on.took) (s.left ++ units_in new.coming)
         (subst (AllByRecursion (IsNotCc r)) s.coming (none lasts r less is))
     by (Some reason) over is =
         never_early (stage_at r old.holding.end.carrier) (stage_over r old.holding.end.carrier (ap is_some over)) is

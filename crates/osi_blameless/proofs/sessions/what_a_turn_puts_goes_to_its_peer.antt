@@ -16,12 +16,11 @@ use Rattle.osi_blameless.proofs.steps_are_events.{IsFollowed}
 use Rattle.osi_blameless.proofs.what_is_put_is_what_is_written.{are_first}
 use Rattle.osi_blameless.proofs.sessions.each_unit_of_a_turn_has_one_connection.{IsFor, IsHomed, IsMarked, of_none, of_one}
 use Rattle.osi_blameless.proofs.sessions.what_stands_of_a_connection.{is_for}
+use Rattle.osi_blameless.proofs.Vocabulary.{differ}
+use Rattle.osi_blameless.proofs.small_facts_that_many_lemmas_use.{all_front}
+use Rattle.osi_blameless.proofs.small_facts_that_many_lemmas_use.{all_join}
 
 -- ---- lists
-
-pub all_front : {X : Type 0} (P : X → Type 0) (xs ys : List X) → AllByRecursion P (xs ++ ys) → AllByRecursion P xs
-all_front P [] ys h = tt
-all_front P (x ∷ xs) ys h = (h.0, all_front P xs ys h.1)
 
 pub all_back : {X : Type 0} (P : X → Type 0) (xs ys : List X) → AllByRecursion P (xs ++ ys) → AllByRecursion P ys
 all_back P [] ys h = h
@@ -30,10 +29,6 @@ all_back P (x ∷ xs) ys h = all_back P xs ys h.1
 pub one_of : {X : Type 0} (P : X → Type 0) (xs ys : List X) (x : X) → AllByRecursion P (xs ++ x ∷ ys) → P x
 one_of P [] ys x h = h.0
 one_of P (y ∷ xs) ys x h = one_of P xs ys x h.1
-
-pub all_of_both : {X : Type 0} (P : X → Type 0) (xs ys : List X) → AllByRecursion P xs → AllByRecursion P ys → AllByRecursion P (xs ++ ys)
-all_of_both P [] ys a b = b
-all_of_both P (x ∷ xs) ys a b = (a.0, all_of_both P xs ys a.1 b)
 
 pub all_so : {X : Type 0} (P Q : X → Type 0) → ((x : X) → P x → Q x) → (xs : List X) → AllByRecursion P xs → AllByRecursion Q xs
 all_so P Q f [] h = tt
@@ -57,9 +52,6 @@ pub same_units : (us : List (List ℕ)) → courses.units_in us ≡ units_in us
 same_units [] = refl
 same_units (u ∷ us) = λ i. by_read (units_of u) i ++ same_units us i
 
-pub differ : {A : Type 0} (b : Bool) → b ≡ true → b ≡ false → A
-differ b h k = absurd (cc)
-
 -- no DT of class 0
 abbrev pub IsNotZero : Value → Type 0
 IsNotZero v = (end : Bool) (user : List ℕ) → v ≡ data0 end user → ⊥
@@ -75,7 +67,7 @@ abbrev pub GoesTo : (q peer : ℕ) → Marked → Type 0
 GoesTo q peer m = (m.0 == q) ≡ true → arriving.is_for peer m.1 ≡ true
 
 pub goes_to : (q : ℕ) (put : List Marked) (peer : ℕ) (left : Parts q put) → GivesTo q peer left.during → AllByRecursion (GoesTo q peer) put
-goes_to q put peer left gives = grind (arith, all_of_both, all_so, differ)
+goes_to q put peer left gives = grind (arith, all_join, all_so, differ)
 
 pub none_put : (P : Marked → Type 0) (units : List Marked) → packets (all_units units) ≡ [] → AllByRecursion P units
 none_put P [] e = tt

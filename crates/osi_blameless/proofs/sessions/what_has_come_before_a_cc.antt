@@ -24,7 +24,8 @@ use Rattle.osi_fair.proofs.no_two_open_connections_have_one_peer.{differ}
 use Rattle.osi_fair.proofs.what_becomes_of_a_connection.{Told}
 use Rattle.osi_blameless.proofs.a_carrier_does_events.{none_of}
 use Rattle.osi_blameless.proofs.steps_are_events.{IsFollowed, own_first}
-use Rattle.osi_blameless.proofs.sessions.a_calling_end_hears_what_breaks_no_rule.{AreFine, IsHeardOn, one_plain}
+use Rattle.osi_blameless.proofs.sessions.a_calling_end_hears_what_breaks_no_rule.{one_plain}
+use Rattle.osi_blameless.proofs.sessions.an_end_hears_what_breaks_no_rule.{AreFine, IsHeardOn}
 use Rattle.osi_blameless.proofs.sessions.a_calling_end_is_ready.{IsCalling, first, whole_joined}
 use Rattle.osi_blameless.proofs.sessions.a_calling_end_takes_nothing_before_its_cc.{HasCc, has_cc}
 use Rattle.osi_blameless.proofs.sessions.a_calling_end_takes_what_is_in_flight.{early_lasts}
@@ -33,10 +34,12 @@ use Rattle.osi_blameless.proofs.sessions.a_unit_after_a_dr_is_for_a_closing_conn
 use Rattle.osi_blameless.proofs.sessions.a_unit_is_joined_where_it_is_named.{named_there, names_there}
 use Rattle.osi_blameless.proofs.sessions.connections_have_the_same_places.{unit_knows}
 use Rattle.osi_blameless.proofs.sessions.nothing_is_done_before_a_cr_passes.{IsNoZero, same_units}
-use Rattle.osi_blameless.proofs.sessions.what_a_turn_puts_goes_to_its_peer.{all_front, one_of}
+use Rattle.osi_blameless.proofs.sessions.what_a_turn_puts_goes_to_its_peer.{one_of}
+use Rattle.osi_blameless.proofs.small_facts_that_many_lemmas_use.{all_front}
 use Rattle.osi_blameless.proofs.sessions.what_a_unit_does_at_its_place.{Does, asks_again, asks_more, nowhere, somewhere, unit_does}
 use Rattle.osi_blameless.proofs.sessions.what_passes_leaves_all_standing.{AllGoesOn}
 use Rattle.osi_blameless.proofs.sessions.what_stands_of_a_connection.{is_for, waiting_for}
+use Rattle.osi_blameless.proofs.small_facts_that_many_lemmas_use.{same_one}
 
 -- ---- what is so
 
@@ -118,9 +121,6 @@ closed_there true r c sound opened (data2 n number end user) named shut = named_
 closed_there true r c sound opened (acknowledge credit n number) named shut = grind (arith, named_so)
 closed_there true r c sound opened (error n cause) named shut = named_so c sound opened (error n cause) named n refl
 
-some_one : (c e : Connection) → Some c ≡ Some e → c ≡ e
-some_one c e h = cc
-
 module _ (local : Local) (v : Value) (w : Whole) (rest : List Value) (put : w.put ≡ v ∷ rest) (begun : w.begun ≡ true) (t : Sessions)
     (places : HaveSamePlaces w.judge.connections t.live) (j : Follows local w)
     (then_clear : IsOngoing (takes way.Left v w.judge).state.course) (q : IsQuiet w.end w.coming w.judge) where
@@ -142,7 +142,7 @@ module _ (local : Local) (v : Value) (w : Whole) (rest : List Value) (put : w.pu
   own_shut i c e at there same tracked shut may =
       let (p, x, here, then_tracked, is) = own_still c.left.reference may (i, c, at, tracked, refl) in
       let one : i ≡ p = own_joined.kept.sane.distinct i p e x there here (same ∙ sym is) in
-      grind (arith, differ, some_one, left_open)
+      grind (arith, differ, same_one, left_open)
 
   own_by : (i : ℕ) (c : Connection) (k : Joined) (b opened : Bool) (r : Reach) → is_open c.left.phase ≡ opened →
       slice_get w.judge.connections i ≡ Some c → IsOneOf c k → (takes way.Left v w.judge).told.place ≡ Some i →
@@ -284,20 +284,20 @@ module _ (local : Local) (v : Value) (ranges : HasFieldsInRange v) (w : Whole) (
 
 -- ---- the units of a packet of the other side
 
-ongoing_first : (at : ℕ) (vs : List Value) (c : Course) → AreFine at vs c → IsOngoing (units_pass Right at vs c).traffic.course →
+ongoing_first : (at : ℕ) (vs : List Value) (c : Course) → AreFine Left at vs c → IsOngoing (units_pass Right at vs c).traffic.course →
     IsOngoing c.traffic.course
 ongoing_first at [] c fine clear = clear
 ongoing_first at (v ∷ vs) c (one, more) then_clear = one.lasts
 
 -- a DT or an AK that may be for a connection which has not opened is for one whose CC has passed
-fine_tracked : (local : Local) (v : Value) (w : Whole) (c : Course) → IsHeardOn v c →
+fine_tracked : (local : Local) (v : Value) (w : Whole) (c : Course) → IsHeardOn Left v c →
     IsOngoing (takes way.Right v w.judge).state.course → Follows local w → w.judge ≡ c.traffic →
     IsQuiet w.end w.coming w.judge → (r : ℕ) → MayOpen w.end r → IsForOne r v → Tracked w.judge.connections r
 fine_tracked local v w c one then_clear j same q r may for_it =
     tracked_now local v w j (subst (AllGoesOn v Left) (sym same) one.on)
     (subst (λ (s : State). IsOngoing s.course) (sym same) one.lasts) then_clear q r may for_it
 
-units_quiet : (local : Local) (at : ℕ) (vs : List Value) (w : Whole) (c : Course) → AreFine at vs c →
+units_quiet : (local : Local) (at : ℕ) (vs : List Value) (w : Whole) (c : Course) → AreFine Left at vs c →
     IsOngoing (units_pass Right at vs c).traffic.course → AllByRecursion HasFieldsInRange vs → Follows local w → w.judge ≡ c.traffic →
     IsQuiet w.end w.coming w.judge → IsQuiet w.end (w.coming ++ vs) (units_pass Right at vs c).traffic
 units_quiet local at [] w c fine clear ranges j same q = grind (arith, append-nil)
@@ -380,7 +380,7 @@ module _ (local : Local) (two : local.class2 ≡ true) where
 
   pub passes_other_quiet : (deeds : ℕ → Deeds) (at : ℕ) (bytes : List ℕ) (units : List Value) (old new : Joint) →
       Steps Left (passes_other at bytes units) old new → IsCalling local two deeds old →
-      AreFine at units old.course → AreQuiet old → AreQuiet new
+      AreFine Left at units old.course → AreQuiet old → AreQuiet new
   passes_other_quiet deeds at bytes units old new (octets, read, is) h fine q =
       let f = h.ahead.followed in
       let one : units_in (bytes ∷ []) ≡ units = append-nil (units_read (units_of bytes)) ∙ ap units_read read in

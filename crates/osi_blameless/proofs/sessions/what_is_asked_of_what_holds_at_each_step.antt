@@ -1,10 +1,10 @@
--- What is asked of what holds of an end and a judge at each step, by which nobody of the end is to blame as long as one class is not selected;
--- and what each unit is while all that passes is judged.
+-- What is asked of what holds of an end and a judge at each step, by which nobody of the end is to blame as long as one class is not selected:
+-- class 2, or class 0. And what units are while so much is judged.
 -- For the laws that no session of an end is to blame.
-use Rattle.osi_blameless.proofs.Vocabulary.{◌≡◌, ◌≢◌, ◌∙◌, ◌⊎◌, refl, ap, ℕ, ◌^◌, ◌<◌, ◌≤◌, Bool, false, if◌then◌else◌}
+use Rattle.osi_blameless.proofs.Vocabulary.{◌≡◌, ◌≢◌, ◌∙◌, ◌⊎◌, refl, sym, ap, subst, ℕ, ◌^◌, ◌<◌, ◌≤◌, Bool, false, if◌then◌else◌}
 use Rattle.osi_blameless.proofs.Vocabulary.{List, [], ◌∷◌, ◌++◌, length, Some, is_some, arith, slice_get}
-use Rattle.osi_blameless.proofs.Vocabulary.{length-append, Value, Class, Two, Local, Capture, other, Direction}
-use Rattle.osi_blameless.proofs.Vocabulary.{TooMany, is_stopped, takes, packet, unit, IsFirm, Holding, Deeds}
+use Rattle.osi_blameless.proofs.Vocabulary.{length-append, Value, Class, Two, Zero, Local, Capture, other, Direction}
+use Rattle.osi_blameless.proofs.Vocabulary.{TooMany, class_for, is_stopped, takes, packet, unit, IsFirm, IsOngoing, packet_begins, Holding, Deeds}
 use Rattle.osi_blameless.proofs.Vocabulary.{no_deeds, then_did, IsFresh, Turn, Cause, Joined, spoken, marked}
 use Rattle.osi_blameless.proofs.Vocabulary.{marks_of, moved, unit_passes, units_pass, unread, unread_mark, unread_moment}
 use Rattle.osi_blameless.proofs.Vocabulary.{way_of, heard, after, Joint, Step, Steps, TakesTurn, begin, begins_other}
@@ -12,12 +12,14 @@ use Rattle.osi_blameless.proofs.Vocabulary.{begins_own, passes_other, passes_own
 use Rattle.osi_rules.specs.Sides as sides
 use Rattle.osi_rules.specs.Traffic.{State as Traffic}
 use Rattle.osi_rules.specs.Traffic as traffic
+use Rattle.osi_rules.specs.declared.findings.Reach.TheVariants as reach
 use Rattle.osi_fair.specs.Wholes as wholes
 use Rattle.osi_honest.specs.Courses.{Course}
-use Rattle.osi_judge.specs.Courses.{Course as Passed}
+use Rattle.osi_judge.specs.Courses.{Course as Passed, fresh}
 use Rattle.osi_judge.specs.States as states
 use Rattle.osi_blameless.proofs.steps_are_events.{IsFollowed, own_first}
-use Rattle.osi_blameless.proofs.no_unit_of_a_whole_end_is_a_break.{IsFair}
+use Rattle.osi_blameless.proofs.no_unit_of_a_whole_end_is_a_break.{IsFair, IsNoBreak}
+use Rattle.osi_blameless.proofs.a_break_ends_no_judging_or_all.{IsGoing, begins_going, nothing_ends, nothing_goes}
 use Rattle.osi_blameless.proofs.all_is_judged_or_nothing.{IsJudged}
 use Rattle.osi_blameless.proofs.what_passes_keeps_a_claim.{IsClaim, after_kept, step_kept, units_kept}
 use Rattle.osi_blameless.proofs.what_the_turns_among_steps_do.{TurnDoes}
@@ -25,6 +27,7 @@ use Rattle.osi_blameless.proofs.sessions.a_unit_after_a_dr_is_for_a_closing_conn
 use Rattle.osi_blameless.proofs.sessions.nobody_of_a_side_is_to_blame.{NoneIsToBlame, moment, unit_past}
 use Rattle.osi_blameless.proofs.sessions.connections_have_the_same_places.{marked_traffic, unit_knows}
 use Rattle.osi_blameless.proofs.sessions.each_step_leaves_class_0_one_connection.{Sure, class_stays}
+use Rattle.osi_blameless.proofs.sessions.steps_leave_all_standing.{IsProper}
 use Rattle.osi_blameless.proofs.sessions.steps_of_either_class_leave_all_standing.{IsRight, IsTolerable}
 
 -- ---- what is asked of what holds at each step
@@ -33,37 +36,65 @@ use Rattle.osi_blameless.proofs.sessions.steps_of_either_class_leave_all_standin
 abbrev pub HaveCourses : Direction → (ℕ → Deeds) → Joint → Type 0
 HaveCourses d deeds j = (r : ℕ) → Course (calls_from d) r (deeds r) j.holding.end
 
--- A unit of the other side breaks no rule, or its taker passes over that, or it comes after a DR; and it is not one connection too many,
--- and this class is not selected.
-pub record IsPassed (barred : Class) (d : Direction) (v : Value) (c : Passed) : Type 0 where
+-- Both sides are judged; and each connection too, if class 2 is not selected: only in class 2 a connection may lose its judgement.
+abbrev pub IsStillJudged : (barred : Class) → Passed → Type 0
+IsStillJudged Two c = IsJudged c
+IsStillJudged Zero c = IsGoing c
+
+-- the same, as the rules of transport know it
+abbrev pub Lasts : (barred : Class) → Passed → Type 0
+Lasts Two c = IsFirm c.traffic.course × (c.traffic.course.class ≡ Some Two → ⊥)
+Lasts Zero c = IsOngoing c.traffic.course
+
+-- a unit of the end
+abbrev pub IsOwn : (barred : Class) → Direction → Value → Passed → Type 0
+IsOwn Two d v c = IsRight d v c × Sure c
+IsOwn Zero d v c = IsProper d v c
+
+-- A unit of the other side, while class 2 is not selected: it breaks no rule, or its taker passes over that, or it comes after a DR; and it is
+-- not one connection too many.
+pub record IsTakenEarly (d : Direction) (v : Value) (c : Passed) : Type 0 where
   pub taken : IsTolerable (other d) v c ⊎ IsAfterDr (other d) v c
   pub firm : IsFirm c.traffic.course
-  pub not : c.traffic.course.class ≡ Some barred → ⊥
+  pub not : c.traffic.course.class ≡ Some Two → ⊥
   pub sure : Sure c
   pub few : (takes (way_of (other d)) v c.traffic).told.finding ≢ TooMany
 
+-- The same, while class 0 is not selected: all judging does not end with the unit. If a connection loses its judgement with it, nobody of
+-- the end is to blame then.
+pub record IsTakenOn (d : Direction) (v : Value) (c : Passed) : Type 0 where
+  pub goes : is_stopped (way_of (other d)) c.traffic.course ≡ false
+  pub lasts : IsOngoing c.traffic.course
+  pub two : class_for (way_of (other d)) c.traffic.course ≡ Some Zero → ⊥
+  pub far : (takes (way_of (other d)) v c.traffic).told.reach ≡ reach.Everything → ⊥
+  pub loses : (takes (way_of (other d)) v c.traffic).told.reach ≡ reach.Connection → NoneIsToBlame d c.sessions
+
+abbrev pub IsPassed : (barred : Class) → Direction → Value → Passed → Type 0
+IsPassed Two d v c = IsTakenEarly d v c
+IsPassed Zero d v c = IsTakenOn d v c
+
+-- each of these, as it passes
 abbrev pub ArePassed : (barred : Class) (d : Direction) (at : ℕ) → List Value → Passed → Type 0
 ArePassed barred d at [] c = Unit {0}
 ArePassed barred d at (v ∷ vs) c = IsPassed barred d v c × ArePassed barred d at vs (unit_passes (other d) at v c)
 
--- It holds at the beginning, and each step keeps it as long as nobody breaks a rule and this class is not selected. Then nobody of the end
--- is to blame, also after each unit of a packet of the other side.
-pub record KeepsUnless (barred : Class) (d : Direction) (local : Local) (Inv : (ℕ → Deeds) → Joint → Type 0) : Type 0 where
+-- It holds at the beginning, and each step keeps it as long as so much is judged and this class is not selected. Then nobody of the end is
+-- to blame, also after each unit of a packet of the other side.
+pub record Keeps (barred : Class) (d : Direction) (local : Local) (Inv : (ℕ → Deeds) → Joint → Type 0) : Type 0 where
   pub begins : (h : Holding) → IsFresh (calls_from d) local h → Inv (λ r. no_deeds) (begin h)
   pub own_begins : (deeds : ℕ → Deeds) (old new : Joint) → Steps d begins_own old new → HaveCourses d deeds old →
       ((i : ℕ) (j : Joined) → slice_get old.course.sessions.live i ≡ Some j → length (heard (spoken (other d) j)) < 2 ^ 64) →
       Inv deeds old → Inv deeds new
   pub other_begins : (deeds : ℕ → Deeds) (old new : Joint) → Steps d begins_other old new → Inv deeds old → Inv deeds new
   pub own_passes : (deeds : ℕ → Deeds) (at : ℕ) (v : Value) (old new : Joint) → Steps d (passes_own at v) old new →
-      IsRight d v old.course → IsFirm old.course.traffic.course → Sure old.course →
-      (old.course.traffic.course.class ≡ Some barred → ⊥) → (new.course.traffic.course.class ≡ Some barred → ⊥) → Inv deeds old →
+      IsOwn barred d v old.course → Lasts barred old.course → (new.course.traffic.course.class ≡ Some barred → ⊥) → Inv deeds old →
       Inv deeds new
   pub other_passes : (deeds : ℕ → Deeds) (at : ℕ) (octets : List ℕ) (units : List Value) (old new : Joint) →
       Steps d (passes_other at octets units) old new → ArePassed barred d at units old.course → Inv deeds old → Inv deeds new
   pub turn : (turn : Turn) (old new : Joint) (t : TakesTurn turn old new) (deeds : ℕ → Deeds)
       (does : TurnDoes (calls_from d) deeds turn old new t) → IsFollowed d (wholes.begin (calls_from d) local) old →
-      IsFollowed d (wholes.begin (calls_from d) local) new → IsFirm old.course.traffic.course →
-      (old.course.traffic.course.class ≡ Some barred → ⊥) → Inv deeds old → Inv (λ r. then_did (deeds r) (does.of.on.more r)) new
+      IsFollowed d (wholes.begin (calls_from d) local) new → Lasts barred old.course → Inv deeds old →
+      Inv (λ r. then_did (deeds r) (does.of.on.more r)) new
   pub none : (deeds : ℕ → Deeds) (j : Joint) → HaveCourses d deeds j → Inv deeds j → NoneIsToBlame d j.course.sessions
   pub none_amid : (deeds : ℕ → Deeds) (at : ℕ) (octets : List ℕ) (front back : List Value) (old new : Joint) →
       Steps d (passes_other at octets (front ++ back)) old new → HaveCourses d deeds old → ArePassed barred d at front old.course →
@@ -136,19 +167,61 @@ pub passed_then : (barred : Class) (d : Direction) (at : ℕ) (xs : List Value) 
 passed_then barred d at [] v c h k = (k, tt)
 passed_then barred d at (x ∷ xs) v c h k = (h.0, passed_then barred d at xs v (unit_passes (other d) at x c) h.1 k)
 
--- both sides are judged
+-- ---- while so much is judged
+
 pub firm_so : (c : Passed) → IsJudged c → IsFirm c.traffic.course
 firm_so c j = record { firm = j.firm; left = j.left; right = j.right }
 
 pub goes_so : (e : Direction) (c : Passed) → IsJudged c → is_stopped (way_of e) c.traffic.course ≡ false
 goes_so e c j = grind arith
 
--- a unit of the end is no break: it is fair
-pub own_right : (d : Direction) (local : Local) → IsFair (way_of d) (wholes.begin (calls_from d) local) → (at : ℕ) (v : Value)
-    (old new : Joint) → Steps d (passes_own at v) old new → IsFollowed d (wholes.begin (calls_from d) local) old →
-    IsJudged old.course → IsRight d v old.course
-own_right d local fair at v old new (read, octets, put, begun, is) f j =
+pub side_goes : (e : Direction) (c : Passed) → IsGoing c → is_stopped (way_of e) c.traffic.course ≡ false
+side_goes e c j = grind arith
+
+pub going_of : (barred : Class) (c : Passed) → IsStillJudged barred c → IsGoing c
+going_of Two c j = record { left = j.left; right = j.right; left_goes = j.left_goes; right_goes = j.right_goes }
+going_of Zero c j = j
+
+pub lasts_so : (barred : Class) (c : Passed) → IsStillJudged barred c → (c.traffic.course.class ≡ Some barred → ⊥) → Lasts barred c
+lasts_so Two c j not = (firm_so c j, not)
+lasts_so Zero c j not = record { sure = record { left = j.left; right = j.right }; two = not }
+
+pub first_judged : (barred : Class) → IsStillJudged barred fresh
+first_judged Two = record { left = refl; right = refl; firm = refl; left_goes = refl; right_goes = refl }
+first_judged Zero = record { left = refl; right = refl; left_goes = refl; right_goes = refl }
+
+pub begins_judged : (barred : Class) (e : Direction) (c : Passed) → IsStillJudged barred c → IsStillJudged barred (packet_begins e c)
+begins_judged Two e c j = grind arith
+begins_judged Zero e c j = begins_going e c j
+
+pub nothing_judged : (barred : Class) (e : Direction) (at : ℕ) (v : Value) (c : Passed) →
+    (takes (way_of e) v c.traffic).told.reach ≡ reach.Nothing → IsStillJudged barred c → IsStillJudged barred (unit_passes e at v c)
+nothing_judged Two e at v c far j = nothing_ends e at v c far j
+nothing_judged Zero e at v c far j = nothing_goes e at v c far j
+
+pub knows_zero : (e : Direction) (c : Passed) → Sure c → class_for (way_of e) c.traffic.course ≡ Some Zero →
+    c.traffic.course.class ≡ Some Zero
+knows_zero e c sure is = grind arith
+
+-- ---- a unit of the end
+
+-- it is no break: the end is fair
+pub own_mild : (d : Direction) (local : Local) → IsFair (way_of d) (wholes.begin (calls_from d) local) → (at : ℕ) (v : Value)
+    (old new : Joint) → Steps d (passes_own at v) old new → IsFollowed d (wholes.begin (calls_from d) local) old → IsGoing old.course →
+    IsNoBreak (takes (way_of d) v old.course.traffic).told.finding
+own_mild d local fair at v old new (read, octets, put, begun, is) f j =
     let s = own_first d (wholes.begin (calls_from d) local) old new v (read, octets, put) f in
-    let found = fair f.events f.whole v s.rest f.along (f.begun ∙ begun) s.is
-    (ap (λ (t : Traffic). is_stopped (sides.other (way_of d)) t.course) f.judge ∙ (grind arith)) in
-    grind (arith, goes_so)
+    subst (λ (t : Traffic). IsNoBreak (takes (way_of d) v t).told.finding) f.judge
+    (fair f.events f.whole v s.rest f.along (f.begun ∙ begun) s.is
+    (ap (λ (t : Traffic). is_stopped (sides.other (way_of d)) t.course) f.judge ∙ (grind arith)))
+
+pub own_is : (barred : Class) (d : Direction) (v : Value) (c : Passed) → IsStillJudged barred c → Sure c →
+    (c.traffic.course.class ≡ Some barred → ⊥) → IsNoBreak (takes (way_of d) v c.traffic).told.finding →
+    (takes (way_of d) v c.traffic).told.reach ≡ reach.Nothing → IsOwn barred d v c
+own_is Two d v c j sure not none far = (record { firm = j.firm; goes = goes_so d c j; none = none }, sure)
+own_is Zero d v c j sure not none far = record {
+  goes = side_goes d c j;
+  two = λ zero. not (knows_zero d c sure zero);
+  none = none;
+  links = λ n link all. let no : reach.Nothing ≡ reach.Everything = sym far ∙ all in cc;
+}

@@ -15,7 +15,8 @@ use Rattle.osi_blameless.proofs.what_passes_keeps_a_claim.{step_kept}
 use Rattle.osi_blameless.proofs.what_the_turns_among_steps_do.{TurnDoes}
 use Rattle.osi_blameless.proofs.sessions.a_called_end_answers_with_class_2_or_selects_class_0.{answers_or_selects}
 use Rattle.osi_blameless.proofs.sessions.a_called_end_has_its_lines.{called_joined}
-use Rattle.osi_blameless.proofs.sessions.a_called_end_hears_what_breaks_no_rule.{AreFine, AreHeard, units_heard}
+use Rattle.osi_blameless.proofs.sessions.a_called_end_hears_what_breaks_no_rule.{units_heard}
+use Rattle.osi_blameless.proofs.sessions.an_end_hears_what_breaks_no_rule.{AreFine}
 use Rattle.osi_blameless.proofs.sessions.a_called_end_is_ready.{begin_called}
 use Rattle.osi_blameless.proofs.sessions.a_called_end_stands_as_units_pass.{StandsCalled, begins_other_stands, begins_own_stands}
 use Rattle.osi_blameless.proofs.sessions.a_called_end_stands_as_units_pass.{passes_other_stands, passes_own_stands, turns_stand}
@@ -33,7 +34,7 @@ use Rattle.osi_blameless.proofs.sessions.steps_of_either_class_leave_all_standin
 use Rattle.osi_blameless.proofs.sessions.the_dr_of_the_other_side_is_in_flight.{first_shut}
 use Rattle.osi_blameless.proofs.sessions.units_written_alike_have_the_same_ccs.{AnswersTwo, first_not_zero}
 use Rattle.osi_blameless.proofs.sessions.what_stands_of_a_connection.{Known}
-use Rattle.osi_blameless.proofs.sessions.what_is_asked_after_a_loss.{AreTakenOn, KeepsThroughout}
+use Rattle.osi_blameless.proofs.sessions.what_is_asked_of_what_holds_at_each_step.{ArePassed, Keeps}
 
 none_two : (k : Option Class) → k ≡ None → k ≡ Some Two → ⊥
 none_two k none two = let no : None ≡ Some Two = sym none ∙ two in cc
@@ -54,9 +55,12 @@ module _ (deeds : ℕ → Deeds) (known : Known) (put : List Value) (b : Bool) w
 
 -- ---- a packet of the calling side
 
-fine_of : (at : ℕ) (vs : List Value) (c : Passed) → AreTakenOn Right at vs c → AreFine at vs c
+fine_of : (at : ℕ) (vs : List Value) (c : Passed) → ArePassed Zero Right at vs c → AreFine Right at vs c
 fine_of at [] c h = tt
-fine_of at (v ∷ vs) c h = search (arith, fine_of at vs (unit_passes Left at v c) h.1)
+fine_of at (v ∷ vs) c (one, more) = (
+  record { lasts = one.lasts; goes = one.goes; two = one.two; on = grind arith; loses = one.loses },
+  fine_of at vs (unit_passes Left at v c) more,
+)
 
 module _ (local : Local) (proper : AllProper) where
   -- the end has selected class 0, and its CC has not passed
@@ -125,7 +129,7 @@ module _ (local : Local) (proper : AllProper) where
   own_passes deeds at v old new step fine clear then_two (inr h) = none_passes at v old new step clear then_two h
 
   other_passes : (deeds : ℕ → Deeds) (at : ℕ) (octets : List ℕ) (units : List Value) (old new : Joint) →
-      Steps Right (passes_other at octets units) old new → AreTakenOn Right at units old.course →
+      Steps Right (passes_other at octets units) old new → ArePassed Zero Right at units old.course →
       StandsCalled local proper deeds old ⊎ HasSelected old → StandsCalled local proper deeds new ⊎ HasSelected new
   other_passes deeds at octets units old new step taken (inl h) =
       inl (passes_other_stands local proper deeds at octets units old new step (fine_of at units old.course taken) h)
@@ -191,19 +195,18 @@ module _ (local : Local) (proper : AllProper) where
     nobody deeds j courses (inr h) = mute_none Right j.course.sessions h.mute
 
     nobody_amid : (deeds : ℕ → Deeds) (at : ℕ) (front : List Value) (old : Joint) → HaveCourses Right deeds old →
-        AreTakenOn Right at front old.course → StandsCalled local proper deeds old ⊎ HasSelected old →
+        ArePassed Zero Right at front old.course → StandsCalled local proper deeds old ⊎ HasSelected old →
         NoneIsToBlame Right (units_pass Left at front old.course).sessions
     nobody_amid deeds at front old courses taken (inr h) = grind (arith, mute_none, mute_units)
     nobody_amid deeds at front old courses taken (inl h) =
         let live = may_take old.holding.end.carrier in
-        let now : AreHeard deeds live old.put old.begun h.called.ahead.bound at (units_in old.coming) old.course = grind arith in
         let k = units_heard deeds live old.put old.begun h.called.ahead.bound at front (units_in old.coming) old.course
-        (fine_of at front old.course taken) now in
+        (fine_of at front old.course taken) (record { stand = h.standing.all; distinct = h.distinct; shut = h.shut }) h.called.ahead.below in
         let after = units_pass Left at front old.course in
         stand_none known_of parts caller called Right deeds old.put old.begun old.holding.end courses
         (known_from live (units_in old.coming ++ front)) after.traffic after.sessions k.all.stand
 
-    pub called_keeps : KeepsThroughout Right local StandsOrSelected
+    pub called_keeps : Keeps Zero Right local StandsOrSelected
     called_keeps = record {
       begins = stands_first;
       own_begins = λ deeds old new step courses few h. record {

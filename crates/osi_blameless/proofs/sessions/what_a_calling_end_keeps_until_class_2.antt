@@ -6,22 +6,22 @@ use Rattle.osi_blameless.proofs.sessions.a_calling_end_hears_what_comes_until_cl
 use Rattle.osi_blameless.proofs.sessions.a_calling_end_stands_until_class_2.{StandsUntilTwo, begin_early, begins_other_early}
 use Rattle.osi_blameless.proofs.sessions.a_calling_end_stands_until_class_2.{begins_own_early, passes_other_early, passes_own_early}
 use Rattle.osi_blameless.proofs.sessions.a_turn_of_a_calling_end_until_class_2.{turns_early}
-use Rattle.osi_blameless.proofs.sessions.what_is_asked_of_what_holds_at_each_step.{ArePassed, KeepsUnless, early}
+use Rattle.osi_blameless.proofs.sessions.what_is_asked_of_what_holds_at_each_step.{ArePassed, Keeps, early}
 use Rattle.osi_blameless.proofs.sessions.nobody_of_a_calling_end_is_to_blame_until_class_2.{none_amid_early, none_early}
 
 taken_so : (at : ℕ) (vs : List Value) (c : Course) → ArePassed Two Left at vs c → AreTaken at vs c
 taken_so at [] c h = tt
 taken_so at (v ∷ vs) c h = search (arith, early, taken_so at vs (unit_passes Right at v c) h.1)
 
-pub early_keeps : (local : Local) → AllProper → AsSent → AsParts → CallerLaw → CalledLaw → KeepsUnless Two Left local (StandsUntilTwo local)
+pub early_keeps : (local : Local) → AllProper → AsSent → AsParts → CallerLaw → CalledLaw → Keeps Two Left local (StandsUntilTwo local)
 early_keeps local proper known_of parts caller called = record {
   begins = begin_early local;
   own_begins = λ deeds old new step courses few h. begins_own_early local proper deeds old new step courses few h;
   other_begins = λ deeds old new step h. begins_other_early local proper deeds old new step h;
-  own_passes = search (arith, passes_own_early);
+  own_passes = λ deeds at v old new step right lasts not h. passes_own_early local proper deeds at v old new step right.0 lasts.1 h;
   other_passes = search (arith, passes_other_early, taken_so);
-  turn = λ turn old new t deeds does f g firm not h.
-      turns_early local proper turn old new t deeds does.of.on does.of.life does.units firm not h;
+  turn = λ turn old new t deeds does f g lasts h.
+      turns_early local proper turn old new t deeds does.of.on does.of.life does.units lasts.0 lasts.1 h;
   none = λ deeds j courses h. none_early local known_of parts caller called deeds j courses h;
   none_amid = search (arith, none_amid_early, taken_so);
 }

@@ -10,7 +10,8 @@ use Rattle.osi_judge.specs.Courses.{Course as Passed}
 use Rattle.osi_blameless.proofs.small_facts_that_many_lemmas_use.{all_front, ranges_of}
 use Rattle.osi_blameless.proofs.steps_are_events.{IsFollowed}
 use Rattle.osi_blameless.proofs.what_the_turns_among_steps_do.{TurnDoes}
-use Rattle.osi_blameless.proofs.sessions.a_calling_end_hears_what_breaks_no_rule.{AreFine, IsBehind, units_heard}
+use Rattle.osi_blameless.proofs.sessions.a_calling_end_hears_what_breaks_no_rule.{IsBehind, units_heard}
+use Rattle.osi_blameless.proofs.sessions.an_end_hears_what_breaks_no_rule.{AreFine}
 use Rattle.osi_blameless.proofs.sessions.a_calling_end_is_ready.{begin_calling, whole_joined}
 use Rattle.osi_blameless.proofs.sessions.a_calling_end_stands_as_units_pass.{StandsCalling, begins_other_stands, begins_own_stands, known_at}
 use Rattle.osi_blameless.proofs.sessions.a_calling_end_stands_as_units_pass.{passes_other_stands, passes_own_stands, turns_stand_early}
@@ -24,7 +25,7 @@ use Rattle.osi_blameless.proofs.sessions.steps_of_either_class_leave_all_standin
 use Rattle.osi_blameless.proofs.sessions.the_dr_of_the_other_side_is_in_flight.{first_shut}
 use Rattle.osi_blameless.proofs.sessions.what_has_come_before_a_cc.{AreQuiet, begin_quiet, begins_other_quiet, begins_own_quiet}
 use Rattle.osi_blameless.proofs.sessions.what_has_come_before_a_cc.{passes_other_quiet, passes_own_quiet, turns_quiet}
-use Rattle.osi_blameless.proofs.sessions.what_is_asked_after_a_loss.{AreTakenOn, KeepsThroughout}
+use Rattle.osi_blameless.proofs.sessions.what_is_asked_of_what_holds_at_each_step.{ArePassed, Keeps}
 use Rattle.osi_blameless.proofs.sessions.what_stands_of_a_connection.{Known}
 
 -- ---- at the beginning
@@ -37,9 +38,12 @@ standing_first known h = grind (arith, fresh_apart, no_item)
 
 -- ---- a packet of the called side
 
-fine_of : (at : ℕ) (vs : List Value) (c : Passed) → AreTakenOn Left at vs c → AreFine at vs c
+fine_of : (at : ℕ) (vs : List Value) (c : Passed) → ArePassed Zero Left at vs c → AreFine Left at vs c
 fine_of at [] c h = tt
-fine_of at (v ∷ vs) c h = grind (arith, fine_of at vs (unit_passes Right at v c) h.1)
+fine_of at (v ∷ vs) c (one, more) = (
+  record { lasts = one.lasts; goes = one.goes; two = one.two; on = grind arith; loses = one.loses },
+  fine_of at vs (unit_passes Right at v c) more,
+)
 
 module _ (local : Local) (two : local.class2 ≡ true) (proper : AllProper) where
   -- all connections stand, and nothing is in flight to one whose CC has not passed
@@ -56,7 +60,7 @@ module _ (local : Local) (two : local.class2 ≡ true) (proper : AllProper) wher
   own_passes deeds at v old new step fine clear then_two h = search (arith, passes_own_stands, passes_own_quiet)
 
   other_passes : (deeds : ℕ → Deeds) (at : ℕ) (octets : List ℕ) (units : List Value) (old new : Joint) →
-      Steps Left (passes_other at octets units) old new → AreTakenOn Left at units old.course → StandsQuiet deeds old →
+      Steps Left (passes_other at octets units) old new → ArePassed Zero Left at units old.course → StandsQuiet deeds old →
       StandsQuiet deeds new
   other_passes deeds at octets units old new step taken h = search (arith, fine_of, passes_other_stands, passes_other_quiet)
 
@@ -83,7 +87,7 @@ module _ (local : Local) (two : local.class2 ≡ true) (proper : AllProper) wher
 
     -- after some units of a packet
     nobody_amid : (deeds : ℕ → Deeds) (at : ℕ) (octets : List ℕ) (front back : List Value) (old new : Joint) →
-        Steps Left (passes_other at octets (front ++ back)) old new → HaveCourses Left deeds old → AreTakenOn Left at front old.course →
+        Steps Left (passes_other at octets (front ++ back)) old new → HaveCourses Left deeds old → ArePassed Zero Left at front old.course →
         StandsQuiet deeds old → NoneIsToBlame Left (units_pass Right at front old.course).sessions
     nobody_amid deeds at octets front back old new (all_octets, read, is) courses taken all =
         let h = all.stands in
@@ -92,13 +96,13 @@ module _ (local : Local) (two : local.class2 ≡ true) (proper : AllProper) wher
         let ranges = ranges_of (front ++ back) (units_fit (front ++ back) octets (units_found octets (front ++ back) all_octets read)) in
         let after = units_pass Right at front old.course in
         let live = may_take old.holding.end.carrier in
-        let k = units_heard local deeds live old.put h.can old.begun at front (units_in old.coming) old.course
+        let k = units_heard local old.put h.can deeds live old.begun at front (units_in old.coming) old.course
         (fine_of at front old.course taken) (all_front HasFieldsInRange front back ranges) behind
         (record { stand = h.standing.all; distinct = h.distinct; shut = h.shut }) in
         stand_none known_of parts caller called Left deeds old.put old.begun old.holding.end courses
         (known_from live (units_in old.coming ++ front)) after.traffic after.sessions k.stand
 
-    pub calling_keeps : KeepsThroughout Left local StandsQuiet
+    pub calling_keeps : Keeps Zero Left local StandsQuiet
     calling_keeps = record {
       begins = stands_first;
       own_begins = λ deeds old new step courses few h. search (arith, begins_own_stands, begins_own_quiet);

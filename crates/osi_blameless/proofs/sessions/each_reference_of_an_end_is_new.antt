@@ -1,0 +1,320 @@
+-- At a judge each CR of a calling end that passes gives a new reference, and so does each CC of a called end; and this stays so with each step.
+-- For all connections of an end and a judge.
+use Rattle.osi_blameless.proofs.Vocabulary.{◌≡◌, ◌∙◌, ◌⊎◌, inl, inr, refl, sym, ap, subst, ℕ, ◌<◌, ◌≤◌, Bool, false, List, [], ◌∷◌, ◌++◌}
+use Rattle.osi_blameless.proofs.Vocabulary.{length, Option, Some, None, arith, slice_get, AllByRecursion, Connect, Value, confirm}
+use Rattle.osi_blameless.proofs.Vocabulary.{request, Direction, Left, Right, other, State, meaning_if, meant}
+use Rattle.osi_blameless.proofs.Vocabulary.{takes, Event, HappenAlong, Whole, after_add, after_set, Turn, AllProper, Room, Joined, Sessions, all_begin, asked}
+use Rattle.osi_blameless.proofs.Vocabulary.{reference_of, taken, Course, unit_passes, units_pass, way_of, Joint, Step, Steps, TakesTurn}
+use Rattle.osi_blameless.proofs.Vocabulary.{begins_other, begins_own, passes_other, passes_own, turns, HaveSamePlaces}
+use Rattle.osi_blameless.proofs.Vocabulary.{AreAbove as RiseAbove}
+use Rattle.osi_carrier.specs.State.{State as Carrier}
+use Rattle.osi_fair.specs.Wholes as wholes
+use Rattle.osi_judge.specs.Connections.{packet_begins}
+use Rattle.osi_judge.specs.Connections as joined
+use Rattle.osi_blameless.proofs.a_carrier_does_events.{happen_join}
+use Rattle.osi_blameless.proofs.steps_are_events.{IsFollowed, own_first, step_followed}
+use Rattle.osi_blameless.proofs.sessions.all_connections_stand.{map_of}
+use Rattle.osi_blameless.proofs.sessions.connections_have_the_same_places.{unit_agrees, unit_joins, unit_knows}
+use Rattle.osi_blameless.proofs.small_facts_that_many_lemmas_use.{same_one}
+use Rattle.osi_blameless.proofs.sessions.ccs_that_wait_are_above_those_that_passed as ccs
+use Rattle.osi_blameless.proofs.sessions.crs_that_wait_are_above_those_that_passed as crs
+use Rattle.osi_blameless.proofs.sessions.references_of_an_end_are_distinct.{GivesNew, IsUnused}
+use Rattle.osi_blameless.proofs.sessions.what_a_unit_does_at_its_place.{Does, asks_again, asks_more, nowhere, somewhere, unit_does}
+use Rattle.osi_blameless.proofs.sessions.what_stands_of_a_connection.{named_begun}
+
+-- ---- references at a judge
+
+-- from 1 up to this one
+abbrev pub IsWithin : (b r : ℕ) → Type 0
+IsWithin b r = (0 < r) × (r ≤ b)
+
+-- this end gave such references to what is joined
+pub record AreUpTo (d : Direction) (b : ℕ) (t : Sessions) : Type 0 where
+  pub live : (i : ℕ) (j : Joined) (r : ℕ) → slice_get t.live i ≡ Some j → reference_of d j ≡ Some r → IsWithin b r
+  pub done : (i : ℕ) (j : Joined) (r : ℕ) → slice_get t.done i ≡ Some j → reference_of d j ≡ Some r → IsWithin b r
+
+-- a CR of left and a CC of right give such a reference
+abbrev pub IsUpTo : Direction → ℕ → Value → Type 0
+IsUpTo Left b (request x) = IsWithin b x.source
+IsUpTo Right b (confirm n x) = IsWithin b x.source
+IsUpTo d b v = Unit {0}
+
+pub up_higher : (d : Direction) (b n : ℕ) (t : Sessions) → b ≤ n → AreUpTo d b t → AreUpTo d n t
+up_higher d b n t h u = grind arith
+
+module _ (d : Direction) (b : ℕ) where
+  abbrev IsLow : Joined → Type 0
+  IsLow j = (r : ℕ) → reference_of d j ≡ Some r → IsWithin b r
+
+  low_same : (j k : Joined) → reference_of d k ≡ reference_of d j → IsLow j → IsLow k
+  low_same j k same low r is = low r (sym same ∙ is)
+
+asked_low : (d : Direction) (b : ℕ) (x : Connect) (number : ℕ) (room : Room) → IsUpTo d b (request x) →
+    IsLow d b (asked number x.source room)
+asked_low d b x number room up r is = grind arith
+
+meant_low : (d : Direction) (b : ℕ) (e : Direction) (at : ℕ) (v : Value) (x : Bool) (j : Joined) → IsUpTo d b v → IsLow d b j →
+    IsLow d b (joined.meant e at v (meaning_if x (meant v)) j)
+meant_low d b e at v x j up low = search (arith, low_same)
+
+module _ (d : Direction) (b : ℕ) (t : Sessions) (h : AreUpTo d b t) where
+  low_of : (p i : ℕ) (new j : Joined) → IsLow d b new → ((i ≡ p) × (j ≡ new)) ⊎ (slice_get t.live i ≡ Some j) → IsLow d b j
+  low_of p i new j low (inl (a, same)) = low_same d b new j (ap (reference_of d) same) low
+  low_of p i new j low (inr there) = λ r is. h.live i j r there is
+
+  low_done : (i : ℕ) (old j : Joined) → IsLow d b old → ((i ≡ length t.done) × (j ≡ old)) ⊎ (slice_get t.done i ≡ Some j) → IsLow d b j
+  low_done i old j low (inl (a, same)) = low_same d b old j (ap (reference_of d) same) low
+  low_done i old j low (inr there) = λ r is. h.done i j r there is
+
+  up_by : (e : Direction) (at : ℕ) (v : Value) (s : State) → IsUpTo d b v → Does e at v s t (takes (way_of e) v s) →
+      AreUpTo d b (taken e at v (takes (way_of e) v s).told.meaning (takes (way_of e) v s).told.place t)
+  up_by e at v s up (nowhere place cs ts) = subst (AreUpTo d b) (sym ts) h
+  up_by e at v s up (somewhere p c k x r place there here one finding is far cs ts) =
+      let new : Joined = joined.meant e at v (meaning_if x (meant v)) k in
+      let low : IsLow d b new = meant_low d b e at v x k up (λ q named. h.live p k q here named) in
+      subst (AreUpTo d b) (sym ts) (record {
+        live = λ i j q at_i named. low_of p i new j low (after_set t.live p i new j at_i) q named;
+        done = h.done;
+      })
+  up_by e at v s up (asks_more x is number cs ts) = search (arith, asked_low, low_of, after_add)
+  up_by e at v s up (asks_again x is number p k here free cs ts) =
+      let new : Joined = asked number x.source t.room in
+      let low : IsLow d b new = asked_low d b x number t.room (subst (IsUpTo d b) is up) in
+      subst (AreUpTo d b) (sym ts) (record {
+        live = λ i j q at_i named. low_of p i new j low (after_set t.live p i new j at_i) q named;
+        done = λ i j q at_i named. low_done i k j (λ m is_m. h.live p k m here is_m) (after_add t.done i k j at_i) q named;
+      })
+
+pub begins_up : (d e : Direction) (b : ℕ) (t : Sessions) → AreUpTo d b t → AreUpTo d b (all_begin e t)
+begins_up d e b t h = grind (arith, map_of, named_begun)
+
+pub unit_up : (d e : Direction) (b at : ℕ) (v : Value) (c : Course) → HaveSamePlaces c.traffic.connections c.sessions.live →
+    IsUpTo d b v → AreUpTo d b c.sessions → AreUpTo d b (unit_passes e at v c).sessions
+unit_up d e b at v c places up h =
+    subst (AreUpTo d b) (sym (unit_joins e at v c))
+    (up_by d b c.sessions h e at v c.traffic up (unit_does e at v c.traffic c.sessions places))
+
+pub units_up : (d e : Direction) (b at : ℕ) (vs : List Value) (c : Course) → HaveSamePlaces c.traffic.connections c.sessions.live →
+    AllByRecursion (IsUpTo d b) vs → AreUpTo d b c.sessions → AreUpTo d b (units_pass e at vs c).sessions
+units_up d e b at [] c places up h = h
+units_up d e b at (v ∷ vs) c places up h =
+    units_up d e b at vs (unit_passes e at v c) (unit_agrees e at v c places) up.1 (unit_up d e b at v c places up.0 h)
+
+-- ---- what gives a reference
+
+-- a CR of left gives this one, and a CC of right
+abbrev pub gives : Direction → Value → Option ℕ
+gives Left (request x) = Some x.source
+gives Right (confirm n x) = Some x.source
+gives d v = None
+
+none_up : (d : Direction) (b : ℕ) (v : Value) → gives d v ≡ None → IsUpTo d b v
+none_up d b v none = grind arith
+
+some_up : (d : Direction) (b r : ℕ) (v : Value) → gives d v ≡ Some r → 0 < r → r ≤ b → IsUpTo d b v
+some_up d b r v given some up = grind arith
+
+none_new : (d : Direction) (v : Value) (t : Sessions) → gives d v ≡ None → GivesNew d v t
+none_new d v t none = grind arith
+
+some_new : (d : Direction) (v : Value) (r : ℕ) (t : Sessions) → gives d v ≡ Some r → IsUnused d r t → GivesNew d v t
+some_new d v r t given unused = grind arith
+
+-- no connection has a reference above all of the judge
+pub above_unused : (d : Direction) (b r : ℕ) (t : Sessions) → AreUpTo d b t → b < r → IsUnused d r t
+above_unused d b r t up less = grind arith
+
+-- the references of the units that wait are above this one, and rise
+abbrev pub WaitAbove : Direction → ℕ → Whole → Type 0
+WaitAbove Left b w = crs.AreAbove b w
+WaitAbove Right b w = ccs.AreAboveAt b w
+
+above_along : (d : Direction) (b : ℕ) (events : List Event) (old new : Whole) → HappenAlong (way_of d) old events new →
+    WaitAbove d b old → WaitAbove d b new
+above_along Left b events old new along a = crs.above_along b events old new along a
+above_along Right b events old new along a = ccs.above_along b events old new along a
+
+-- the next of them passes
+above_passes : (d : Direction) (b r : ℕ) (v : Value) (put : List Value) (w next : Whole) → gives d v ≡ Some r → w.put ≡ v ∷ put →
+    next.put ≡ put → next.end ≡ w.end → WaitAbove d b w → (b < r) × WaitAbove d r next
+above_passes Left b r (request x) put w next given is same end a =
+    let k = crs.passes_asked b x put w next is same end a in
+    subst (λ (n : ℕ). (b < n) × WaitAbove Left n next) (same_one x.source r given) (k.new_is, k.above)
+above_passes Right b r (confirm m x) put w next given is same end a =
+    let (less, above) = ccs.passes_confirmed b m x put w is a in
+    subst (λ (n : ℕ). (b < n) × WaitAbove Right n next) (same_one x.source r given) (
+      less,
+      subst (λ (l : List Value). RiseAbove next.end.given x.source l) (sym same)
+          (subst (λ (e : Carrier). RiseAbove e.given x.source put) (sym end) above),
+    )
+above_passes d b r v put w next given is same end a = grind arith
+
+-- ---- an end and a judge
+
+-- All references at the judge are up to this one, and those of the units that have not passed are above it.
+pub record IsAhead (d : Direction) (first : Whole) (j : Joint) : Type 0 where
+  pub followed : IsFollowed d first j
+  pub bound : ℕ
+  pub above : WaitAbove d bound followed.whole
+  pub below : AreUpTo d bound j.course.sessions
+
+-- so after a step, with a reference that is as high
+pub record GoesOn (d : Direction) (first : Whole) (b : ℕ) (j : Joint) : Type 0 where
+  pub ahead : IsAhead d first j
+  pub rises : b ≤ ahead.bound
+
+-- and when a unit of the end has passed, its reference is among those of the judge
+pub record PassesOn (d : Direction) (first : Whole) (b : ℕ) (v : Value) (j : Joint) : Type 0 where
+  pub on : GoesOn d first b j
+  pub up : IsUpTo d on.ahead.bound v
+
+-- the reference that it gives is the highest then
+pub record GivesHighest (d : Direction) (first : Whole) (b r : ℕ) (j : Joint) : Type 0 where
+  pub higher : b < r
+  pub ahead : IsAhead d first j
+  pub bound : ahead.bound ≡ r
+
+module _ (d : Direction) (first : Whole) where
+  -- a whole end from here on
+  from_here : (j : Joint) (f : IsFollowed d first j) → IsFollowed d f.whole j
+  from_here j f = record {
+    whole = f.whole;
+    events = [];
+    along = refl;
+    put = f.put;
+    begun = f.begun;
+    judge = f.judge;
+    coming = f.coming;
+    like = f.like;
+    can = f.can;
+    links = f.links;
+  }
+
+  -- ---- each step
+
+  goes_on : AllProper → (step : Step) (old new : Joint) → Steps d step old new → (h : IsAhead d first old) →
+      AreUpTo d h.bound new.course.sessions → GoesOn d first h.bound new
+  goes_on proper step old new does h up =
+      let f = h.followed in
+      let g : IsFollowed d f.whole new = step_followed d f.whole proper step old new does (from_here old f) in
+      let ahead : IsAhead d first new = record {
+        followed = record {
+          whole = g.whole;
+          events = f.events ++ g.events;
+          along = happen_join (way_of d) f.events g.events first f.whole g.whole f.along g.along;
+          put = g.put;
+          begun = g.begun;
+          judge = g.judge;
+          coming = g.coming;
+          like = g.like;
+          can = g.can;
+          links = g.links;
+        };
+        bound = h.bound;
+        above = above_along d h.bound g.events f.whole g.whole g.along h.above;
+        below = up;
+      } in
+      record { ahead = ahead; rises = omega arith }
+
+  -- a turn leaves all references at the judge
+  pub turns_ahead : AllProper → (turn : Turn) (old new : Joint) → (t : TakesTurn turn old new) → (h : IsAhead d first old) →
+      GoesOn d first h.bound new
+  turns_ahead proper turn old new t h =
+      goes_on proper (turns turn) old new t h (subst (λ (c : Course). AreUpTo d h.bound c.sessions) (sym t.course) h.below)
+
+  pub begins_own_ahead : AllProper → (old new : Joint) → Steps d begins_own old new → (h : IsAhead d first old) →
+      GoesOn d first h.bound new
+  begins_own_ahead proper old new step h =
+      goes_on proper begins_own old new step h
+      (subst (λ (j : Joint). AreUpTo d h.bound j.course.sessions) (sym step.2) (begins_up d d h.bound old.course.sessions h.below))
+
+  pub begins_other_ahead : AllProper → (old new : Joint) → Steps d begins_other old new → (h : IsAhead d first old) →
+      GoesOn d first h.bound new
+  begins_other_ahead proper old new step h =
+      goes_on proper begins_other old new step h
+      (subst (λ (j : Joint). AreUpTo d h.bound j.course.sessions) (sym step) (begins_up d (other d) h.bound old.course.sessions h.below))
+
+  -- the units of the other side give no reference
+  pub passes_other_ahead : AllProper → (at : ℕ) (packet : List ℕ) (units : List Value) (old new : Joint) →
+      Steps d (passes_other at packet units) old new → (h : IsAhead d first old) → AreUpTo d h.bound new.course.sessions →
+      GoesOn d first h.bound new
+  passes_other_ahead proper at packet units old new step h up = goes_on proper (passes_other at packet units) old new step h up
+
+  pub other_up : (at b : ℕ) (packet : List ℕ) (units : List Value) (old new : Joint) → Steps d (passes_other at packet units) old new →
+      HaveSamePlaces old.course.traffic.connections old.course.sessions.live → AllByRecursion (IsUpTo d b) units →
+      AreUpTo d b old.course.sessions → AreUpTo d b new.course.sessions
+  other_up at b packet units old new step places none h =
+      subst (λ (j : Joint). AreUpTo d b j.course.sessions) (sym step.2) (units_up d (other d) b at units old.course places none h)
+
+  -- ---- a unit of the end
+
+  -- the reference of one that passes is above
+  pub passes_above : (at : ℕ) (v : Value) (r : ℕ) → gives d v ≡ Some r → (old new : Joint) → Steps d (passes_own at v) old new →
+      (h : IsAhead d first old) → h.bound < r
+  passes_above at v r given old new (read, octets, put, begun, is) h =
+      let w = h.followed.whole in
+      let s = own_first d first old new v (read, octets, put) h.followed in
+      (above_passes d h.bound r v s.rest w (record w { put = s.rest }) given s.is refl refl h.above).0
+
+  pub gives_new : (at : ℕ) (v : Value) (old new : Joint) → Steps d (passes_own at v) old new → IsAhead d first old →
+      GivesNew d v old.course.sessions
+  gives_new at v old new step h = by (gives d v) refl
+    where
+      by : (o : Option ℕ) → gives d v ≡ o → GivesNew d v old.course.sessions
+      by None none = none_new d v old.course.sessions none
+      by (Some r) given = some_new d v r old.course.sessions given
+          (above_unused d h.bound r old.course.sessions h.below (passes_above at v r given old new step h))
+
+  pub passes_highest : (at : ℕ) (v : Value) (r : ℕ) → gives d v ≡ Some r → (old new : Joint) → Steps d (passes_own at v) old new →
+      HaveSamePlaces old.course.traffic.connections old.course.sessions.live → (h : IsAhead d first old) →
+      GivesHighest d first h.bound r new
+  passes_highest at v r given old new (read, octets, put, begun, is) places h =
+      let f = h.followed in
+      let s = own_first d first old new v (read, octets, put) f in
+      let next : Whole = record f.whole { put = s.rest; begun = false; judge = (takes (way_of d) v f.whole.judge).state } in
+      let (less, above) = above_passes d h.bound r v s.rest f.whole next given s.is refl refl h.above in
+      let mid : Joint = record old { put = new.put; begun = false; course = units_pass d at (v ∷ []) old.course } in
+      let ahead : IsAhead d first mid = record {
+        followed = record {
+          whole = next;
+          events = f.events ++ wholes.passes_own ∷ [];
+          along = happen_join (way_of d) f.events (wholes.passes_own ∷ []) first f.whole next f.along
+              (next, (v, s.is, f.begun ∙ begun, refl), refl);
+          put = s.same;
+          begun = refl;
+          judge = ap (λ (t : State). (takes (way_of d) v t).state) f.judge ∙ sym (unit_knows d at v old.course);
+          coming = f.coming;
+          like = f.like;
+          can = s.can;
+          links = f.links;
+        };
+        bound = r;
+        above = above;
+        below = unit_up d d r at v old.course places (some_up d r r v given (omega (arith, less)) (omega arith))
+            (up_higher d h.bound r old.course.sessions (omega (arith, less)) h.below);
+      } in
+      subst (GivesHighest d first h.bound r) (sym is) (record { higher = less; ahead = ahead; bound = refl })
+
+  passes_another : AllProper → (at : ℕ) (v : Value) (old new : Joint) → Steps d (passes_own at v) old new →
+      HaveSamePlaces old.course.traffic.connections old.course.sessions.live → (h : IsAhead d first old) → gives d v ≡ None →
+      PassesOn d first h.bound v new
+  passes_another proper at v old new step places h none =
+      let g = goes_on proper (passes_own at v) old new step h
+      (subst (λ (j : Joint). AreUpTo d h.bound j.course.sessions) (sym step.4)
+      (unit_up d d h.bound at v old.course places (none_up d h.bound v none) h.below)) in
+      record { on = g; up = none_up d g.ahead.bound v none }
+
+  pub passes_own_ahead : AllProper → (at : ℕ) (v : Value) (old new : Joint) → Steps d (passes_own at v) old new →
+      HaveSamePlaces old.course.traffic.connections old.course.sessions.live → (h : IsAhead d first old) → PassesOn d first h.bound v new
+  passes_own_ahead proper at v old new step places h = by (gives d v) refl
+    where
+      by : (o : Option ℕ) → gives d v ≡ o → PassesOn d first h.bound v new
+      by None none = passes_another proper at v old new step places h none
+      by (Some r) given =
+          let k = passes_highest at v r given old new step places h in
+          let less = k.higher in
+          let same = k.bound in
+          record {
+            on = record { ahead = k.ahead; rises = omega (arith, less, same) };
+            up = some_up d k.ahead.bound r v given (omega (arith, less)) (omega (arith, same));
+          }
