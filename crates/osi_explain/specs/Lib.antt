@@ -1,1 +1,4 @@
+pub mod Halts
 pub mod Lines
+pub mod Places
+pub mod Units

@@ -1,5 +1,8 @@
 //! Why a script goes no further.
 
+ghost use Rattle.std.specs.Prelude.{◌≡◌};
+ghost use Rattle.osi_explain.specs.Halts.{halt_words, ends_all};
+
 use std::alloc::AllocError;
 
 /// Why a script goes no further.
@@ -23,7 +26,9 @@ pub enum Halt {
 
 impl Halt {
     /// The words for it.
-    pub fn words(self) -> &'static str {
+    pub fn words(self) -> &'static str
+        ensures { result.now ≡ halt_words self }
+    {
         match self {
             Halt::NoSession => "no session sends this here",
             Halt::TooMany => "too many sessions explain this",
@@ -36,7 +41,9 @@ impl Halt {
     }
 
     /// Whether no other script of the same capture would go further.
-    pub fn is_final(self) -> bool {
+    pub fn is_final(self) -> bool
+        ensures { result ≡ ends_all self }
+    {
         matches!(self, Halt::TooLong | Halt::OutOfMemory)
     }
 }

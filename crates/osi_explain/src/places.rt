@@ -1,5 +1,8 @@
 //! Where something passed in a capture, and which of two passed first.
 
+ghost use Rattle.std.specs.Prelude.{◌≡◌};
+ghost use Rattle.osi_explain.specs.Places.{other_side, comes_before, earlier_stop};
+
 use crate::halts::Halt;
 use osi_script::Side;
 
@@ -23,7 +26,9 @@ pub struct Stop {
 }
 
 /// The other side.
-pub fn other(side: Side) -> Side {
+pub fn other(side: Side) -> Side
+    ensures { result ≡ other_side side }
+{
     match side {
         Side::Left => Side::Right,
         Side::Right => Side::Left,
@@ -31,7 +36,9 @@ pub fn other(side: Side) -> Side {
 }
 
 /// Whether what a side sent at a place comes before a stop. Of two that begin in the same piece, that of left comes first.
-pub fn is_before(side: Side, place: Place, stop: &Stop) -> bool {
+pub fn is_before(side: Side, place: Place, stop: &Stop) -> bool
+    ensures { result ≡ comes_before side place stop.now.side stop.now.place }
+{
     match (side, stop.side) {
         (Side::Left, Side::Left) | (Side::Right, Side::Right) => place.offset < stop.place.offset,
         (Side::Left, Side::Right) => place.first <= stop.place.first,
@@ -40,7 +47,9 @@ pub fn is_before(side: Side, place: Place, stop: &Stop) -> bool {
 }
 
 /// The earlier of two stops; the first of two at one packet.
-pub fn earlier(one: Option<Stop>, other: Option<Stop>) -> Option<Stop> {
+pub fn earlier(one: Option<Stop>, other: Option<Stop>) -> Option<Stop>
+    ensures { result ≡ earlier_stop one other }
+{
     match (one, other) {
         (Some(one), Some(other)) => {
             if is_before(other.side, other.place, &one) {

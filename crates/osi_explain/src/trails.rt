@@ -3,6 +3,9 @@
 //! The judge keeps a session after a unit only if one that it kept before the unit goes on to it. So from the last unit on,
 //! each session has one before it, and only the TSDUs between the two are looked at.
 
+ghost use Rattle.std.specs.Prelude.{◌≡◌, IfOk};
+ghost use Rattle.osi_side.specs.Walking.{HearsTo};
+
 use crate::streams::{Said, Stream};
 use crate::units::acting_unit;
 use osi_session::{Reply, Standing, is_restart_unit};
@@ -38,11 +41,15 @@ pub fn hears(
     alloc: Global,
     standing: &Standing,
     tsdu: &[u8],
-) -> Result<Option<Standing>, AllocError> {
-    match standing.take(alloc, tsdu) {
-        Ok(Some(taking)) if taking.reply.is_none() => Ok(Some(taking.next)),
-        Ok(_) => Ok(None),
-        Err(error) => Err(error),
+) -> Result<Option<Standing>, AllocError>
+    ensures { IfOk result (λ next. HearsTo standing.now tsdu.now next) }
+{
+    let Some(taking) = standing.take(alloc, tsdu)? else {
+        return Ok(None);
+    };
+    match taking.reply {
+        None => Ok(Some(taking.next)),
+        Some(_) => Ok(None),
     }
 }
 

@@ -1,0 +1,1 @@
+pub mod units_act_in_order
