@@ -4,13 +4,13 @@ use Rattle.std.proofs.Common.{refl}
 use Rattle.osi_c.specs.contracts.handles.Contents.{the_row as contents}
 use Rattle.osi_c.specs.contracts.handles.Handle.{the_type as end_handle}
 use Rattle.osi_c.specs.contracts.slots.OsiEnd.{the_type as end_slot}
-use Rattle.osi_c.specs.contracts.judges.Judge.{the_row as judge}
+use Rattle.osi_c.specs.contracts.judges.HeldJudge.{the_row as judge}
 use Rattle.osi_c.specs.contracts.handles.judge.JudgeHandle.{the_type as judge_handle}
 use Rattle.osi_c.specs.contracts.judge_slots.OsiJudge.{the_type as judge_slot}
 use Rattle.osi_c.specs.Lent.{holding as holding_an_end}
 use Rattle.osi_c.specs.LentJudge.{holding as holding_a_judge}
 use Rattle.osi_c.proofs.handles.Contents.TheLaws.{the_row_laws as contents_laws}
-use Rattle.osi_c.proofs.judges.Judge.TheLaws.{the_row_laws as judge_laws}
+use Rattle.osi_c.proofs.judges.HeldJudge.TheLaws.{the_row_laws as judge_laws}
 use Rattle.osi_c.proofs.a_slot_holds_a_box.{SlotKind}
 
 abbrev pub of_an_end : SlotKind

@@ -5,7 +5,7 @@ use denote.Follow.{follows, follows_so}
 use mathlib.Core.Option.{none}
 use Rattle.std.specs.Prelude.{◌≡◌, true, refl, ⊤}
 use Rattle.std.specs.declared.option.Option.TheVariants.{Some}
-use Rattle.osi_c.specs.contracts.judges.Judge.{the_row as contents_row}
+use Rattle.osi_c.specs.contracts.judges.HeldJudge.{the_row as contents_row}
 use Rattle.osi_c.specs.contracts.judge_slots.OsiJudge.{the_row}
 use Rattle.osi_c.specs.declared.judges.HeldJudge.{HeldJudge}
 use Rattle.osi_c.specs.declared.judge_slots.OsiJudge.{OsiJudge}

@@ -1,6 +1,6 @@
 //! A value on the heap as C keeps it.
 
-pub(crate) mod held;
+pub(crate) mod judge;
 pub(crate) mod loose;
 
 ghost use Rattle.std.specs.Prelude.{Option};

@@ -2,7 +2,7 @@
 
 ghost use Rattle.std.specs.Prelude.{Option};
 ghost use Rattle.std.specs.Coded.{coded_option};
-ghost use Rattle.osi_c.specs.contracts.judges.Judge.{the_row};
+ghost use Rattle.osi_c.specs.contracts.judges.HeldJudge.{the_row};
 ghost use Rattle.osi_c.specs.declared.judges.HeldJudge.{HeldJudge};
 
 use crate::handles::loose::Loose;
@@ -21,7 +21,7 @@ pub struct JudgeHandle {
 
 impl Model for JudgeHandle {
     ghost use Rattle.osi_c.specs.Owned.{may_own};
-    ghost use Rattle.osi_c.specs.contracts.judges.Judge.{the_row};
+    ghost use Rattle.osi_c.specs.contracts.judges.HeldJudge.{the_row};
 
     ghost also_owns = { λ h. may_own the_row h.at h.value };
 }
