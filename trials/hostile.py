@@ -319,7 +319,7 @@ def main(words):
         sys.exit(__doc__.rstrip())
     part = bool(words)
     began = time.time()
-    build("breaks", "growths", "traces", "judged", "turns", "limits", "room", "damage", "again", "shows", "blameless", "faults")
+    build("breaks", "growths", "traces", "judged", "parts", "turns", "limits", "room", "damage", "again", "shows", "blameless", "faults")
     build_shim()
     with tempfile.TemporaryDirectory() as room:
         run("breaks", "--write", room, "97" if part else "7")
@@ -328,6 +328,7 @@ def main(words):
         run("growths")
         run("traces")
         run("judged")
+        run("parts")
         run("turns")
         run("blameless", "--runs", "1250" if part else "20000")
         run("faults", "--runs", "1250" if part else "20000")

@@ -1,6 +1,7 @@
 /* Connections in turn on one byte connection, each at the place of the one before it. A judge keeps a short record of each that is
  * over: 100,000 take less than 20 MiB in all. The called side breaks the protocol on the first of them, on each hundredth and on the
- * last, and is told to have done so as soon as it has, and once they are all over.
+ * last, and is told to have done so as soon as it has, and once they are all over. After each connection a verdict is asked for that
+ * is not there, and at the end the verdict on each: it takes a second, and minutes if a call looks at all that are over.
  *
  *     turns [CONNECTIONS]     the most octets that are kept are printed, for another number of connections too */
 #include "hostile.h"
@@ -51,6 +52,16 @@ static void fetches(uint64_t number)
     told += 1;
 }
 
+/* Nothing is certain that was not told. */
+static void fetches_none(void)
+{
+    osi_verdict verdict;
+    memory_in();
+    uint32_t code = osi_judge_next(&judge, &verdict);
+    memory_out();
+    holds(code == OSI_NOTHING, "a verdict is told twice: %u, connection %llu", code, (unsigned long long)verdict.connection);
+}
+
 static void in_turn(uint64_t number, bool breaks)
 {
     feeds(OSI_LEFT, cr, sizeof cr);
@@ -64,6 +75,7 @@ static void in_turn(uint64_t number, bool breaks)
     }
     feeds(OSI_LEFT, dr, sizeof dr);
     feeds(OSI_RIGHT, dc, sizeof dc);
+    fetches_none();
 }
 
 /* The verdict on right of a connection that may be over. */
@@ -86,9 +98,8 @@ int main(int count, char **words)
     holds(code == OSI_OK, "no judge: %u", code);
     for (uint64_t number = 0; number < connections; number++)
         in_turn(number, breaks_on(number, connections));
-    for (uint64_t number = 0; number < connections; number += connections / 50 + 1)
+    for (uint64_t number = 0; number < connections; number++)
         asks(number, breaks_on(number, connections) ? OSI_VERDICT_BROKE : OSI_VERDICT_KEPT);
-    asks(connections - 1, OSI_VERDICT_BROKE);
     const size_t peak = memory_peak();
     memory_in();
     osi_judge_free(&judge);

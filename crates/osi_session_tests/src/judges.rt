@@ -38,6 +38,8 @@ pub(crate) const MIP: &[u8] = &[
 const PART: &[u8] = &[
     0x03, 0x00, 0xFF, 0xFF, 0x02, 0xF0, 0x00, 0x01, 0x00, 0x01, 0x00,
 ];
+/// The header of another one in the same TSDU.
+const NEXT_PART: &[u8] = &[0x03, 0x00, 0xFF, 0xFF, 0x02, 0xF0, 0x00];
 /// A DT of four octets that ends it.
 const LAST_PART: &[u8] = &[
     0x03, 0x00, 0x00, 0x0B, 0x02, 0xF0, 0x80, 0x64, 0x61, 0x74, 0x61,
@@ -135,7 +137,7 @@ fn data_pass(checks: &Checks, judge: &mut Judge, goes_on: bool) {
     }
 }
 
-/// A long TSDU passes in one piece, and again in two.
+/// A TSDU of 131,060 octets passes in one piece of 131,081, and again in two.
 fn a_long_tsdu_passes(checks: &Checks, judge: &mut Judge, tsdu: &[u8]) {
     feed_all(checks, judge, OPENING);
     feed(checks, judge, Left, tsdu);
@@ -241,6 +243,9 @@ fn long_tsdus_and_pieces_pass(rt: HostRuntime) -> Result<(), Fail> {
     let octets = vec![in rt.alloc(); 0x5A; 65_524]?;
     let mut tsdu = Vec::from_slice(rt.alloc(), PART)?;
     tsdu.extend_from_slice(octets.as_slice())?;
+    tsdu.extend_from_slice(NEXT_PART)?;
+    tsdu.extend_from_slice(octets.as_slice())?;
+    tsdu.extend_from_slice(&octets.as_slice()[..4])?;
     tsdu.extend_from_slice(LAST_PART)?;
     let checks = Checks::new();
     as_judged(
