@@ -2,10 +2,11 @@
 use Rattle.osi_listing.proofs.Vocabulary.{◌≡◌, ℕ, Bool, ◌+◌, ◌/◌, ◌%◌, ◌<◌, ◌≤◌, true, false, drop, length, List, [], ◌∷◌, ◌++◌, refl, sym}
 use Rattle.osi_listing.proofs.Vocabulary.{ap, ◌∙◌, arith, codes, slice_index, option_map, is_some, Option, None, decimal, join_with_byte}
 use Rattle.osi_listing.proofs.Vocabulary.{decimal_digit, decimal_step, append-nil, drop_all, drop_more, encode_lower, data0, bit}
-use Rattle.osi_listing.proofs.Vocabulary.{fields_left}
+use Rattle.osi_listing.proofs.Vocabulary.{fields_left, SpduFault, LengthPastEnd}
 use Rattle.std.proofs.Common.{append_assoc}
 use Rattle.hex.specs.Hex.{encode_with}
 use Rattle.osi_listing.specs.Lines.{unit_fields, unit_line}
+use Rattle.osi_listing.specs.SessionLines.{session_fault_line}
 
 -- a number of two digits
 pub two_digits : (n : ℕ) → 10 ≤ n → n < 100 → decimal n ≡ (48 + n / 10) ∷ (48 + n % 10) ∷ []
@@ -71,3 +72,15 @@ fields_joined field (next ∷ fields) = ap (λ t. field ++ 32 ∷ t) (fields_joi
 pub joined_fields : (fields : List (List ℕ)) → fields_left true fields ≡ join_with_byte 32 fields
 joined_fields [] = refl
 joined_fields (field ∷ fields) = fields_joined field fields
+
+-- the fault of an empty TSDU
+zero_digit : decimal 0 ≡ codes "0"
+zero_digit = grind (arith, decimal_digit)
+
+line_of_an_empty_tsdu : codes "    fault 0 LengthPastEnd\n" ≡ session_fault_line (LengthPastEnd 0)
+unfolding session_fault_line
+line_of_an_empty_tsdu = rw zero_digit refl
+
+pub line_of_no_tsdu : (fault : SpduFault) (at : ℕ) → fault ≡ LengthPastEnd at → at ≡ 0 →
+    codes "    fault 0 LengthPastEnd\n" ≡ session_fault_line fault
+line_of_no_tsdu fault at e z = line_of_an_empty_tsdu ∙ ap session_fault_line (ap LengthPastEnd (sym z) ∙ sym e)

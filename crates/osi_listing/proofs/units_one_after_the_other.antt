@@ -3,7 +3,7 @@ use Rattle.osi_listing.proofs.Vocabulary.{◌≡◌, ℕ, List, [], ◌∷◌, �
 use Rattle.osi_listing.proofs.Vocabulary.{Err, OnOk, arith, flat_map, append_assoc, append-nil, flat_map-append, units_of, Value, TpduFault}
 use Rattle.osi_listing.proofs.Vocabulary.{Contents, Units, SpduFault, LengthPastEnd, Counts, Streams, one_more, counted, tsdu_line}
 use Rattle.osi_listing.proofs.Vocabulary.{session_line, Part, part_of, parts_of, Entry, session_entries, part_entries, unit_entries}
-use Rattle.osi_listing.proofs.Vocabulary.{read_entries, TransportUnit, UnitFault, Tsdu, SessionUnit, Says, Holds}
+use Rattle.osi_listing.proofs.Vocabulary.{read_entries, read_parts, TransportUnit, UnitFault, Tsdu, SessionUnit, Says, Holds}
 use Rattle.osi_spdu.specs.Reading.{tsdu_at, unit_at}
 use Rattle.osi_listing.specs.Listing.{line_of}
 
@@ -152,3 +152,11 @@ advanced_step old mid new was then now before after v left rest earlier all is s
       entries = grind (arith, append_assoc, option_to_list);
       brought = append_assoc a.parts (option_to_list (part_of v)) (parts_of left) ∙ ap (λ vs. a.parts ++ parts_of vs) (sym is) ∙ a.brought;
     }
+
+-- of a packet with one unit
+pub entries_of_one : (earlier : List Part) (r : Result (List Value) TpduFault) (v : Value) → r ≡ Ok (v ∷ []) →
+    read_entries earlier r ≡ TransportUnit v ∷ part_entries earlier (part_of v)
+entries_of_one earlier r v e = rw e (append-nil (TransportUnit v ∷ part_entries earlier (part_of v)))
+
+pub parts_of_one : (r : Result (List Value) TpduFault) (v : Value) → r ≡ Ok (v ∷ []) → read_parts r ≡ option_to_list (part_of v)
+parts_of_one r v e = rw e (grind (arith, append-nil))

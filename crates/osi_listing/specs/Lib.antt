@@ -1,3 +1,4 @@
+pub mod Digits
 pub mod Capture
 pub mod Lines
 pub mod SessionLines

@@ -4,6 +4,7 @@ ghost use Rattle.std.specs.Prelude.{◌≡◌, ◌<◌, ◌≤◌, ◌∷◌, �
 ghost use Rattle.hex.specs.Hex.{hex_digit_value};
 ghost use Rattle.osi_listing.specs.Capture.{after_octets, digits_of, digits_left, is_blank, octets_from, with_digit, Captures, IsNoCapture};
 
+use crate::digits::octet_of;
 use std::alloc::Global;
 use thiserror::Error;
 
@@ -136,7 +137,6 @@ fn front_octets(text: &[u8]) -> Option<(u8, u8, u8, u8, &[u8])>
 
 /// The octet whose two digits a text begins with, and the text after them.
 #[inline(always)]
-#[tactic(auto, using(crate::proofs::digits_give_octets::two_read))]
 fn front_octet(text: &[u8]) -> Option<(u8, &[u8])>
     ensures read { IfSome result (λ front. octets_from (digits_of text.now) None
         ≡ after_octets (front.0 ∷ []) (octets_from (digits_of front.1.now) None)) }
@@ -145,9 +145,8 @@ fn front_octet(text: &[u8]) -> Option<(u8, &[u8])>
     let [high, low, rest @ ..] = text else {
         return None;
     };
-    let high = digit_value(*high)?;
-    let low = digit_value(*low)?;
-    Some((high * 16 + low, rest))
+    let octet = octet_of(*high, *low)?;
+    Some((octet, rest))
 }
 
 /// Reads a character of a text, and returns the place after it.

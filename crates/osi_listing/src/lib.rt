@@ -31,6 +31,7 @@
 
 mod capture;
 mod counting;
+mod digits;
 pub mod laws;
 mod lines;
 mod listing;
@@ -44,6 +45,7 @@ mod work;
 
 pub use capture::{CaptureFault, octets_of};
 pub use counting::Counts;
+pub use digits::octet_of;
 pub use lines::{push_decimal, push_number_field, push_octet, push_words};
 pub use pieces::{Lister, list};
 pub use session_lines::{push_session_fault_code, session_fault_name, session_fault_offset};

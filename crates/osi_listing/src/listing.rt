@@ -18,7 +18,7 @@ use crate::session_lines::{push_session_fault, push_session_unit};
 use crate::streams::{Outcome, Streams};
 use crate::units::push_unit;
 use osi_spdu::{Behind, Group, SpduFault, read_group};
-use osi_tpdu::{Tpdu, Units, read_units};
+use osi_tpdu::{DataClass0, Tpdu, Units, read_units};
 use std::alloc::{AllocError, Global};
 
 /// Lists a packet, by its offset in the stream and its transport unit.
@@ -44,7 +44,30 @@ pub(crate) fn list_packet(
 }
 
 /// Lists the units of a packet, or only their fault.
+#[inline(always)]
+#[tactic(auto, using(crate::proofs::units_one_after_the_other::entries_of_one, crate::proofs::units_one_after_the_other::parts_of_one))]
 fn list_units(
+    alloc: Global,
+    text: &mut Vec<u8>,
+    streams: &mut Streams,
+    counts: &mut Counts,
+    unit: &[u8],
+) -> Result<(), AllocError>
+    ensures says { OnOk result ((earlier : List Part) → Holds streams.old earlier →
+        Says text.old.items text.new.items counts.old counts.new (read_entries earlier (units_of unit.now))) }
+    ensures holds { OnOk result ((earlier : List Part) → Holds streams.old earlier →
+        Holds streams.new (earlier ++ read_parts (units_of unit.now))) }
+{
+    match DataClass0::from_packet(unit) {
+        Some(data) => list_unit(alloc, text, streams, counts, &Tpdu::Dt0(data)),
+        None => list_any_units(alloc, text, streams, counts, unit),
+    }
+}
+
+/// Lists the units of any packet, or only their fault.
+// It is not inlined: other units need much room, and nearly all packets have one DT.
+#[inline(never)]
+fn list_any_units(
     alloc: Global,
     text: &mut Vec<u8>,
     streams: &mut Streams,
@@ -85,6 +108,7 @@ fn list_each(
 }
 
 /// Lists one unit, and what it adds to its stream.
+#[inline(always)]
 fn list_unit(
     alloc: Global,
     text: &mut Vec<u8>,
@@ -104,6 +128,7 @@ fn list_unit(
 }
 
 /// Lists what a unit adds to its stream. A TSDU of one part is listed where it is; others are joined first.
+#[inline(always)]
 fn list_part(
     alloc: Global,
     text: &mut Vec<u8>,
@@ -169,6 +194,7 @@ fn fault_if_empty(tsdu: &[u8]) -> Option<SpduFault>
 }
 
 /// Lists the fault of the session units of a TSDU.
+#[inline(always)]
 fn list_fault(text: &mut Vec<u8>, counts: &mut Counts, fault: SpduFault) -> Result<(), AllocError>
     ensures { OnOk result (Says text.old.items text.new.items counts.old counts.new
         (SessionFault fault ∷ [])) }

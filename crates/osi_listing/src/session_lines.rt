@@ -233,9 +233,20 @@ fn push_information(text: &mut Vec<u8>, unit: &Spdu) -> Result<(), AllocError>
     push_number_field(text, " octets ", unit.information().len() as u64)
 }
 
-/// Adds the line of the fault of a TSDU's session units.
-#[tactic(auto, unfolding(crate::specs::SessionLines::session_fault_line))]
+/// Adds the line of the fault of a TSDU's session units. That of an empty TSDU is added in one piece.
+#[inline(always)]
 pub(crate) fn push_session_fault(text: &mut Vec<u8>, fault: SpduFault) -> Result<(), AllocError>
+    ensures { OnOk result (text.new.items ≡ text.old.items ++ session_fault_line fault) }
+{
+    match fault {
+        SpduFault::LengthPastEnd(0) => push_words(text, "    fault 0 LengthPastEnd\n"),
+        _ => push_any_session_fault(text, fault),
+    }
+}
+
+/// Adds the line of any such fault.
+#[tactic(auto, unfolding(crate::specs::SessionLines::session_fault_line))]
+fn push_any_session_fault(text: &mut Vec<u8>, fault: SpduFault) -> Result<(), AllocError>
     ensures { OnOk result (text.new.items ≡ text.old.items ++ session_fault_line fault) }
 {
     push_words(text, "    fault ")?;

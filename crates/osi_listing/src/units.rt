@@ -16,6 +16,7 @@ use osi_tpdu::{
 use std::alloc::AllocError;
 
 /// Adds the line of a transport unit.
+#[inline(always)]
 #[tactic(auto, unfolding(crate::specs::Lines::unit_line, crate::specs::Lines::unit_fields))]
 pub(crate) fn push_unit(text: &mut Vec<u8>, unit: &Tpdu) -> Result<(), AllocError>
     ensures { OnOk result (text.new.items ≡ text.old.items ++ unit_line (value unit.now)) }

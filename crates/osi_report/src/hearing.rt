@@ -7,7 +7,7 @@ use crate::disputes::{Judgement, judgement_by, pass, pass_if};
 use crate::news::{News, is_decided};
 use crate::openings::Opening;
 use crate::places::Place;
-use crate::steps::{is_plain, read_octets, start_of_text, step};
+use crate::steps::{is_plain, place_on_line, read_octets, start_of_text, step};
 use osi_judge::Judge;
 use osi_listing::CaptureFault;
 use std::alloc::{AllocError, Global};
@@ -109,9 +109,27 @@ impl Hearing {
         pass_if(&mut self.judge, &mut self.opening, step.passing)
     }
 
-    /// Hears octets whose digits stand side by side, if the place is between two octets of a line, and returns the rest of the
-    /// text.
+    /// Takes the side of a line from its first character, which is not heard yet.
+    fn go_to_line(&mut self, text: &[u8])
+        ensures { (whole more : List ℕ) → IsHeard self.old whole (text.now ++ more) → IsHeard self.new whole (text.now ++ more) }
+    {
+        self.place = place_on_line(self.place, text);
+    }
+
+    /// Hears octets whose digits stand side by side, and blanks between them, if the place is between two octets of a line. Returns
+    /// the rest of the text.
     fn hear_octets<'t>(&mut self, text: &'t [u8]) -> Result<&'t [u8], CaptureFault>
+        ensures ok { IfOk result (λ rest. (whole more : List ℕ) → IsHeard self.old whole (text.now ++ more)
+            → IsHeard self.new whole (rest.now ++ more)) }
+        ensures shorter { IfOk result (λ rest. length rest.now ≤ length text.now) }
+        ensures memory { IfErr result (λ fault. fault ≡ CaptureFault.OutOfMemory) }
+    {
+        self.go_to_line(text);
+        self.hear_on_line(text)
+    }
+
+    /// The same, once the side of the line is known.
+    fn hear_on_line<'t>(&mut self, text: &'t [u8]) -> Result<&'t [u8], CaptureFault>
         ensures ok { IfOk result (λ rest. (whole more : List ℕ) → IsHeard self.old whole (text.now ++ more)
             → IsHeard self.new whole (rest.now ++ more)) }
         ensures shorter { IfOk result (λ rest. length rest.now ≤ length text.now) }

@@ -10,6 +10,7 @@ ghost use Rattle.osi_report.specs.Passing.{quiet, side_at, start, step_of};
 ghost use Rattle.osi_report.specs.Rows.{side_of};
 
 use crate::places::{Half, Passing, Place, Step};
+use osi_listing::octet_of;
 use osi_side::Direction;
 use std::alloc::AllocError;
 
@@ -152,7 +153,27 @@ pub(crate) fn is_plain(place: Place) -> bool
     !place.begins && !place.in_comment && place.half.is_none()
 }
 
-/// Reads octets whose two digits stand side by side, at most 4,096, and returns the rest of the text.
+/// The place of the first character of a text, with the side of its line: the first character of a line tells it.
+pub(crate) fn place_on_line(place: Place, text: &[u8]) -> Place
+    ensures same { (more : List ℕ) → passed_from result (text.now ++ more) ≡ passed_from place (text.now ++ more) }
+    ensures half { result.half ≡ place.half }
+{
+    let [first, ..] = text else {
+        return place;
+    };
+    if *first == b'\n' {
+        return place;
+    }
+    Place {
+        direction: side_at(place, *first),
+        begins: false,
+        in_comment: place.in_comment,
+        half: place.half,
+    }
+}
+
+/// Reads octets of a line, at most 4,096, and returns the rest of the text. The two digits of an octet stand side by side, and
+/// there may be blanks between two octets.
 pub(crate) fn read_octets<'t>(octets: &mut Vec<u8>, text: &'t [u8]) -> Result<&'t [u8], AllocError>
     ensures ok { IfOk result (λ rest. (d : Direction) (more : List ℕ) → passed_from (plain d) (text.now ++ more)
         ≡ after_passed (piece d octets.new.items) (passed_from (plain d) (rest.now ++ more))) }
@@ -160,14 +181,74 @@ pub(crate) fn read_octets<'t>(octets: &mut Vec<u8>, text: &'t [u8]) -> Result<&'
 {
     octets.clear();
     let mut rest = text;
-    'octets: while octets.len() < MOST {
-        let Some((octet, behind)) = front_octet(rest) else {
-            return Ok(rest);
-        };
-        octets.push(octet)?;
+    'octets: while octets.len() <= MOST - 4 {
+        let behind = read_front(octets, rest)?;
+        if behind.len() == rest.len() {
+            return Ok(behind);
+        }
         rest = behind;
     }
     Ok(rest)
+}
+
+/// Reads the first four octets of a text, or the first one, or skips a blank. Returns the rest of the text.
+#[inline(always)]
+fn read_front<'t>(octets: &mut Vec<u8>, text: &'t [u8]) -> Result<&'t [u8], AllocError>
+    ensures ok { IfOk result (λ rest. (d : Direction) (more : List ℕ) →
+        after_passed (piece d octets.new.items) (passed_from (plain d) (rest.now ++ more))
+        ≡ after_passed (piece d octets.old.items) (passed_from (plain d) (text.now ++ more))) }
+    ensures shorter { IfOk result (λ rest. length rest.now ≤ length text.now) }
+{
+    if let Some((first, second, third, fourth, behind)) = front_octets(text) {
+        let four = [first, second, third, fourth];
+        octets.extend_from_slice(&four)?;
+        return Ok(behind);
+    }
+    read_one(octets, text)
+}
+
+/// Reads the first octet of a text, or skips a blank. Returns the rest of the text.
+#[inline(always)]
+fn read_one<'t>(octets: &mut Vec<u8>, text: &'t [u8]) -> Result<&'t [u8], AllocError>
+    ensures ok { IfOk result (λ rest. (d : Direction) (more : List ℕ) →
+        after_passed (piece d octets.new.items) (passed_from (plain d) (rest.now ++ more))
+        ≡ after_passed (piece d octets.old.items) (passed_from (plain d) (text.now ++ more))) }
+    ensures shorter { IfOk result (λ rest. length rest.now ≤ length text.now) }
+{
+    let Some((octet, behind)) = front_octet(text) else {
+        return Ok(after_blank(text));
+    };
+    octets.push(octet)?;
+    Ok(behind)
+}
+
+/// The text after the blank that it begins with, or all of it if it begins with another character.
+fn after_blank(text: &[u8]) -> &[u8]
+    ensures same { (d : Direction) (more : List ℕ) →
+        passed_from (plain d) (result.now ++ more) ≡ passed_from (plain d) (text.now ++ more) }
+    ensures shorter { length result.now ≤ length text.now }
+{
+    let [first, rest @ ..] = text else {
+        return text;
+    };
+    if is_blank_octet(*first) {
+        return rest;
+    }
+    text
+}
+
+/// The four octets whose digits a text begins with, and the text after them.
+#[inline(always)]
+fn front_octets(text: &[u8]) -> Option<(u8, u8, u8, u8, &[u8])>
+    ensures read { IfSome result (λ front. (d : Direction) (more : List ℕ) → passed_from (plain d) (text.now ++ more)
+        ≡ after_passed (piece d (front.0 ∷ front.1 ∷ front.2 ∷ front.3 ∷ [])) (passed_from (plain d) (front.4.now ++ more))) }
+    ensures shorter { IfSome result (λ front. length front.4.now < length text.now) }
+{
+    let (first, rest) = front_octet(text)?;
+    let (second, rest) = front_octet(rest)?;
+    let (third, rest) = front_octet(rest)?;
+    let (fourth, rest) = front_octet(rest)?;
+    Some((first, second, third, fourth, rest))
 }
 
 /// The octet whose two digits a text begins with, and the text after them.
@@ -180,9 +261,8 @@ fn front_octet(text: &[u8]) -> Option<(u8, &[u8])>
     let [high, low, rest @ ..] = text else {
         return None;
     };
-    let high = digit_value(*high)?;
-    let low = digit_value(*low)?;
-    Some((high * 16 + low, rest))
+    let octet = octet_of(*high, *low)?;
+    Some((octet, rest))
 }
 
 /// The value of a digit of either case.
