@@ -148,8 +148,8 @@ impl Sum {
         self.later().with(1, kind).with(53, at as u64)
     }
 
-    /// With the units of one more packet.
-    pub(crate) fn with_packet(self, packet: &[u8]) -> Self {
+    // With the units of a packet that is not one DT.
+    fn with_units(self, packet: &[u8]) -> Self {
         let units = match read_units(packet) {
             Ok(units) => units,
             Err(fault) => return self.with_fault(fault),
@@ -159,5 +159,16 @@ impl Sum {
             sum = sum.with_unit(&unit);
         }
         sum
+    }
+
+    /// With the units of one more packet.
+    pub(crate) fn with_packet(self, packet: &[u8]) -> Self {
+        if let Some(data) = DataClass0::from_packet(packet) {
+            return self.later().with_data0(&data);
+        }
+        if let Some(data) = DataClass2::from_packet(packet) {
+            return self.later().with_data2(&data);
+        }
+        self.with_units(packet)
     }
 }

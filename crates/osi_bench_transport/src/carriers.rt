@@ -2,22 +2,16 @@
 //! and fed to the other in pieces.
 
 use crate::moved::Moved;
-use osi_carrier::{Carrier, Event, Ref};
+use osi_carrier::{Carrier, Event, FedLent, Lent, Ref};
 use osi_class::Local;
 use osi_tpdu::{SizeCode, Window};
 use std::alloc::Global;
 
-/// Hands over the next octets of the backlog, at most this many, and returns whether this caused an event; `None` if
-/// the backlog was empty.
-fn hand_over(from: &mut Carrier, to: &mut Carrier, piece: usize) -> Option<bool> {
-    let octets = from.outgoing();
-    let count = octets.len().min(piece);
-    if count == 0 {
-        return None;
+/// Takes a TSDU that is lent into a block of its own, and counts it.
+fn count_lent(alloc: Global, lent: &Lent<'_>, moved: &mut Moved) {
+    if let Ok(tsdu) = Vec::from_slice(alloc, lent.octets) {
+        *moved = moved.with(tsdu.as_slice());
     }
-    let fed = to.feed(&octets[..count]);
-    from.taken(fed.used);
-    Some(fed.whole)
 }
 
 /// Takes the next event, and counts its TSDU.
@@ -29,20 +23,32 @@ fn count(end: &mut Carrier, moved: &mut Moved) {
 
 /// Carries the next octets of the backlog, at most this many, and counts a TSDU that arrives. False if the backlog was
 /// empty.
-fn carry_piece(from: &mut Carrier, to: &mut Carrier, piece: usize, moved: &mut Moved) -> bool {
-    let Some(whole) = hand_over(from, to, piece) else {
+fn carry_piece(
+    alloc: Global,
+    from: &mut Carrier,
+    to: &mut Carrier,
+    piece: usize,
+    moved: &mut Moved,
+) -> bool {
+    let octets = from.outgoing();
+    let octets_now = octets.len().min(piece);
+    if octets_now == 0 {
         return false;
-    };
-    if whole {
-        count(to, moved);
     }
+    let FedLent { fed, lent } = to.feed_lent(&octets[..octets_now]);
+    match lent {
+        Some(lent) => count_lent(alloc, &lent, moved),
+        None if fed.whole => count(to, moved),
+        None => {}
+    }
+    from.taken(fed.used);
     true
 }
 
 /// Carries the whole backlog. Each piece has at least one octet.
-fn carry(from: &mut Carrier, to: &mut Carrier, piece: usize, moved: &mut Moved) {
+fn carry(alloc: Global, from: &mut Carrier, to: &mut Carrier, piece: usize, moved: &mut Moved) {
     for _ in 0..=from.outgoing().len() {
-        if !carry_piece(from, to, piece, moved) {
+        if !carry_piece(alloc, from, to, piece, moved) {
             return;
         }
     }
@@ -50,6 +56,7 @@ fn carry(from: &mut Carrier, to: &mut Carrier, piece: usize, moved: &mut Moved) 
 
 /// Carries both ways until the caller's backlog is empty, at most this many times.
 fn exchange(
+    alloc: Global,
     caller: &mut Carrier,
     called: &mut Carrier,
     piece: usize,
@@ -57,8 +64,8 @@ fn exchange(
     moved: &mut Moved,
 ) {
     for _ in 0..=times {
-        carry(caller, called, piece, moved);
-        carry(called, caller, piece, moved);
+        carry(alloc, caller, called, piece, moved);
+        carry(alloc, called, caller, piece, moved);
         if caller.outgoing().is_empty() {
             return;
         }
@@ -76,27 +83,34 @@ fn local(class_two: bool) -> Option<Local> {
 }
 
 /// Opens one more connection.
-fn open_one(caller: &mut Carrier, called: &mut Carrier, moved: &mut Moved) -> Option<()> {
+fn open_one(
+    alloc: Global,
+    caller: &mut Carrier,
+    called: &mut Carrier,
+    moved: &mut Moved,
+) -> Option<()> {
     caller.connect(None, None).ok()?;
-    exchange(caller, called, 65_536, 1, moved);
+    exchange(alloc, caller, called, 65_536, 1, moved);
     Some(())
 }
 
 /// Opens this many connections.
 fn open_all(
+    alloc: Global,
     caller: &mut Carrier,
     called: &mut Carrier,
     connections: u16,
     moved: &mut Moved,
 ) -> Option<()> {
     for _ in 0..connections {
-        open_one(caller, called, moved)?;
+        open_one(alloc, caller, called, moved)?;
     }
     Some(())
 }
 
 /// Moves a TSDU this many times over this many connections, in turn.
 fn take_turns(
+    alloc: Global,
     caller: &mut Carrier,
     called: &mut Carrier,
     tsdu: &[u8],
@@ -113,13 +127,14 @@ fn take_turns(
             1
         };
         caller.send(Ref(reference), tsdu).ok()?;
-        exchange(caller, called, piece, tsdu.len(), moved);
+        exchange(alloc, caller, called, piece, tsdu.len(), moved);
     }
     Some(())
 }
 
 /// Moves a TSDU this many times over two fresh ends.
 fn over_ends(
+    alloc: Global,
     caller: &mut Carrier,
     called: &mut Carrier,
     tsdu: &[u8],
@@ -128,8 +143,17 @@ fn over_ends(
     piece: usize,
 ) -> Option<Moved> {
     let mut moved = Moved::nothing();
-    open_all(caller, called, connections, &mut moved)?;
-    take_turns(caller, called, tsdu, rounds, connections, piece, &mut moved)?;
+    open_all(alloc, caller, called, connections, &mut moved)?;
+    take_turns(
+        alloc,
+        caller,
+        called,
+        tsdu,
+        rounds,
+        connections,
+        piece,
+        &mut moved,
+    )?;
     Some(moved)
 }
 
@@ -146,5 +170,13 @@ pub(crate) fn over_carriers(
     let local = local(class_two)?;
     let mut caller = Carrier::caller(alloc, local);
     let mut called = Carrier::called(alloc, local);
-    over_ends(&mut caller, &mut called, tsdu, rounds, connections, piece)
+    over_ends(
+        alloc,
+        &mut caller,
+        &mut called,
+        tsdu,
+        rounds,
+        connections,
+        piece,
+    )
 }

@@ -65,6 +65,28 @@ pub fn pump(link: &mut AnyLink, peer: u16, out: &mut BytesMut) -> Result<(), All
     Ok(())
 }
 
+/// Writes units as [`pump`] does, after the link took a unit and handed this out. Each case has code of its own: so what was
+/// handed out is known where it is needed next, and is not kept while units are written.
+#[inline(always)]
+pub fn pump_after(
+    handed: &Handed,
+    link: &mut AnyLink,
+    peer: u16,
+    out: &mut BytesMut,
+) -> Result<(), AllocError>
+    ensures link { OnOk result (any_standing link.new ≡ pumped (any_standing link.old)) }
+    ensures ok { OnOk result (out.new.items ≡ out.old.items ++ packets (written_by peer (any_standing link.old))) }
+    ensures pumped { OnOk result (next (any_standing link.new) ≡ None) }
+    ensures err { OnErr result (out.new.items ≡ out.old.items) }
+    ensures needs { OnErr result (nat_lt 0 (length (written_by peer (any_standing link.old))) ≡ true) }
+{
+    match handed {
+        Handed::Nothing => pump(link, peer, out),
+        Handed::Whole => pump(link, peer, out),
+        Handed::Joined(_) => pump(link, peer, out),
+    }
+}
+
 /// Writes a TSDU, given as its first octets and the others, as one unit straight from these octets, if it fits one,
 /// the link gives it now and there is memory. In all other cases `false`, and then nothing has changed.
 #[inline(always)]

@@ -20,7 +20,7 @@ ghost use Rattle.osi_tpdu.specs.View.{value};
 
 use crate::faults::SendError;
 use crate::links::{
-    Step, pump, send_all_on, send_headed_parts, send_parts, send_pieces_on, send_whole,
+    Step, pump_after, send_all_on, send_headed_parts, send_parts, send_pieces_on, send_whole,
 };
 use crate::lookup::{Referred, is_above, place_in};
 use crate::pieces::Pieces;
@@ -403,7 +403,7 @@ impl Connections {
             Err(LinkFault::OutOfMemory) => return Err(AllocError),
             Err(fault) => return Ok(Step::Broke(place, peer, fault)),
         };
-        let Ok(()) = pump(link, peer, out) else {
+        let Ok(()) = pump_after(&handed, link, peer, out) else {
             give_up(&mut row.phase, peer);
             return Err(AllocError);
         };

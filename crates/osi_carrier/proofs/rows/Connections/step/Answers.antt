@@ -89,21 +89,21 @@ returns-in-Err-clause-ok c =
 pub invariant_of-self-2 : goal.invariant_of-self-2
 invariant_of-self-2 c = (row_here (goal.at.invariant_of-self-2 c).In-Linked).keeps _
 
-pub invariant_of-self-in_default-pump : goal.invariant_of-self-in_default-pump
-invariant_of-self-in_default-pump c = (row_here (goal.at.invariant_of-self-in_default-pump c).In-Linked).keeps _
+pub invariant_of-self-in_default-pump_after : goal.invariant_of-self-in_default-pump_after
+invariant_of-self-in_default-pump_after c = (row_here (goal.at.invariant_of-self-in_default-pump_after c).In-Linked).keeps _
 
-pub returns-in_default-pump-clause-known : goal.returns-in_default-pump-clause-known
-returns-in_default-pump-clause-known c =
-    ap (λ (o : Option Connection). is_some (peer_in o)) (row_here (goal.at.returns-in_default-pump-clause-known c).In-Linked).is
+pub returns-in_default-pump_after-clause-known : goal.returns-in_default-pump_after-clause-known
+returns-in_default-pump_after-clause-known c =
+    ap (λ (o : Option Connection). is_some (peer_in o)) (row_here (goal.at.returns-in_default-pump_after-clause-known c).In-Linked).is
 
-pub returns-in_default-pump-clause-needs : goal.returns-in_default-pump-clause-needs
-returns-in_default-pump-clause-needs c = λ peer known.
+pub returns-in_default-pump_after-clause-needs : goal.returns-in_default-pump_after-clause-needs
+returns-in_default-pump_after-clause-needs c = λ peer known.
     let unit = value c.args.unit.now in
     let new = any_standing c.receive.new.self in
     let tsdu = tsdu_handed (user_of unit) c.in-Ok.handed in
-    let row = row_here (goal.at.returns-in_default-pump-clause-needs c).In-Linked in
+    let row = row_here (goal.at.returns-in_default-pump_after-clause-needs c).In-Linked in
     let needs = pump_grows c.in-Linked.peer (any_standing c.in-Linked.link) (with_handed tsdu new) new tsdu _ c.in-Ok.ensures.taken
-    (handing tsdu new c.in-Ok.ensures.none) c.in_default-pump.ensures.needs in
+    (handing tsdu new c.in-Ok.ensures.none) c.in_default-pump_after.ensures.needs in
     grind arith
 
 pub returns-clause-step : goal.returns-clause-step
