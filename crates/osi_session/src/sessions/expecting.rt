@@ -104,9 +104,7 @@ impl Session {
         ensures shown { IfSome result (λ n. react self.old (came tsdu.now) ≡ only_shows self.new (Minor n true [])) }
         ensures rests { IfNone result (self.new ≡ self.old) }
     {
-        let Some(PlainUnit::MinorPoint { number }) = PlainUnit::read(tsdu) else {
-            return None;
-        };
+        let number = PlainUnit::minor_point(tsdu)?;
         if self.joined.is_some() {
             return None;
         }
@@ -136,9 +134,7 @@ impl Session {
         ensures shown { IfSome result (λ n. react self.old (came tsdu.now) ≡ only_shows self.new (MinorConfirmed n [])) }
         ensures rests { IfNone result (self.new ≡ self.old) }
     {
-        let Some(PlainUnit::MinorAck { number }) = PlainUnit::read(tsdu) else {
-            return None;
-        };
+        let number = PlainUnit::minor_ack(tsdu)?;
         if self.joined.is_some() {
             return None;
         }

@@ -1,4 +1,4 @@
-use Rattle.osi_session.proofs.Vocabulary.{◌∙◌, ap, PlainUnit, plain_said, Words, Result, Ok, SpduFault, MIA, Meaning, MinorConfirmed, most_whole, said_at, [], None}
+use Rattle.osi_session.proofs.Vocabulary.{MIA, Meaning, MinorConfirmed, most_whole, said_at, [], None}
 use Rattle.osi_message.specs.declared.plain.PlainUnit.TheVariants as plain
 use Rattle.osi_session.proofs.tables.points_that_are_expected.{plain_numbered, point_leaves, unit_shows}
 use Rattle.osi_session.proofs.sessions.Session.take_minor_ack.Goals as goal
@@ -6,7 +6,7 @@ use Rattle.osi_session.proofs.sessions.Session.take_minor_ack.Goals as goal
 pub invariant_of-self : goal.invariant_of-self
 unfolding most_whole
 invariant_of-self c =
-    let n = c.in-Some-MinorAck.number in
+    let n = c.in_ok-number.number in
     let u : Meaning = MIA n.number [] in (
       point_leaves (record { state = c.self.inside.state; waiting = None; joined = c.self.inside.joined }) c.in-Some.numbers
           (MinorConfirmed n.number []) u (plain_numbered (plain.MinorAck n)) c.is_some.ensures c.if-is_some.false c.in-Some.ensures
@@ -18,12 +18,9 @@ invariant_of-self c =
       c.self.invariant.5,
     )
 
-abbrev read_as : Words → Result Words SpduFault
-read_as words = Ok words
-
 pub returns-clause-shown : goal.returns-clause-shown
 returns-clause-shown c =
-    let n = c.in-Some-MinorAck.number in
+    let n = c.in_ok-number.number in
     unit_shows (MIA n.number []) c.in-Some.numbers (MinorConfirmed n.number []) (said_at c.args.tsdu.now) c.self.view_is
     c.is_some.ensures c.if-is_some.false
-    (c.in-Some-MinorAck.ensures.said ∙ ap (λ (p : PlainUnit). read_as (plain_said p)) c.in-Some-MinorAck.field-0-is) c.in-Some.ensures
+    c.in_ok-number.ensures.said c.in-Some.ensures
