@@ -1,6 +1,7 @@
 //! The fast path for the most frequent TSDUs, which are written and read directly: data, a part of it, and a minor
 //! synchronization point or its confirmation with no parameter but its number, after a GT that names no token. Whole
-//! data has a reader of its own, [`PlainUnit::data`]; [`PlainUnit::read`] reads the others.
+//! data has a reader of its own, [`PlainUnit::data`]; [`PlainUnit::read`] reads the others, and [`PlainUnit::minor_point`]
+//! and [`PlainUnit::minor_ack`] each read one of them.
 
 ghost use Rattle.std.specs.Prelude.{ℕ, List, ◌≡◌, ◌+◌, ◌%◌, ◌≤◌, ◌++◌, true, [], ◌∷◌, length, Ok, IfSome};
 ghost use Rattle.osi_spdu.specs.Values.{digits_of};
@@ -162,6 +163,7 @@ fn canonical(digits: &[u8]) -> Option<Serial>
 }
 
 /// The number of a unit of this SI with no other parameter, after a GT that names no token.
+#[inline(always)]
 #[tactic(auto, using(crate::proofs::units_of_the_fast_path::point_parts))]
 fn number_of(tsdu: &[u8], si: u8) -> Option<Serial>
     ensures { IfSome result (λ s. tsdu.now ≡ point_octets si (digits_of s.number)) }
@@ -244,6 +246,34 @@ impl<'a> PlainUnit<'a> {
         laws::what_a_part_says();
         let unit = plain_unit(tsdu)?;
         Some(unit)
+    }
+
+    /// The number of a minor point that asks for its confirmation, if the octets of a TSDU are its written form, after a GT
+    /// that names no token. `None` for all other octets.
+    #[inline(always)]
+    #[tactic(auto, using(crate::proofs::units_of_the_fast_path::point_written))]
+    pub fn minor_point(tsdu: &[u8]) -> Option<Serial>
+        ensures written { IfSome result (λ n. tsdu.now ≡ written (MIP true n.number [])) }
+        ensures said { IfSome result (λ n. said_at tsdu.now ≡ Ok (says (GT no_token) ∷ says (MIP true n.number []) ∷ [])) }
+    {
+        laws::what_is_sent_is_read();
+        laws::what_a_part_says();
+        let serial = number_of(tsdu, MINOR_POINT)?;
+        Some(serial)
+    }
+
+    /// The number of the confirmation of a minor point, if the octets of a TSDU are its written form, after a GT that names
+    /// no token. `None` for all other octets.
+    #[inline(always)]
+    #[tactic(auto, using(crate::proofs::units_of_the_fast_path::ack_written))]
+    pub fn minor_ack(tsdu: &[u8]) -> Option<Serial>
+        ensures written { IfSome result (λ n. tsdu.now ≡ written (MIA n.number [])) }
+        ensures said { IfSome result (λ n. said_at tsdu.now ≡ Ok (says (GT no_token) ∷ says (MIA n.number []) ∷ [])) }
+    {
+        laws::what_is_sent_is_read();
+        laws::what_a_part_says();
+        let serial = number_of(tsdu, MINOR_ACK)?;
+        Some(serial)
     }
 
     /// The user data of whole data, if the octets of a TSDU are its written form, after a GT that names no token.

@@ -1,18 +1,16 @@
 //! The fast path of a session: a TSDU that it expects; and minor points and confirmations that it expects, which change
 //! only the numbers, so that no whole state is built.
 
-ghost use Rattle.std.specs.Prelude.{◌≡◌, ◌==◌, [], None, false, true, IfSome, nat_le, nat_lt};
+ghost use Rattle.std.specs.Prelude.{◌≡◌, ◌==◌, [], false, true, IfSome, nat_le, nat_lt};
 ghost use Rattle.osi_message.specs.Meanings.{MIP, MIA};
-ghost use Rattle.osi_message.specs.Plain.{plain_word};
 ghost use Rattle.osi_session.specs.Expecting.{met_by};
-ghost use Rattle.osi_session.specs.Joining.{heard, respond_word};
 ghost use Rattle.osi_session.specs.Respond.{respond_unit, shows};
 ghost use Rattle.osi_session.specs.Shown.{Minor, MinorConfirmed, shown_by};
 
 use crate::indications::Indication;
 use crate::numbers::Numbers;
 use crate::state::State;
-use osi_message::{Octets, PlainUnit};
+use osi_message::Octets;
 use osi_spdu::Serial;
 use std::alloc::Global;
 
@@ -41,16 +39,9 @@ impl Expected {
     }
 }
 
-/// The indication of a point, and the numbers after it; nothing else changes.
-#[derive(Drop)]
-pub(crate) struct ExpectedPoint {
-    pub(crate) shown: Indication,
-    pub(crate) numbers: Numbers,
-}
-
 /// The numbers after a minor point that asks for its confirmation, if it is expected.
 #[tactic(auto, using(crate::proofs::tables::points_that_are_expected::point_is_shown))]
-fn after_point(state: &State, number: Serial) -> Option<Numbers>
+pub(crate) fn after_point(state: &State, number: Serial) -> Option<Numbers>
     ensures { IfSome result (λ n. respond_unit state.now (MIP true number.number [])
         ≡ shows (record state.now { numbers = n }) (Minor number.number true [])) }
 {
@@ -68,7 +59,7 @@ fn after_point(state: &State, number: Serial) -> Option<Numbers>
 
 /// The numbers after a confirmation, if it is expected and no major point is outstanding.
 #[tactic(auto, using(crate::proofs::tables::points_that_are_expected::ack_is_shown))]
-fn after_ack(state: &State, number: Serial) -> Option<Numbers>
+pub(crate) fn after_ack(state: &State, number: Serial) -> Option<Numbers>
     ensures { IfSome result (λ n. respond_unit state.now (MIA number.number [])
         ≡ shows (record state.now { numbers = n }) (MinorConfirmed number.number [])) }
 {
@@ -82,38 +73,25 @@ fn after_ack(state: &State, number: Serial) -> Option<Numbers>
     Some(numbers.minor_confirmed(number.number))
 }
 
-/// The indication of an expected minor point or confirmation, if no SSDU is unfinished; `None` for any other unit.
-pub(crate) fn expected_point(
-    alloc: Global,
-    state: &State,
-    is_unfinished: bool,
-    unit: PlainUnit<'_>,
-) -> Option<ExpectedPoint>
-    ensures { IfSome result (λ e. (is_unfinished ≡ false)
-        × (respond_word (record { state = state.now; joined = None }) (plain_word unit.entry)
-        ≡ heard None (shows (record state.now { numbers = e.numbers }) (shown_by e.shown)))) }
+/// The indication of a minor point that asks for its confirmation, without user data.
+#[inline(always)]
+pub(crate) fn minor_shown(alloc: Global, number: u32) -> Indication
+    ensures { shown_by result ≡ Minor number true [] }
 {
-    if is_unfinished {
-        return None;
+    Indication::Minor {
+        number,
+        confirm: true,
+        user_data: Octets::new(alloc),
     }
-    match unit {
-        PlainUnit::MinorPoint { number } => {
-            let numbers = after_point(state, number)?;
-            let shown = Indication::Minor {
-                number: number.number,
-                confirm: true,
-                user_data: Octets::new(alloc),
-            };
-            Some(ExpectedPoint { shown, numbers })
-        }
-        PlainUnit::MinorAck { number } => {
-            let numbers = after_ack(state, number)?;
-            let shown = Indication::MinorConfirmed {
-                number: number.number,
-                user_data: Octets::new(alloc),
-            };
-            Some(ExpectedPoint { shown, numbers })
-        }
-        PlainUnit::Part { .. } => None,
+}
+
+/// The indication of a confirmation without user data.
+#[inline(always)]
+pub(crate) fn confirmation_shown(alloc: Global, number: u32) -> Indication
+    ensures { shown_by result ≡ MinorConfirmed number [] }
+{
+    Indication::MinorConfirmed {
+        number,
+        user_data: Octets::new(alloc),
     }
 }

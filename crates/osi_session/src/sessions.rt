@@ -11,7 +11,7 @@ ghost use Rattle.osi_message.specs.Written.{user_data_of};
 ghost use Rattle.osi_session.specs.Sizes.{limit_of};
 
 use crate::calling::{MOST_USER_DATA, allow_data, decide, most_whole};
-use crate::expected::Expected;
+use crate::expected::{Expected, confirmation_shown, minor_shown};
 use crate::faults::CallError;
 use crate::grouping::{Reactions, judge_unread, take_all};
 use crate::hearing::{Heard, Joined};
@@ -393,14 +393,44 @@ impl Session {
         ensures err { OnErr result (self.new ≡ self.old) }
         ensures memory { OnErr result (takes_memory self.old (react self.old (came tsdu.now)) ≡ true) }
     {
-        match self.take_expected(tsdu) {
+        if let Some(user_data) = self.expected_data(tsdu) {
+            return match Octets::copy(self.alloc, user_data) {
+                Ok(user_data) => Ok(Taken::showing(
+                    self.alloc,
+                    Some(Indication::Data { user_data }),
+                )),
+                Err(error) => Err(error),
+            };
+        }
+        if let Some(number) = self.take_minor(tsdu) {
+            let indication = minor_shown(self.alloc, number);
+            return Ok(Taken::showing(self.alloc, Some(indication)));
+        }
+        if let Some(number) = self.take_confirmation(tsdu) {
+            let indication = confirmation_shown(self.alloc, number);
+            return Ok(Taken::showing(self.alloc, Some(indication)));
+        }
+        // A value of its own: otherwise data, too, would be answered in the stack space of this one.
+        let answer = self.take_rare(tsdu);
+        answer
+    }
+
+    /// Any TSDU other than whole data and points that are expected. It is kept out of line: otherwise stack space for what it
+    /// answers would be reserved on the fast path, too.
+    #[inline(never)]
+    fn take_rare(&mut self, tsdu: &[u8]) -> Result<Taken, AllocError>
+        ensures state { OnOk result (self.new ≡ (react self.old (came tsdu.now)).next) }
+        ensures shown { IfOk result (λ t. shown_in t ≡ (react self.old (came tsdu.now)).shown) }
+        ensures first { IfOk result (λ t. t.first ≡ None → t.more.items ≡ []) }
+        ensures reply { IfOk result (λ t. t.reply ≡ option_map in_one (react self.old (came tsdu.now)).reply) }
+        ensures closes { IfOk result (λ t. t.closes ≡ (react self.old (came tsdu.now)).closes) }
+        ensures err { OnErr result (self.new ≡ self.old) }
+        ensures memory { OnErr result (takes_memory self.old (react self.old (came tsdu.now)) ≡ true) }
+    {
+        match self.take_plain(tsdu) {
             Ok(Expected::Shown(indication)) => Ok(Taken::showing(self.alloc, Some(indication))),
             Ok(Expected::Joined) => Ok(Taken::showing(self.alloc, None)),
-            Ok(Expected::Other) => {
-                // A value of its own: otherwise data, too, would be answered in the stack space of this one.
-                let answer = self.take_unexpected(tsdu);
-                answer
-            }
+            Ok(Expected::Other) => self.take_unexpected(tsdu),
             Err(error) => Err(error),
         }
     }

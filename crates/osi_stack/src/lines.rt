@@ -6,7 +6,7 @@ ghost use Rattle.std.specs.VecDeque.{deque_len, deque_capacity};
 ghost use Rattle.osi_carrier.specs.Orderly.{RiseFrom};
 ghost use Rattle.osi_carrier.specs.Rows.{value_at};
 ghost use Rattle.osi_session.specs.Calls.{called_by};
-ghost use Rattle.osi_session.specs.Listening.{called, react};
+ghost use Rattle.osi_session.specs.Listening.{called, came, react};
 ghost use Rattle.osi_session.specs.Shown.{Lost, shown_by};
 ghost use Rattle.osi_session.specs.Sizes.{limit_of};
 ghost use Rattle.osi_stack.specs.Calls.{move_refusal, session_refusal, session_error, Refuses, first_shown, without_first, TellsOf};
@@ -26,6 +26,7 @@ use crate::handling::handle_event;
 use crate::selectors::SessionSelectors;
 use osi_carrier::lookup::{Referred, is_above, place_in};
 use osi_carrier::{Carrier, Ref};
+use osi_message::Octets;
 use osi_session::{AbortCause, CallError, Indication, Request, Session};
 use std::alloc::{AllocError, Global};
 use std::collections::VecDeque;
@@ -209,8 +210,46 @@ impl Line {
                 }
                 Err(tsdu) => self.receive_any(alloc, &SessionEvent::Tsdu(tsdu), carrier),
             },
+            SessionEvent::Lent(tsdu) => self.receive_lent(alloc, tsdu, carrier),
             _ => self.receive_any(alloc, &event, carrier),
         }
+    }
+
+    /// The session handles a TSDU that is lent. Data that it expects is copied straight into its indication. If memory
+    /// runs out, the session is lost in its previous state.
+    #[inline(always)]
+    fn receive_lent(
+        &mut self,
+        alloc: Global,
+        tsdu: &[u8],
+        carrier: &mut Carrier,
+    ) -> Result<(), AllocError>
+        ensures reference { self.new.0 ≡ self.old.0 }
+        ensures ok { OnOk result (self.new ≡ (self.old.0, line_by self.old.1 self.old.1.session (came tsdu.now))) }
+        ensures carrier { OnOk result (carrier.new
+            ≡ record carrier.old { state = carrier_by self.old.0 self.old.1.session (came tsdu.now) carrier.old.state }) }
+        ensures lost { OnErr result (self.new ≡ (self.old.0, loses self.old.1)) }
+        ensures err { OnErr result (carrier.new ≡ carrier.old) }
+        ensures needed { OnErr result (session_needs self.old.0 self.old.1.session (came tsdu.now) carrier.old.state ≡ true) }
+    {
+        let Some(session) = &self.session else {
+            return Ok(());
+        };
+        let Some(user_data) = session.expected_data(tsdu) else {
+            return self.receive_any(alloc, &SessionEvent::Lent(tsdu), carrier);
+        };
+        let Ok(user_data) = Octets::copy(alloc, user_data) else {
+            self.lose();
+            return Err(AllocError);
+        };
+        let Ok(()) = self.waiting.reserve(2) else {
+            drop(user_data);
+            self.lose();
+            return Err(AllocError);
+        };
+        self.waiting
+            .push_back_reserved(Indication::Data { user_data });
+        Ok(())
     }
 
     /// The session handles an event other than data that it expects in a buffer of its own. If memory runs out, the

@@ -1,15 +1,14 @@
 -- Data, minor points and confirmations: those that are expected, and points that are sent.
 use Rattle.osi_session.proofs.Vocabulary.{and_from, and_parts, Answer, after, fits_limit, most_user_data, sends, advanced, after_input}
 use Rattle.osi_session.proofs.Vocabulary.{call_for, has_next, may_advance, may_call, SpduFault, Meaning, DT, MIP, MIA, GT, tsdus_of}
-use Rattle.osi_session.proofs.Vocabulary.{no_token, Words, says, Indication, Numbers, State, Step, allowed, Call, heard, joined_octets}
+use Rattle.osi_session.proofs.Vocabulary.{no_token, Words, says, Numbers, State, Step, allowed, Call, heard, joined_octets}
 use Rattle.osi_session.proofs.Vocabulary.{kept_in, respond_came, Listener, called, react, came_as, taker_of, point_taken, minor_confirmed}
 use Rattle.osi_session.proofs.Vocabulary.{is_ready, takes_data, respond_unit, shows, only_shows, PlansPoint, limit_of, Shown}
-use Rattle.osi_session.proofs.Vocabulary.{MinorConfirmed, shown_by, IsSound, IsNumberedWord, Word, respond_word, moved, ◌≡◌, ◌∙◌, ap, ℕ}
+use Rattle.osi_session.proofs.Vocabulary.{MinorConfirmed, IsSound, IsNumberedWord, respond_word, ◌≡◌, ◌∙◌, ap, ℕ}
 use Rattle.osi_session.proofs.Vocabulary.{◌≤◌, ◌==◌, nat_le, nat_lt, Bool, List, [], ◌∷◌, Option, Some, None, is_some, Result, Ok, Err}
 use Rattle.osi_session.proofs.Vocabulary.{if◌then◌else◌, true, false, refl, sym, length, arith, PlainUnit, PlannedPoint, SentPoint, subst}
 use Rattle.osi_session.proofs.Vocabulary.{is_major_asked, takes_minor_ack, Hearing}
 use Rattle.osi_message.specs.Plain.{plain_word as unit_word}
-use Rattle.osi_session.specs.declared.plans.SentPoint.TheVariants as point
 use Rattle.osi_session.specs.Shown.{Data, Minor}
 use Rattle.osi_session.proofs.moves.the_move_of_each_input.{came_is, call_errs, call_next, call_passes, call_sends}
 use Rattle.osi_session.proofs.tables.what_an_accepted_call_has_passed.{accepted, passed}
@@ -73,21 +72,23 @@ data_shows {y = y} o shown read view n f e h s =
           ∙ ap (λ (x : List ℕ). heard None (shows y.state (Data x))) (sym s),
     ) ∙ ap (λ (x : Listener). only_shows x (Data shown)) view
 
--- the same of a word alone
-pub word_shows : {y l : Listener} {b : Bool} (v : Numbers) (i : Indication) (word : Word) → y ≡ l → b ≡ is_some y.joined
-    → (b ≡ false) × Shows (respond_word (record { state = y.state; joined = None }) word) y.state v (shown_by i)
-    → moved l (respond_word (taker_of l) word) ≡ only_shows (record y { state = record y.state { numbers = v } }) (shown_by i)
-word_shows v i word view n h = grind (arith, came_is, word_behind, point_shows)
-
 -- and its state is sound
-pub point_leaves : (l : Listener) {b : Bool} (v : Numbers) (i : Indication) (word : Word) → IsNumberedWord word → b ≡ is_some l.joined
-    → (b ≡ false) × Shows (respond_word (record { state = l.state; joined = None }) word) l.state v (shown_by i)
+pub point_leaves : (l : Listener) {b : Bool} (v : Numbers) (i : Shown) (u : Meaning) → IsNumberedWord (says u) → b ≡ is_some l.joined → b ≡ false
+    → respond_unit l.state u ≡ shows (record l.state { numbers = v }) i
     → IsSound l.state → kept_in l.state.phase l.joined ≡ l.joined → length (joined_octets l.joined) ≤ 1048572 →
     IsSound (record l.state { numbers = v })
-point_leaves l v i word small n h sound kept few =
-    (leaves_as l (heard None (shows (record l.state { numbers = v }) (shown_by i))) (respond_word (taker_of l) word)
-    (sym (ap (λ (x : Option (List ℕ)). respond_word (record { state = l.state; joined = x }) word) (grind arith) ∙ h.1))
-    (leaves_word l word (holds refl sound kept few) small)).sound
+point_leaves l v i u small n f h sound kept few =
+    (leaves_as l (heard None (shows (record l.state { numbers = v }) i)) (respond_word (taker_of l) (says u))
+    (sym (ap (λ (x : Option (List ℕ)). respond_word (record { state = l.state; joined = x }) (says u)) (grind arith)
+    ∙ word_comes l.state u v i h))
+    (leaves_word l (says u) (holds refl sound kept few) small)).sound
+
+-- a point that is read straight, and expected
+pub unit_shows : {y l : Listener} {b : Bool} (u : Meaning) (v : Numbers) (i : Shown) (read : Result Words SpduFault) → y ≡ l →
+    b ≡ is_some y.joined → b ≡ false → read ≡ Ok (says (GT no_token) ∷ says u ∷ [])
+    → respond_unit y.state u ≡ shows (record y.state { numbers = v }) i
+    → react l (came_as read) ≡ only_shows (record y { state = record y.state { numbers = v } }) i
+unit_shows {y = y} u v i read view n f e h = point_shows v i read view n (f, unit_comes y.state u v i read e h)
 
 -- the numbers in a unit that the fast path reads
 pub plain_numbered : (p : PlainUnit) → IsNumberedWord (unit_word p)

@@ -2,7 +2,7 @@
 //! messages. Each TSDU is tried once; any other goes to the general reader.
 
 use super::Session;
-use crate::expected::{Expected, expected_point};
+use crate::expected::{Expected, after_ack, after_point, confirmation_shown, minor_shown};
 use crate::grouping::expects_data;
 use crate::hearing::take_message;
 use crate::indications::Indication;
@@ -11,9 +11,26 @@ use crate::reactions::Reaction;
 use osi_message::{Message, Octets, Place, PlainUnit};
 use std::alloc::AllocError;
 
+/// The SI of a DT.
+const DATA: u8 = 0x01;
+
+/// The SI of a MIP.
+const MINOR_POINT: u8 = 0x31;
+
+/// The SI of a MIA.
+const MINOR_ACK: u8 = 0x32;
+
+/// The most octets of the TSDU of a brief message.
+const LONGEST_BRIEF: usize = 5;
+
+/// Whether a TSDU may be a unit of this SI after a GT that names no token: each other one has another third octet.
+#[inline(always)]
+fn has_unit(tsdu: &[u8], si: u8) -> bool {
+    tsdu.len() > 2 && tsdu[2] == si
+}
+
 impl Session {
-    ghost use Rattle.std.specs.Prelude.{◌≡◌, true, drop, IfOk, IfErr, OnOk, OnErr};
-    ghost use Rattle.osi_message.specs.Plain.{plain_word};
+    ghost use Rattle.std.specs.Prelude.{◌≡◌, true, [], drop, IfOk, IfErr, IfNone, IfSome, OnOk, OnErr};
     ghost use Rattle.osi_message.specs.Words.{part};
     ghost use Rattle.osi_session.specs.Expecting.{Meets, Tries};
     ghost use Rattle.osi_session.specs.Joining.{heard, respond_word, word_verdict};
@@ -22,7 +39,7 @@ impl Session {
     ghost use Rattle.osi_session.specs.Respond.{fine};
     ghost use Rattle.osi_session.specs.Points.{only_shows};
     ghost use Rattle.osi_session.specs.Sessions.{takes_memory};
-    ghost use Rattle.osi_session.specs.Shown.{Data, shown_by};
+    ghost use Rattle.osi_session.specs.Shown.{Data, Minor, MinorConfirmed, shown_by};
     ghost use Rattle.osi_session.specs.Sound.{IsSound};
     ghost use Rattle.osi_session.specs.Steps.{outcome_of};
 
@@ -37,19 +54,95 @@ impl Session {
         ensures err { OnErr result (self.new ≡ self.old) }
         ensures memory { OnErr result (takes_memory self.old (react self.old (came tsdu.now)) ≡ true) }
     {
-        let Some(user_data) = PlainUnit::data(tsdu) else {
-            // A value of its own: otherwise the indication of data, too, would be built in the stack space of this
-            // one.
-            let answer = self.take_plain(tsdu);
-            return answer;
-        };
+        if let Some(user_data) = self.expected_data(tsdu) {
+            return match Octets::copy(self.alloc, user_data) {
+                Ok(user_data) => Ok(Expected::Shown(Indication::Data { user_data })),
+                Err(error) => Err(error),
+            };
+        }
+        if let Some(number) = self.take_minor(tsdu) {
+            return Ok(Expected::Shown(minor_shown(self.alloc, number)));
+        }
+        if let Some(number) = self.take_confirmation(tsdu) {
+            return Ok(Expected::Shown(confirmation_shown(self.alloc, number)));
+        }
+        // A value of its own: otherwise the indication of data, too, would be built in the stack space of this one.
+        let answer = self.take_plain(tsdu);
+        answer
+    }
+
+    /// The user data of a TSDU, if it is whole data that is expected: it is all that is indicated, nothing is sent, and the
+    /// session is as it was. `None` for any other TSDU, which [`Session::take_tsdu`] takes.
+    #[inline(always)]
+    pub fn expected_data<'t>(&self, tsdu: &'t [u8]) -> Option<&'t [u8]>
+        ensures { IfSome result (λ d. react self.now (came tsdu.now) ≡ only_shows self.now (Data d.now)) }
+    {
+        let user_data = PlainUnit::data(tsdu)?;
         if self.joined.is_some() || !expects_data(&self.state) {
-            return Ok(Expected::Other);
+            return None;
         }
-        match Octets::copy(self.alloc, user_data) {
-            Ok(user_data) => Ok(Expected::Shown(Indication::Data { user_data })),
-            Err(error) => Err(error),
+        Some(user_data)
+    }
+
+    /// The number of a minor point that asks for its confirmation, if the TSDU is one with no other parameter, and is
+    /// expected: the numbers are then those after it. A number is small, so the caller builds the indication where it
+    /// needs it.
+    #[inline(always)]
+    pub(super) fn take_minor(&mut self, tsdu: &[u8]) -> Option<u32>
+        ensures shown { IfSome result (λ n. react self.old (came tsdu.now) ≡ only_shows self.new (Minor n true [])) }
+        ensures rests { IfNone result (self.new ≡ self.old) }
+    {
+        if !has_unit(tsdu, MINOR_POINT) {
+            return None;
         }
+        self.take_minor_point(tsdu)
+    }
+
+    /// The same, of a TSDU that may be one. The function is kept out of line, because data is more frequent.
+    #[inline(never)]
+    fn take_minor_point(&mut self, tsdu: &[u8]) -> Option<u32>
+        ensures shown { IfSome result (λ n. react self.old (came tsdu.now) ≡ only_shows self.new (Minor n true [])) }
+        ensures rests { IfNone result (self.new ≡ self.old) }
+    {
+        let number = PlainUnit::minor_point(tsdu)?;
+        if self.joined.is_some() {
+            return None;
+        }
+        let Some(numbers) = after_point(&self.state, number) else {
+            return None;
+        };
+        self.state.numbers = numbers;
+        Some(number.number)
+    }
+
+    /// The number of the confirmation of a minor point, if the TSDU is one with no other parameter, and is expected: the
+    /// numbers are then those after it.
+    #[inline(always)]
+    pub(super) fn take_confirmation(&mut self, tsdu: &[u8]) -> Option<u32>
+        ensures shown { IfSome result (λ n. react self.old (came tsdu.now) ≡ only_shows self.new (MinorConfirmed n [])) }
+        ensures rests { IfNone result (self.new ≡ self.old) }
+    {
+        if !has_unit(tsdu, MINOR_ACK) {
+            return None;
+        }
+        self.take_minor_ack(tsdu)
+    }
+
+    /// The same, of a TSDU that may be one. The function is kept out of line, because data is more frequent.
+    #[inline(never)]
+    fn take_minor_ack(&mut self, tsdu: &[u8]) -> Option<u32>
+        ensures shown { IfSome result (λ n. react self.old (came tsdu.now) ≡ only_shows self.new (MinorConfirmed n [])) }
+        ensures rests { IfNone result (self.new ≡ self.old) }
+    {
+        let number = PlainUnit::minor_ack(tsdu)?;
+        if self.joined.is_some() {
+            return None;
+        }
+        let Some(numbers) = after_ack(&self.state, number) else {
+            return None;
+        };
+        self.state.numbers = numbers;
+        Some(number.number)
     }
 
     /// Tries a TSDU, with the buffer that its octets are in, as whole data that is expected. Such data is indicated
@@ -72,18 +165,22 @@ impl Session {
         })
     }
 
-    /// A TSDU that is not whole data. The function is kept out of line, because data is more frequent.
+    /// A TSDU that is neither whole data nor a point that is expected: a part of one Data, or a brief message. The function is
+    /// kept out of line, because those are more frequent.
     #[inline(never)]
-    fn take_plain(&mut self, tsdu: &[u8]) -> Result<Expected, AllocError>
+    pub(super) fn take_plain(&mut self, tsdu: &[u8]) -> Result<Expected, AllocError>
         ensures { Tries result (react self.old (came tsdu.now)) self.old self.new }
     {
-        let Some(unit) = PlainUnit::read(tsdu) else {
+        if tsdu.len() <= LONGEST_BRIEF {
             let answer = self.take_brief(tsdu);
             return answer;
-        };
-        match unit {
-            PlainUnit::Part { place, user_data } => self.take_part(place, user_data),
-            _ => Ok(self.take_point(unit)),
+        }
+        if !has_unit(tsdu, DATA) {
+            return Ok(Expected::Other);
+        }
+        match PlainUnit::read(tsdu) {
+            Some(PlainUnit::Part { place, user_data }) => self.take_part(place, user_data),
+            _ => Ok(Expected::Other),
         }
     }
 
@@ -124,18 +221,6 @@ impl Session {
                 Expected::Other
             }
         }
-    }
-
-    /// A minor point or a confirmation.
-    fn take_point(&mut self, unit: PlainUnit<'_>) -> Expected
-        ensures { Meets result (moved self.old (respond_word (taker_of self.old) (plain_word unit.entry))) self.old self.new }
-    {
-        let Some(expected) = expected_point(self.alloc, &self.state, self.joined.is_some(), unit)
-        else {
-            return Expected::Other;
-        };
-        self.state.numbers = expected.numbers;
-        Expected::Shown(expected.shown)
     }
 
     /// A part of one Data, which is joined to those before it. The function is kept out of line, because points are

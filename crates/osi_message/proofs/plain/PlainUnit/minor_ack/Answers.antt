@@ -1,0 +1,10 @@
+use Rattle.osi_message.proofs.Vocabulary.{◌∙◌, sym}
+use Rattle.osi_message.specs.declared.plain.PlainUnit.TheVariants as plain
+use Rattle.osi_message.proofs.units_of_the_fast_path.{ack_written, said_plain}
+use Rattle.osi_message.proofs.plain.PlainUnit.minor_ack.Goals as goal
+
+pub returns-clause-said : goal.returns-clause-said
+returns-clause-said c =
+    let n = c.in_ok-serial.serial in
+    said_plain c.what_is_sent_is_read.ensures.read c.what_is_sent_is_read.ensures.said c.what_a_part_says.ensures (plain.MinorAck n)
+    c.args.tsdu.now (c.in_ok-serial.ensures ∙ sym (ack_written n.number))
