@@ -13,6 +13,7 @@ from .tshark import BadInput
 
 PORT = 102
 ALONE = "only one direction is here"
+MULTIPATH = "Multipath TCP, so octets may pass in other streams"
 # What came from a pipe, as files that go when the program ends.
 SPOOLED = []
 
@@ -149,6 +150,8 @@ def why_not(stream):
         return stream.why_not()
     if stream.is_alone():
         return ALONE
+    if stream.is_multipath():
+        return MULTIPATH
     if not stream.is_whole():
         begun = Middle(stream).frame
         return f"begins in the middle, at frame {begun}" if begun is not None else "begins in the middle"

@@ -148,7 +148,8 @@ def block(kind, body, order="<"):
 def told(segment):
     """What a segment says."""
     return [getattr(segment, name) for name in ("frame", "time", "stream", "source", "target", "sequence", "octets", "acknowledged",
-                                                "missing", "captured", "is_first", "is_last", "is_reset", "is_answer")]
+                                                "missing", "captured", "is_first", "is_last", "is_reset", "is_answer", "is_pushed",
+                                                "is_multipath")]
 
 
 class Room(unittest.TestCase):

@@ -324,6 +324,21 @@ class Honest(Room):
             only = self.write(pcap_of([linked(mirrored(frame, place)) for place, frame in enumerate(made)], ETHERNET))
             self.beginning(asking.joined(only, only, 102)[0], is_whole=True)
 
+    @staticmethod
+    def multipath():
+        """A connection whose first segments have the option of Multipath TCP."""
+        made = whole()[0]
+        for place in (0, 1):
+            frame = made[place]
+            option = b"\x01\x01\x1e\x0a\0\x81" + bytes(range(1, 9)) + b"\0\0"
+            made[place] = frame[:2] + struct.pack(">H", len(frame) + len(option)) + frame[4:32] + b"\x90" + frame[33:] + option
+        return made
+
+    def test_octets_that_pass_in_other_streams(self):
+        stream = self.streams(pcap_of(self.multipath()))[0]
+        self.assertEqual(asking.why_not(stream), "Multipath TCP, so octets may pass in other streams")
+        self.assertIsNone(asking.why_not(stream_of(whole()[0])))
+
     def test_times_out_of_order(self):
         chance = random.Random(1)
         times = [1_000_000_000 + chance.randrange(10 ** 9) for _ in whole()[0]]
@@ -687,6 +702,9 @@ class Watched(unittest.TestCase):
             out = self.fed(made, times=times)
         self.assertIn(f"both kept the protocol, judged up to frame {number}, whose one octet may be that of a keepalive of left", out)
         self.assertEqual(self.watching.status(), 3)
+
+    def test_octets_that_pass_in_other_streams(self):
+        self.assertIn("not judged: Multipath TCP", self.fed(Honest.multipath()))
 
     @staticmethod
     def finding(octets):
