@@ -160,10 +160,18 @@ def why_not(stream):
         return f"{kind}, not a session"
     gap = stream.gap()
     if gap and gap.side not in {side for side, _ in stream.by_side()}:
-        return f"the first {gap.many()} of {gap.side} are lost, at frame {gap.frame}" if gap.octets else \
-            f"the first octets of {gap.side}, in frame {gap.frame}, were sent again as others in frame {gap.again}"
+        return of_nothing(gap)
     silent = set(streams.SIDES) - {side for side, _ in stream.by_side()}
     return f"{silent.pop()} sent nothing" if len(silent) == 1 and not gap else None
+
+
+def of_nothing(gap):
+    """Why a stream can't be judged of which nothing is known of one side."""
+    if gap.octets:
+        return f"the first {gap.many()} of {gap.side} are lost, at frame {gap.frame}"
+    if isinstance(gap, streams.Doubt):
+        return f"the first octets of {gap.side}, in frame {gap.frame}, were sent again as others in frame {gap.again}"
+    return f"nothing of {gap.side} is known up to {gap}"
 
 
 def write_all(files):

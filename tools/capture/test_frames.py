@@ -322,6 +322,14 @@ class Segments(unittest.TestCase):
     def test_numbers_that_begin_anew(self):
         self.assertEqual(self.joined(Frames(first={"left": SPACE - 20, "right": SPACE - 3}).open().talk().close().frames), whole()[1])
 
+    def test_an_acknowledgement_of_the_number_0(self):
+        """What acknowledges lost octets up to the place at which numbers begin anew is left out."""
+        made = Frames(first={"left": SPACE - len(CR + CN) - 1, "right": 5_000}).open().frames
+        reader = frames.Reader()
+        found = streams.joined(reader.feed(pcap_of(made[:5] + made[6:])))[0]
+        self.assertEqual([piece.octets for _, piece in found.by_side()], [CR, CC])
+        self.assertEqual(str(found.gap()), f"frame 6, where left lost {len(CN)} octets")
+
     def test_segments_of_one_octet(self):
         for first in (FIRST, {"left": SPACE - 9, "right": SPACE - 30}):
             self.assertEqual(self.joined(Frames(first, mtu=1).open().talk().close().frames), whole()[1])

@@ -46,7 +46,7 @@ class Segment:
         if flags & (FIN | SYN | RESET):
             self.is_first, self.is_last, self.is_reset = bool(flags & SYN), bool(flags & FIN), bool(flags & RESET)
             self.is_answer = flags & (SYN | ACK) == SYN | ACK
-        self.acknowledged = int(number) if flags & (ACK | RESET) == ACK and number else None
+        self.acknowledged = int(number) if flags & (ACK | RESET) == ACK and number != "" else None
 
 
 # Where and in what each segment with octets is, and whether its checksum is wrong (0) or right (1).
