@@ -208,8 +208,8 @@ class Direction:
                 return
             at += 1
         if self.alone and len(octets) > 1:
-            for each in [each for each in self.alone if place <= each < last]:
-                del self.alone[each]
+            for each in range(place, last):
+                self.alone.pop(each, None)
 
     def head(self):
         """The octets that wait and are the next ones, or None."""
