@@ -13,6 +13,7 @@ from .tshark import BadInput
 
 PORT = 102
 ALONE = "only one direction is here"
+MULTIPATH = "Multipath TCP, so octets may pass in other streams"
 # What came from a pipe, as files that go when the program ends.
 SPOOLED = []
 
@@ -149,6 +150,8 @@ def why_not(stream):
         return stream.why_not()
     if stream.is_alone():
         return ALONE
+    if stream.is_multipath():
+        return MULTIPATH
     if not stream.is_whole():
         begun = Middle(stream).frame
         return f"begins in the middle, at frame {begun}" if begun is not None else "begins in the middle"
@@ -157,10 +160,18 @@ def why_not(stream):
         return f"{kind}, not a session"
     gap = stream.gap()
     if gap and gap.side not in {side for side, _ in stream.by_side()}:
-        return f"the first {gap.many()} of {gap.side} are lost, at frame {gap.frame}" if gap.octets else \
-            f"the first octets of {gap.side}, in frame {gap.frame}, were sent again as others in frame {gap.again}"
+        return of_nothing(gap)
     silent = set(streams.SIDES) - {side for side, _ in stream.by_side()}
     return f"{silent.pop()} sent nothing" if len(silent) == 1 and not gap else None
+
+
+def of_nothing(gap):
+    """Why a stream can't be judged of which nothing is known of one side."""
+    if gap.octets:
+        return f"the first {gap.many()} of {gap.side} are lost, at frame {gap.frame}"
+    if isinstance(gap, streams.Doubt):
+        return f"the first octets of {gap.side}, in frame {gap.frame}, were sent again as others in frame {gap.again}"
+    return f"nothing of {gap.side} is known up to {gap}"
 
 
 def write_all(files):

@@ -1,7 +1,7 @@
 """Finds frames that were damaged on their way, by their TCP checksums. Their receiver throws them away, so nobody is blamed for them.
 
 A machine that captures what it sends itself has wrong checksums in all its frames, since its card writes them later, or sums of the
-addresses alone. So a checksum is wrong only if most of the same direction are right.
+addresses alone. So a checksum says nothing if more of the same direction are wrong than right.
 """
 import functools
 import os
@@ -36,7 +36,7 @@ class Sums(frames.Reader):
 
     def damaged(self):
         """The numbers of the frames that were damaged."""
-        return {number for way, numbers in self.wrong.items() if len(numbers) < self.right[way] for number in numbers}
+        return {number for way, numbers in self.wrong.items() if len(numbers) <= self.right[way] for number in numbers}
 
 
 def damaged(path):

@@ -122,8 +122,8 @@ class Direction:
                 self.hurt.popitem(last=False)
 
     def is_hurt(self, frame):
-        """Whether a frame was damaged on its way: its checksum is wrong, and most others are right."""
-        return frame in self.hurt and self.wrong < self.right
+        """Whether a frame was damaged on its way: its checksum is wrong, and not more of the direction are wrong than right."""
+        return frame in self.hurt and self.wrong <= self.right
 
     def end_at(self, place):
         """Notes where the direction ends. (An end before what passed is one of another connection.)"""
@@ -208,8 +208,8 @@ class Direction:
                 return
             at += 1
         if self.alone and len(octets) > 1:
-            for each in [each for each in self.alone if place <= each < last]:
-                del self.alone[each]
+            for each in range(place, last):
+                self.alone.pop(each, None)
 
     def head(self):
         """The octets that wait and are the next ones, or None."""

@@ -30,6 +30,8 @@ EXTENSIONS = (0, 43, 60)
 PLAIN_PORTS = {53, 67, 68, 69, 123, 137, 138, 161, 162, 319, 320, 514, 546, 547, 1900, 5353, 5355}
 # The errors of ICMP that quote a packet.
 QUOTES = {ICMP: (3, 4, 5, 11, 12), ICMP_6: (1, 2, 3, 4)}
+# The option of a first segment that asks for Multipath TCP (RFC 8684).
+MULTIPATH = 30
 HEAD, SUM = struct.Struct(">IIBB"), slice(16, 18)
 
 
@@ -94,6 +96,8 @@ class Reader:
         if flags & (FIN | RESET):
             way.is_ended = True
         made = made_of(number, time, way, sequence, acknowledged, flags, frame[begin:end], end - begin)
+        if flags & SYN:
+            made.is_multipath = MULTIPATH in options(frame[at + 20:begin])
         if self.has_sums and begin < end <= len(frame):
             made.is_right = is_right(addresses, frame[at:end])
         return made
@@ -146,6 +150,14 @@ def made_of(number, time, way, sequence, acknowledged, flags, octets, length):
     if len(octets) == 1:
         made.is_pushed = bool(flags & PUSH)
     return made
+
+
+def options(octets):
+    """The kinds of the options of a header of TCP."""
+    at = 0
+    while at < len(octets) and octets[at]:
+        yield octets[at]
+        at += 1 if octets[at] == 1 else max(2, int.from_bytes(octets[at + 1:at + 2], "big"))
 
 
 def is_right(addresses, segment):

@@ -97,6 +97,8 @@ class Stream:
         self.number, self.ends, self.pieces, self.opener, self.requester = number, ends, [], None, None
         self.directions = {end: Direction() for end in ends}
         self.is_over = self.is_other = self.is_crossed = False
+        # The ends that ask for Multipath TCP.
+        self.multipath = set()
         self.last, self.early = None, []
 
     def take(self, segment):
@@ -112,6 +114,7 @@ class Stream:
             return
         self.early.append(segment)
         if segment.is_first:
+            self.multipath |= {segment.source} if segment.is_multipath else set()
             self.note_opener(segment.target if segment.is_answer else segment.source)
             own.begin(segment)
         is_refused = segment.is_reset and self.opener not in (None, segment.source)
@@ -290,6 +293,10 @@ class Stream:
     def is_alone(self):
         """Whether only one direction is here: of the other one there is no segment."""
         return not all(direction.is_here for direction in self.directions.values())
+
+    def is_multipath(self):
+        """Whether octets may pass in other streams, too."""
+        return len(self.multipath) == 2
 
     def is_whole(self):
         """Whether the stream is here from its beginning."""

@@ -148,7 +148,8 @@ def block(kind, body, order="<"):
 def told(segment):
     """What a segment says."""
     return [getattr(segment, name) for name in ("frame", "time", "stream", "source", "target", "sequence", "octets", "acknowledged",
-                                                "missing", "captured", "is_first", "is_last", "is_reset", "is_answer")]
+                                                "missing", "captured", "is_first", "is_last", "is_reset", "is_answer", "is_pushed",
+                                                "is_multipath")]
 
 
 class Room(unittest.TestCase):
@@ -320,6 +321,14 @@ class Segments(unittest.TestCase):
 
     def test_numbers_that_begin_anew(self):
         self.assertEqual(self.joined(Frames(first={"left": SPACE - 20, "right": SPACE - 3}).open().talk().close().frames), whole()[1])
+
+    def test_an_acknowledgement_of_the_number_0(self):
+        """What acknowledges lost octets up to the place at which numbers begin anew is left out."""
+        made = Frames(first={"left": SPACE - len(CR + CN) - 1, "right": 5_000}).open().frames
+        reader = frames.Reader()
+        found = streams.joined(reader.feed(pcap_of(made[:5] + made[6:])))[0]
+        self.assertEqual([piece.octets for _, piece in found.by_side()], [CR, CC])
+        self.assertEqual(str(found.gap()), f"frame 6, where left lost {len(CN)} octets")
 
     def test_segments_of_one_octet(self):
         for first in (FIRST, {"left": SPACE - 9, "right": SPACE - 30}):

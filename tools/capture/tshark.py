@@ -8,7 +8,7 @@ from ladders.transcript import BadInput
 
 # What is asked of each segment.
 FIELDS = ("frame.number", "frame.time_epoch", "tcp.stream", "ip.src", "ipv6.src", "tcp.srcport", "ip.dst", "ipv6.dst", "tcp.dstport",
-          "tcp.seq_raw", "tcp.ack_raw", "tcp.flags", "tcp.len", "frame.cap_len", "tcp.payload")
+          "tcp.seq_raw", "tcp.ack_raw", "tcp.flags", "tcp.len", "frame.cap_len", "tcp.payload", "tcp.options.mptcp.subtype")
 # An ICMP message about a segment quotes it, and is none.
 TCP = "tcp and not icmp and not icmpv6"
 # Nothing above TCP is dissected, which takes most of tshark's time, and of packets within packets the innermost counts.
@@ -26,11 +26,11 @@ class Segment:
     watch whether its checksum is right, if it has octets."""
 
     acknowledged, missing, captured, key, is_right = None, 0, 0, None, None
-    is_first = is_last = is_reset = is_answer = is_pushed = is_soon = False
+    is_first = is_last = is_reset = is_answer = is_pushed = is_soon = is_multipath = False
 
     def __init__(self, values):
         (frame, time, stream, source, source_6, source_port, target, target_6, target_port, sequence, number, flags, length, captured,
-         octets) = values
+         octets, *multipath) = values
         self.frame, self.time, self.stream = int(frame), float(time), int(stream)
         self.source, self.target = (source or source_6, int(source_port)), (target or target_6, int(target_port))
         self.sequence = int(sequence)
@@ -38,6 +38,7 @@ class Segment:
         self.tell(int(flags, 0), number)
         self.missing = max(int(length or 0) - len(self.octets), 0)
         self.captured = int(captured or 0)
+        self.is_multipath = self.is_first and any(multipath)
         self.is_pushed = len(self.octets) == 1 and bool(int(flags, 0) & PUSH)
 
     def tell(self, flags, number):
@@ -45,7 +46,7 @@ class Segment:
         if flags & (FIN | SYN | RESET):
             self.is_first, self.is_last, self.is_reset = bool(flags & SYN), bool(flags & FIN), bool(flags & RESET)
             self.is_answer = flags & (SYN | ACK) == SYN | ACK
-        self.acknowledged = int(number) if flags & (ACK | RESET) == ACK and number else None
+        self.acknowledged = int(number) if flags & (ACK | RESET) == ACK and number != "" else None
 
 
 # Where and in what each segment with octets is, and whether its checksum is wrong (0) or right (1).

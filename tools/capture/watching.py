@@ -209,6 +209,9 @@ class Fed(Watched):
         if source not in self.heard:
             self.heard.add(source)
             direction = self.stream.directions[source]
+            if self.stream.is_multipath():
+                self.found = f"not judged: {asking.MULTIPATH}", None
+                return False
             if not (direction.has_first or self.may_begin(source, piece.octets)):
                 self.found = "not judged: begins in the middle", None
                 return False
