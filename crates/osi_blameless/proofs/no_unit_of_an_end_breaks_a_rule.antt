@@ -172,9 +172,9 @@ module _ (d : Direction) where
       last : Stood proper is_caller local fair fair_alone comes.last
       last = stood_along proper is_caller local fair fair_alone comes.steps (begin h) comes.last
           (along_too d comes.steps (begin h) comes.last comes.along) (record {
-        followed = begin_followed d is_caller local h anew;
-        nowhere = grind (arith, nothing);
-      })
+            followed = begin_followed d is_caller local h anew;
+            nowhere = grind (arith, nothing);
+          })
 
       by : ((comes_to capture).course ≡ comes.last.course) ⊎ GoesOn d capture comes.last → IsBlamedNowhere (comes_to capture).course
       by (inl is) = subst IsBlamedNowhere (sym is) last.nowhere

@@ -78,9 +78,11 @@ take_more (x ∷ xs) ys n =
 
 begun_after : (old mid new : Option (List ℕ)) (xs ys : List ℕ) → Appends old mid xs → BeginsToAppend mid new ys
     → BeginsToAppend old new (xs ++ ys)
-begun_after old mid new xs ys h (n, k) =
-    (length xs + n, same_appends old new (xs ++ take n ys) (take (length xs + n) (xs ++ ys)) (take_more xs ys n)
-      (appends_both old mid new xs (take n ys) h k))
+begun_after old mid new xs ys h (n, k) = (
+  length xs + n,
+  same_appends old new (xs ++ take n ys) (take (length xs + n) (xs ++ ys)) (take_more xs ys n)
+      (appends_both old mid new xs (take n ys) h k),
+)
 
 part_after : (text : List ℕ) (old mid new : Option (List ℕ)) → Announces text old mid → AnnouncesPart text mid new
     → AnnouncesPart text old new

@@ -70,7 +70,7 @@ module _ (local : Local) (w : Whole) (f : Followed local w) (sane : IsSane w.jud
   line_idle c sound tracked g true e = line_takes c sound tracked g e
   line_idle c sound tracked g false e =
       following_other local w.put w.begun w.judge.course.disconnects.strays w.judge.course.disconnects.strays w.end w.coming c v
-        (λ h. h) g e
+      (λ h. h) g e
 
   still_asking : (x : Connect) → IsAsking local w.end w.coming x → IsAsking local w.end more x
   still_asking x a = grind (arith, early_other, picked_more, all_add, is_dc)

@@ -217,8 +217,14 @@ module _ (local : Local) (w : Whole) (f : Called local w) (apart : AreApart w.ju
           (λ same. let top = f.tops i e there in let less = above_cc.0 in absurd (omega arith))))
 
       cc_kept : found_on Right w.judge c u ≡ Kept
-      cc_kept = grind (arith, u_cc, judged_so, unused, two_right local h.x h.size h.r c w.judge.course h.selected h.asked.offer
-          h.asked.right)
+      cc_kept = grind (
+        arith,
+        u_cc,
+        judged_so,
+        unused,
+        two_right local h.x h.size h.r c w.judge.course h.selected h.asked.offer
+            h.asked.right,
+      )
 
       cc_route : route Right w.judge.course u ≡ Named n
       cc_route = grind (arith, u_cc)

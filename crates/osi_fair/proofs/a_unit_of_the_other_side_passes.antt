@@ -517,7 +517,7 @@ module _ (local : Local) (w : Whole) (f : Followed local w) (sane : IsSane w.jud
     linked = λ lasts r peer link h. let (k, two) = f.linked lasts r peer link h in (tracked_to r k, two);
     answers = all_add (λ u. IsAnswer after.judge.course.loose after.judge.connections w.end u) w.coming v
         (all_so (λ u. IsAnswer w.judge.course.loose cs w.end u) (λ u. IsAnswer after.judge.course.loose after.judge.connections w.end u)
-          w.coming
+        w.coming
         (λ u h m x e lasts why.
         let (k, row) = h m x e lasts (grind (arith, why_before, lasts_passing (passing Right v) w.judge)) in
         (tracked_to m k, row)) f.answers) (answers_to next_so);

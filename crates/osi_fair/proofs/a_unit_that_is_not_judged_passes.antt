@@ -122,7 +122,7 @@ module _ (local : Local) (w : Whole) (f : Followed local w) (sane : IsSane w.jud
       put_ignored =
           let k : Keeps Left g.r g.peer g.line = tracks_keep g.r g.peer g.line g.tracks in
           let (there, is) = subst (λ (x : Connection). (is_silent x.seen_by_left.phase ≡ false) ×
-              (x.seen_by_left.reference ≡ g.peer)) g.judge
+          (x.seen_by_left.reference ≡ g.peer)) g.judge
           (k.seen_so (grind (arith, put_some, leads, is_ours, both))) in
           let named : is_named Left g.peer c ≡ true = grind (arith, name_so, eq-eqb) in
           lost_ignored u w.judge g.peer p c left (f.seen p c at tracked there) (ours_is g.r g.peer u mine).named

@@ -208,7 +208,7 @@ module _ (local : Local) (w : Whole) (f : Called local w) (t : State) (coming : 
     shut_given = λ r e. subst (λ (j : ℕ). r ≤ j) (sym given) (f.shut_given r e);
     strays = subst (λ (l : List Placed). AreStrays f.shut t f.refs f.home w.judge.course.disconnects.strays l) (append-nil f.tagged)
         (strays_keep f.shut f.shut w.end t f.refs f.refs f.home f.home w.judge.course.disconnects.strays f.tagged [] stray_over tt
-          f.strays);
+        f.strays);
     last = f.last;
     tops = f.tops;
     above = subst (λ (j : ℕ). AreAbove j f.last (values f.tagged)) (sym given) f.above;

@@ -118,7 +118,7 @@ module _ (d : Direction) (r peer : ℕ) (old new : Line) (h : Keeps d r peer old
   act_keeps (passes_other course in_use unit) (ranges, dest, some, new_is) =
       let f = finding_of (other d) course in_use old.judge unit in
       let after = theirs_after d (is_applied f) unit (reach_of (Some Two) f) old.judge
-          (no_cc d course in_use old.judge unit h.there) h.there in
+      (no_cc d course in_use old.judge unit h.there) h.there in
       grind (arith, seen_after)
 
 opened_keeps : (d : Direction) (r peer : ℕ) (line : Line) → IsOpened d r peer line → Keeps d r peer line

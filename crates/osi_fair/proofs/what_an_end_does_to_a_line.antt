@@ -106,8 +106,13 @@ module _ (r peer limit : ℕ) (x : Tally) (noted : ℕ) (judge : Connection) (o 
       PutsAt r peer limit x judge.left judge.right put (Some link) → taken link (acknowledge credit destination number) ≡ Ok after →
       Moved r peer limit noted judge (put ++ []) coming after
   takes_ack put coming link after credit destination number h p e =
-      grind (arith, comes_within, puts_same, takes_so link after h.flow (acknowledge credit destination number) h.is e,
-        came_of x judge.right)
+      grind (
+        arith,
+        comes_within,
+        puts_same,
+        takes_so link after h.flow (acknowledge credit destination number) h.is e,
+        came_of x judge.right,
+      )
 
   hands_out : (put coming : List Value) (link after : Standing) (tsdu : List ℕ) → linked limit x judge.right coming link →
       PutsAt r peer limit x judge.left judge.right put (Some link) → Hands (Some tsdu) link after →

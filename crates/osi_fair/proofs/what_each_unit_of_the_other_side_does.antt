@@ -158,7 +158,7 @@ judged_finding course in_use judge unit judged = ap (λ (b : Bool). if b then fo
 
 pub passes_other_holds : (r peer : ℕ) (course : Course) (in_use : Bool) (unit : Value) (old new : Line) →
     Acts Left r peer (passes_other course in_use unit) old new → old.judge.is_judged ≡ true → new.judge.is_judged ≡ true →
-      Holds r peer old →
+    Holds r peer old →
     Holds r peer new
 passes_other_holds r peer course in_use unit old new (range, named, some, new_is) was judged h =
     let f = found Right course in_use old.judge unit in
@@ -168,7 +168,7 @@ passes_other_holds r peer course in_use unit old new (range, named, some, new_is
     ∙ ap (λ (g : Finding). record old { judge = after_finding Right g unit old.judge; coming = old.coming ++ unit ∷ [] }) is in
     let still : (after_finding Right f unit old.judge).is_judged ≡ true = sym (ap (λ (l : Line). l.judge.is_judged) after) ∙ judged in
     let w = unit_goes r peer h.limit h.tally h.noted old.judge old.put old.coming old.link h.ordered h.judges h.puts h.takes course in_use
-        unit
+    unit
     range named stop still in
     subst (λ (l : Line). Holds r peer l) (sym after)
     (record {

@@ -80,7 +80,7 @@ module _ (r peer limit : ℕ) (x : Tally) (noted : ℕ) (judge : Connection) (pu
       let n = t.their_next in
       let few = ltb-true (steps_from judge.left.awaited judge.right.next) 127 tells in
       goes_later (x.came + 1) x.heard x.edge (half_after (data2 destination number end user) judge.right)
-        (data2 destination number end user)
+      (data2 destination number end user)
       (record { next = omega arith; awaited = omega arith; credit = omega arith; closing = λ c. c })
       (omega (arith, o))
       (grind arith)

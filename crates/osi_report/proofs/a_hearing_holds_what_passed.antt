@@ -51,7 +51,7 @@ not_heard h c whole more e k =
 pub heard_step : {E : Type 0} (r : Result (Unit {0}) E) (old new : Hearing) (c : ℕ) (s : Step) → step_of old.place c ≡ Some s
     → new.place ≡ s.place → new.fault ≡ old.fault
     → OnOk r ((capture : Capture) → HoldsState old.judge (comes_to capture) →
-      HoldsState new.judge (comes_to (capture ++ passed_by s.passing)))
+    HoldsState new.judge (comes_to (capture ++ passed_by s.passing)))
     → ((capture : Capture) → Opens old.opening (stream side.Left capture)
     → Opens new.opening (stream side.Left (capture ++ passed_by s.passing)))
     → OnOk r ((whole more : List ℕ) → IsHeard old whole (c ∷ more) → IsHeard new whole more)
@@ -97,6 +97,6 @@ all_heard h text e k =
 -- and its judgement
 pub judged_all : (h : Hearing) (text lines : List ℕ) (status : ℕ) → h.place.half ≡ None
     → ((c : Capture) → HoldsState h.judge (comes_to c) → Opens h.opening (stream side.Left c) →
-      Judges (unjudged c) (comes_to c) lines status)
+    Judges (unjudged c) (comes_to c) lines status)
     → IsHeard h text [] → IsJudgement text lines status
 judged_all h text lines status e f k = record { capture = k.capture; reads = all_heard h text e k; judged = f k.capture k.holds k.opens }

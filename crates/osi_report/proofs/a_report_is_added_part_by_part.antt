@@ -31,17 +31,17 @@ place_of n m e = omega (arith, e)
 
 pub more_added : (judged : Bool) (ss : Sessions) (n : ℕ) (old mid new : List ℕ) (some all : Together) (p : Pair)
     → AddsPairs judged ss n old mid some → AddsPair judged (numbered n ss) mid new p → all.keeps ≡ (some.keeps && p.keeps) →
-      all.over ≡ (some.over || p.over)
+    all.over ≡ (some.over || p.over)
     → AddsPairs judged ss (n + 1) old new all
 more_added judged ss n old mid new some all p h k e o = let place : n ≡ 0 + length h.pairs = place_of n (length h.pairs) h.as_many in
     record {
-  pairs = h.pairs ++ p ∷ [];
-  as_many = one_longer h.pairs p ∙ ap (λ (z : ℕ). z + 1) h.as_many;
-  each = grind (arith, more_pairs);
-  added = grind (arith, append-nil, append_assoc, flat_map-append);
-  kept = e ∙ (λ i. h.kept i && p.keeps) ∙ sym (one_keeps h.pairs p);
-  over = o ∙ (λ i. h.over i || p.over) ∙ sym (one_over h.pairs p);
-}
+      pairs = h.pairs ++ p ∷ [];
+      as_many = one_longer h.pairs p ∙ ap (λ (z : ℕ). z + 1) h.as_many;
+      each = grind (arith, more_pairs);
+      added = grind (arith, append-nil, append_assoc, flat_map-append);
+      kept = e ∙ (λ i. h.kept i && p.keeps) ∙ sym (one_keeps h.pairs p);
+      over = o ∙ (λ i. h.over i || p.over) ∙ sym (one_over h.pairs p);
+    }
 
 pub all_added : (judged : Bool) (ss : Sessions) (n m : ℕ) (old new : List ℕ) (all : Together) → n ≡ m → AddsPairs judged ss n old new all
     → AddsPairs judged ss m old new all

@@ -265,7 +265,7 @@ module _ (local : Local) (w : Whole) (t : Sessions) (f : Called local w) (apart 
 
   ordered_one : (n r : ℕ) (front rest : List Placed) (o : Option ℕ) (v : Value) → f.tagged ≡ front ++ (o, v) ∷ rest →
       StrayIf f.shut w.end f.refs f.home w.judge.course.disconnects.strays o v rest → IsNotZero v → is_for (Some n) v ≡ true →
-        CcAt n r rest →
+      CcAt n r rest →
       ⊥
   ordered_one n r front rest None v is stray zero mine k = differ (is_for (Some n) v) mine (ap (is_for (Some n)) stray.is)
   ordered_one n r front rest (Some p) v is stray zero mine k = by (slice_get w.judge.connections p) refl

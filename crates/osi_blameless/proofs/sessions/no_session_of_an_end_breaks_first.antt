@@ -458,7 +458,7 @@ module _ (proper : AllProper) (barred : Class) (d : Direction) (local : Local)
       (judge_stays (passes_own at v) tt deeds old mid one (along_within steps mid new more within) s)
   along_so (begins_other ∷ steps) deeds old new (mid, one, more) does within s =
       along_so steps deeds mid new more does within (judge_stays begins_other tt deeds old mid one
-        (along_within steps mid new more within) s)
+      (along_within steps mid new more within) s)
   along_so (passes_other at octets units ∷ steps) deeds old new (mid, one, more) does within s =
       along_so steps deeds mid new more does within
       (judge_stays (passes_other at octets units) tt deeds old mid one (along_within steps mid new more within) s)

@@ -166,7 +166,7 @@ module _ (local : Local) (v : Value) (w : Whole) (rest : List Value) (put : w.pu
   own_closed (nowhere place cs ts) p x at = q.closed p x (ap (λ (l : List Connection). slice_get l p) (sym cs) ∙ at)
   own_closed (somewhere i c k b r place there here one finding is far cs ts) p x at =
       by (after_set w.judge.connections i p (connection_after way.Left v b r c) x
-        (ap (λ (l : List Connection). slice_get l p) (sym cs) ∙ at))
+      (ap (λ (l : List Connection). slice_get l p) (sym cs) ∙ at))
     where
       by : ((p ≡ i) × (x ≡ connection_after way.Left v b r c)) ⊎ (slice_get w.judge.connections p ≡ Some x) → IsPast w.end x.left
       by (inr was) = q.closed p x was
@@ -253,7 +253,7 @@ module _ (local : Local) (v : Value) (w : Whole) (j : Follows local w) (on : All
 
 module _ (local : Local) (v : Value) (ranges : HasFieldsInRange v) (w : Whole) (j : Follows local w) (zero : IsNoZero v)
     (clear : IsOngoing w.judge.course) (then_clear : IsOngoing (takes way.Right v w.judge).state.course)
-        (q : IsQuiet w.end w.coming w.judge)
+    (q : IsQuiet w.end w.coming w.judge)
     (now : (r : ℕ) → MayOpen w.end r → IsForOne r v → Tracked w.judge.connections r) where
   abbrev other_after : Whole
   other_after = record w { judge = (takes way.Right v w.judge).state; coming = w.coming ++ v ∷ [] }

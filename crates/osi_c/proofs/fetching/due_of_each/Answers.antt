@@ -11,7 +11,7 @@ pub connections-preserved : goal.connections-preserved
 connections-preserved c =
     let lt : c.connections.place < length c.args.joints.now = omega arith in
     one_more_place (HasNoneBy c.args.held.now c.args.held.now.told.items) c.args.joints.now c.connections.place
-      c.index-joints-place.result lt
+    c.index-joints-place.result lt
     c.connections.invariant
     (subst (HasNoneBy c.args.held.now c.args.held.now.told.items) c.index-joints-place.is
     (none_is c.due_by-due.result _ (sym c.is_some.ensures ∙ c.if-is_some.false) c.due_by-due.ensures.none))

@@ -11,7 +11,7 @@ pub connections-preserved : goal.connections-preserved
 connections-preserved c =
     let lt : c.connections.place < length c.args.pasts.now = omega arith in
     one_more_place (HasNoneByPast c.args.held.now c.args.held.now.told.items) c.args.pasts.now c.connections.place
-      c.index-pasts-place.result lt
+    c.index-pasts-place.result lt
     c.connections.invariant
     (subst (HasNoneByPast c.args.held.now c.args.held.now.told.items) c.index-pasts-place.is
     (none_is c.due_by_past-due.result _ (sym c.is_some.ensures ∙ c.if-is_some.false) c.due_by_past-due.ensures.none))

@@ -4,8 +4,10 @@ use Rattle.osi_c.proofs.fetching.fetch_decided.Goals as goal
 
 pub returns-then-is_undecided : goal.returns-then-is_undecided
 returns-then-is_undecided c = λ settled. record {
-  settles = record { keeps = same_kept c.args.held.now c.args.held.now (record { judge = refl; opening = refl; text = refl }) refl;
-      settled = settled };
+  settles = record {
+    keeps = same_kept c.args.held.now c.args.held.now (record { judge = refl; opening = refl; text = refl }) refl;
+    settled = settled;
+  };
   none = inl (late_is c.is_undecided.result true c.args.held.now c.is_undecided.ensures c.if-is_undecided.true);
 }
 

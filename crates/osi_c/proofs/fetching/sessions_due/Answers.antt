@@ -7,5 +7,5 @@ returns-in-None-clause-none c =
     none_as c.due_of_pasts.result (HasNoneByPasts c.args.held.now c.args.held.now.told.items c.replaced.result.now)
     (HasNoneOfSessions c.args.held.now c.args.held.now.told.items)
     (of_any_number c.args.held.now c.args.held.now.told.items c.placed.result.now c.replaced.result.now c.placed.ensures.held
-      c.placed.ensures.heard
+    c.placed.ensures.heard
     c.replaced.ensures c.in-None.ensures.none) c.due_of_pasts.ensures.none

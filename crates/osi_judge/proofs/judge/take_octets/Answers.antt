@@ -12,6 +12,6 @@ returns-clause-ok c = λ s h.
     let count = length-take-le n octets e.within in
     let some = some_of n octets (sym c.is_empty.ensures ∙ c.if-is_empty.false) e.some count in
     taken_looked c.look_at-is_whole.result c.begins-begins.result c.args.direction
-      (take n octets) c.args.proceedings.now c.begin_if.new.proceedings
+    (take n octets) c.args.proceedings.now c.begin_if.new.proceedings
     c.look_at-is_whole.new.proceedings old mid (streamed c.look_at-is_whole.new.stream) s h some
     (takes_of n octets old mid e.used e.within e.spent e.takes count) c.begins-begins.ensures c.begin_if.ensures c.look_at-is_whole.ensures

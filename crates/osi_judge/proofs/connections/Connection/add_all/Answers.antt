@@ -8,7 +8,7 @@ pub returns-in-Left-clause-ok : goal.returns-in-Left-clause-ok
 returns-in-Left-clause-ok c =
     on_ok c.add_last.result c.add_last.ensures.ok (λ k j h.
     left_added c.args.direction c.args.self.now c.add_last.new.own c.add_last.new.other j c.args.at c.args.end c.args.octets.now
-      c.in-Left.is h
+    c.in-Left.is h
     (k seen_calling seen_called j.left j.right h.sides))
 
 pub returns-in-Left-clause-err : goal.returns-in-Left-clause-err
@@ -26,7 +26,7 @@ pub returns-in-Right-clause-ok : goal.returns-in-Right-clause-ok
 returns-in-Right-clause-ok c =
     on_ok c.add_last-in-Right.result c.add_last-in-Right.ensures.ok (λ k j h.
     right_added c.args.direction c.args.self.now c.add_last-in-Right.new.own c.add_last-in-Right.new.other j c.args.at c.args.end
-      c.args.octets.now
+    c.args.octets.now
     c.in-Right.is h (k seen_called seen_calling j.right j.left (flipped h.sides)))
 
 pub returns-in-Right-clause-err : goal.returns-in-Right-clause-err
