@@ -550,6 +550,14 @@ class Watched(unittest.TestCase):
         unwritten = self.fed(self.moved(made, 43_000), True)
         self.assertIn("broke", unwritten)
 
+    def test_the_first_frame_with_octets_was_damaged(self):
+        self.reader.has_sums = True
+        made = Frames().begin().send("left", packet(CR[4:] + b"wrong")).send("right", CC).send("left", CN).send("right", AC).frames
+        right = [summed(frame) for frame in made]
+        with self.finding(b"wrong"):
+            out = self.fed(right[:3] + [made[3][:36] + b"\x12\x34" + made[3][38:]] + right[4:], True)
+        self.assertNotIn("broke", out)
+
     @staticmethod
     def moved(made, port=42_000):
         """The frames of a connection from another port."""
