@@ -35,7 +35,7 @@ of_an_end = record {
 
 abbrev pub of_a_judge : SlotKind
 of_a_judge = record {
-  held = held;
+  held = judge;
   laws = judge_laws;
   handle = judge_handle;
   at = λ h. h.at;
