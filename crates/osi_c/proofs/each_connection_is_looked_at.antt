@@ -19,8 +19,8 @@ use Rattle.osi_judge.specs.States.{State}
 use Rattle.osi_c.specs.Fed.{fed, WasFed}
 use Rattle.osi_c.specs.Judges.{AreDoneWith, IsDoneWith, Knows}
 use Rattle.osi_c.specs.Notes.{IsNoteOf, IsStill, IsStillAt, IsStillOf, IsStillPast, StillIf, StillPastIf, is_certain}
-use Rattle.osi_c.specs.Fetching.{HasNone, HasNoneBy, HasNoneByEach, HasNoneByPast, HasNoneByPasts, HasNoneOf, HasNoneOfSessions}
-use Rattle.osi_c.specs.Fetching.{HasNoneAt, AreDoneBy, DoneByBothIf, DoneByIf, IsDoneBy, IsDoneByBoth}
+use Rattle.osi_c.specs.Fetching.{HasNone, HasNoneBy, HasNoneByEach, HasNoneByPast, HasNoneByPasts, HasNoneOf, HasNoneOfSessions, HasNoneAt}
+use Rattle.osi_c.specs.Fetching.{AreDoneBy, DoneByBothIf, IsDoneBy, IsDoneByBoth}
 use Rattle.osi_c.specs.Subjects.{told_by}
 use Rattle.osi_c.proofs.a_piece_passes_to_a_judge.{was_fed}
 use Rattle.osi_c.specs.declared.judges.HeldJudge.{HeldJudge}
@@ -229,16 +229,9 @@ note_of_silent d w told capture number (Some j) e h k fresh is = elim is.1 [
 
 -- ---- those that are over are passed over
 
-pub done_if : (b : Bool) (d : Direction) (told : Subject → Bool) (p : Past) → b ≡ true → DoneByIf b d told p → IsDoneBy d told p
-done_if b d told p e h = grind arith
-
 pub both_done_if : (b : Bool) (told : Subject → Bool) (p : Past) → b ≡ true → DoneByBothIf b told p → IsDoneByBoth told p
 both_done_if true told p e h = h
 both_done_if false told p e h = absurd (cc)
-
-pub done_as : (b : Bool) (d : Direction) (told : Subject → Bool) (p : Past) → IsDoneBy d told p → DoneByIf b d told p
-done_as true d told p h = h
-done_as false d told p h = tt
 
 -- C was told of it
 pub done_told : (d : Direction) (told : Subject → Bool) (p : Past) (n : ℕ) → ((j : Joined) → HoldsPast p j → n ≡ j.number)
