@@ -16,8 +16,8 @@ QUIET = 1.0
 SIGNS, KNOWN = 2, -9
 # How far ahead of the octets that passed the number of an empty segment may be.
 NEAR = 16_777_216
-# How many frames with wrong checksums are remembered of a direction.
-MOST_HURT = 4_096
+# How many frames with wrong checksums are remembered of a direction, and how many of the first ones count as damaged.
+MOST_HURT, FEW = 4_096, 2
 
 
 class Piece:
@@ -122,8 +122,9 @@ class Direction:
                 self.hurt.popitem(last=False)
 
     def is_hurt(self, frame):
-        """Whether a frame was damaged on its way: its checksum is wrong, and not more of the direction are wrong than right."""
-        return frame in self.hurt and self.wrong <= self.right
+        """Whether a frame was damaged on its way: its checksum is wrong, and not more of the direction are wrong than right (or two, as long
+        as few have passed)."""
+        return frame in self.hurt and self.wrong <= max(self.right, FEW)
 
     def end_at(self, place):
         """Notes where the direction ends. (An end before what passed is one of another connection.)"""

@@ -161,11 +161,11 @@ def options(octets):
 
 
 def is_right(addresses, segment):
-    """Whether the checksum of a segment is right. None if it is the sum of the addresses alone, since the card has still to write it."""
+    """Whether the checksum of a segment is right. None if it is 0 or the sum of the addresses alone: the card has still to write it."""
     before = int.from_bytes(addresses, "big") + TCP + len(segment)
     if (before + int.from_bytes(segment + b"\0" * (len(segment) % 2), "big")) % 0xFFFF == 0:
         return True
-    return False if int.from_bytes(segment[SUM], "big") % 0xFFFF != before % 0xFFFF else None
+    return None if int.from_bytes(segment[SUM], "big") % 0xFFFF in (0, before % 0xFFFF) else False
 
 
 def address_of(octets):

@@ -2,13 +2,14 @@
 what was sent, without `osi`: if it is a part of it in its order, then no verdict on it blames an end that kept the protocol."""
 import contextlib
 import io
+import itertools
 import random
 import struct
 import types
 import unittest
 from unittest import mock
 
-from . import asking, directions, frames, judging, kinds, pcap, reports, streams, test_unsure, tshark, watching
+from . import asking, damage, directions, frames, judging, kinds, pcap, reports, streams, test_unsure, tshark, watching
 from .test_frames import (AC, ACK, CC, CN, CR, DT, ETHERNET, FIN, FIRST, IPV4, PUSH, RESET, SPACE, SYN, TOKENS, Frames, Room, data,
                           fragments, linked, packet, pcap_of, segment_of, stream_of, whole)
 from .test_unsure import blamed, flagged, in_turns, is_beginning, sure
@@ -379,6 +380,25 @@ class Damaged(Room):
         self.assertIsNone(reports.first_of(found))
         self.assertEqual(self.judged(right).status(), 1)
 
+    def test_frames_that_are_damaged_anywhere(self):
+        """A bit of a segment is another one: of a number, a flag or data. Nothing but the frame itself is doubtful."""
+        for seed in range(60):
+            chance = random.Random(seed)
+            run = Run(chance)
+            made = [summed(frame) for frame in [*run.frames.frames[:3], *(frame for _, _, frame in sorted(run.seen))]]
+            hurt = chance.randrange(len(made))
+            at = chance.randrange(24, len(made[hurt]))
+            made[hurt] = made[hurt][:at] + bytes([made[hurt][at] ^ 1 << chance.randrange(8)]) + made[hurt][at + 1:]
+            path = self.write(pcap_of([frame for place, frame in enumerate(made) if place == hurt or chance.random() < 0.97]))
+            try:
+                stream = asking.found_in(path, 102)[0]
+            except tshark.BadInput:
+                continue
+            numbers = damage.damaged(path) | stream.alone()
+            parts = itertools.takewhile(lambda part, numbers=numbers: part[1].frame not in numbers, stream.by_side())
+            found = in_turns((side, piece.octets) for side, piece in parts)
+            self.assertTrue(asking.why_not(stream) or is_beginning(found, run.sent), (seed, hurt, at))
+
     def test_a_capture_that_only_tshark_reads(self):
         """The frames are in a tunnel."""
         if not tshark.is_there():
@@ -529,6 +549,14 @@ class Watched(unittest.TestCase):
         self.assertIn("broke", self.fed([summed(frame) for frame in self.moved(made)]))
         unwritten = self.fed(self.moved(made, 43_000), True)
         self.assertIn("broke", unwritten)
+
+    def test_the_first_frame_with_octets_was_damaged(self):
+        self.reader.has_sums = True
+        made = Frames().begin().send("left", packet(CR[4:] + b"wrong")).send("right", CC).send("left", CN).send("right", AC).frames
+        right = [summed(frame) for frame in made]
+        with self.finding(b"wrong"):
+            out = self.fed(right[:3] + [made[3][:36] + b"\x12\x34" + made[3][38:]] + right[4:], True)
+        self.assertNotIn("broke", out)
 
     @staticmethod
     def moved(made, port=42_000):

@@ -4,6 +4,7 @@ import gc
 import io
 import os
 import shutil
+import struct
 import tempfile
 import time
 import types
@@ -13,7 +14,7 @@ from unittest import mock
 from ladders import script, tapped, test_judged, transcript
 
 from . import directions, frames, live, processes, program, streams, tshark, watching as watch
-from .test_frames import ACK, CC, CR, DT, PUSH, RESET, SYN, Frames, data, pcap_of
+from .test_frames import ACK, CC, CR, DT, IPV4, PUSH, RESET, SYN, Frames, data, pcap_of
 from .test_judging import CURED, DISPUTES, ENDED, LAST
 
 # The package for Python over the library that `make lib` built, if it did.
@@ -587,6 +588,15 @@ class Sources(unittest.TestCase):
     def test_a_file(self):
         self.assertEqual(self.call("-r", self.path("run.pcap")), (0, 1, ""))
         self.assertEqual(self.call(self.path("run.pcap")), (0, 1, ""))
+
+    @unittest.skipUnless(tshark.is_there(), "tshark is not installed")
+    def test_a_file_that_tshark_reads(self):
+        """The frames are in a tunnel."""
+        made = [struct.pack(">BBHHHBBH4s4s", 0x45, 0, 24 + len(frame), 0, 0, 64, 47, 0, *IPV4.values()) + b"\0\0\x08\0" + frame
+                for frame in Frames().open().talk(3).close().frames]
+        with open(self.path("run.pcap"), "wb") as file:
+            file.write(pcap_of(made))
+        self.assertEqual(self.call("-r", self.path("run.pcap")), (0, 1, ""))
 
     def test_standard_input(self):
         for words in (("-r", "-"), ("-",)):

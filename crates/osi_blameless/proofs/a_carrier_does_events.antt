@@ -14,9 +14,8 @@ unfoldable use Rattle.osi_carrier.specs.React.{react}
 use Rattle.osi_carrier.specs.State.{State}
 use Rattle.osi_rules.specs.declared.directions.Direction.{Direction}
 use Rattle.osi_fair.specs.Pieces.{units_in}
-use Rattle.osi_blameless.proofs.what_a_carrier_puts_can_be_written.{Fine, asks_fine, closed_fine, over_fine, together_fine}
+use Rattle.osi_blameless.proofs.what_a_carrier_puts_can_be_written.{Fine, asks_fine, closed_fine, over_fine, together_fine, unit_fine}
 use Rattle.osi_blameless.proofs.small_facts_that_many_lemmas_use.{can_more as all_more}
-use Rattle.osi_blameless.proofs.what_a_carrier_puts_can_be_written.{unit_fine}
 use Rattle.osi_blameless.proofs.what_packets_and_short_tsdus_keep_a_turn_keeps.{AsksToo, IsTracked}
 use Rattle.osi_blameless.proofs.what_waits_changes_nothing.{IsApart, bare, call_apart, done_alike, unit_apart, written_alike}
 

@@ -4,8 +4,8 @@ use Rattle.osi_blameless.proofs.Vocabulary.{◌≡◌, ◌∙◌, ℕ, Bool, fal
 use Rattle.osi_blameless.proofs.Vocabulary.{Value, Local, Capture, other, Direction, Reach, Option, Class, class_for, is_stopped, takes}
 use Rattle.osi_blameless.proofs.Vocabulary.{IsOfTwo, firm_unless_two, still_two, Two, Zero, stops_last, Holding, IsFresh, AllProper, Cause}
 use Rattle.osi_blameless.proofs.Vocabulary.{Course, marks_of, packet_begins, unit_passes, units_pass, unread, way_of, comes_to, Joint, Step}
-use Rattle.osi_blameless.proofs.Vocabulary.{Steps, StepsAlong, begin, begins_other, begins_own, passes_other, passes_own, turns}
-use Rattle.osi_blameless.proofs.Vocabulary.{ComesBySteps, LaterAlong, LaterSteps, spoilt}
+use Rattle.osi_blameless.proofs.Vocabulary.{Steps, begin, begins_other, begins_own, passes_other, passes_own, turns, ComesBySteps}
+use Rattle.osi_blameless.proofs.Vocabulary.{LaterAlong, LaterSteps, spoilt}
 use Rattle.osi_rules.specs.declared.findings.Reach.TheVariants as reach
 use Rattle.osi_rules.specs.Sides as sides
 use Rattle.osi_blameless.proofs.all_is_judged_or_nothing.{IsJudged}
@@ -22,7 +22,7 @@ use Rattle.osi_blameless.proofs.an_end_that_is_judged_alone_stays_so.{along_kept
 use Rattle.osi_blameless.proofs.in_class_0_one_side_alone_is_judged.{AfterUnread, IsAlone, all_over, alone_begins, alone_own, unit_alone}
 use Rattle.osi_blameless.proofs.in_class_0_one_side_alone_is_judged.{unread_alone}
 use Rattle.osi_blameless.proofs.later_steps_are_events.{later_followed, spoilt_followed}
-use Rattle.osi_blameless.proofs.steps_are_events.{IsFollowed, begin_followed, own_first, step_followed}
+use Rattle.osi_blameless.proofs.steps_are_events.{IsFollowed, begin_followed, own_first}
 use Rattle.osi_blameless.proofs.no_unit_of_a_whole_end_is_a_break.{IsFairAlone, IsFair, IsNoBreak}
 use Rattle.osi_blameless.proofs.sessions.class_0_is_known_once_it_is_selected.{IsKnownOnce, joint_known_once, unit_known_once}
 use Rattle.osi_blameless.proofs.sessions.connections_have_the_same_places.{unit_knows}

@@ -47,6 +47,7 @@ pub mod a_calling_end_takes_what_is_in_flight
 pub mod an_end_hears_what_breaks_no_rule
 pub mod a_calling_end_hears_what_breaks_no_rule
 pub mod what_has_come_before_a_cc
+pub mod an_end_stands_as_units_pass
 pub mod a_calling_end_stands_as_units_pass
 pub mod class_0_is_known_once_it_is_selected
 pub mod a_whole_end_runs_along

@@ -9,7 +9,8 @@ ghost use Rattle.osi_judge.specs.Standing.{HoldsState, IsSettled};
 ghost use Rattle.osi_judge.specs.States.{State};
 ghost use Rattle.osi_report.specs.Telling.{is_left, is_dropped, leaves};
 ghost use Rattle.osi_c.specs.Judges.{Knows};
-ghost use Rattle.osi_c.specs.Notes.{note_of_found, note_of_kept, note_of_outcome, note_unless, note_of_break, note_of_halt, is_certain, is_late_in};
+ghost use Rattle.osi_c.specs.Notes.{note_of_found, note_of_kept, note_of_outcome, note_unless};
+ghost use Rattle.osi_c.specs.Notes.{note_of_break, note_of_halt, is_certain, is_late_in};
 ghost use Rattle.osi_c.specs.Notes.{IsNoteOf, IsNoteAt, StillIf, StillPastIf, Tells};
 
 use crate::judges::HeldJudge;

@@ -246,7 +246,8 @@ impl Judge {
     fn settle_side(&mut self, direction: Direction) -> Result<(), AllocError>
         ensures ok { OnOk result ((s : State) → HoldsDue direction self.old.proceedings (streamed self.old.left) (streamed self.old.right) s
             → HoldsNow self.new.proceedings (streamed self.new.left) (streamed self.new.right) s) }
-        ensures err { OnErr result ((s : State) → HoldsDue direction self.old.proceedings (streamed self.old.left) (streamed self.old.right) s
+        ensures err { OnErr result ((s : State)
+            → HoldsDue direction self.old.proceedings (streamed self.old.left) (streamed self.old.right) s
             → HoldsDue direction self.new.proceedings (streamed self.new.left) (streamed self.new.right) s) }
         ensures due { self.new.due ≡ self.old.due }
     {

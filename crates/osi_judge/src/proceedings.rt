@@ -6,7 +6,8 @@ ghost use Rattle.osi_tpdu.specs.Value.{Value};
 ghost use Rattle.osi_tpdu.specs.View.{value};
 ghost use Rattle.osi_judge.specs.Connections.{Sessions as Passed};
 ghost use Rattle.osi_judge.specs.Courses.{Course, fresh_within, way_of, cause_of, packet_begins, number_at, noted, marked, first_marked};
-ghost use Rattle.osi_judge.specs.Courses.{reached, changes, breaks, unread, unit_passes, marks_of, mark_of, moment_of, first_by, first_after};
+ghost use Rattle.osi_judge.specs.Courses.{reached, changes, breaks, unread, unit_passes};
+ghost use Rattle.osi_judge.specs.Courses.{marks_of, mark_of, moment_of, first_by, first_after};
 ghost use Rattle.osi_judge.specs.Blaming.{BlamesBy, IsSessionOf, IsToldOf, NobodyElse};
 ghost use Rattle.osi_judge.specs.Holding.{AllHeard, HoldsCourse, HoldsPassed, HoldsSessions, IsDue, IsTold, unit_due};
 ghost use Rattle.osi_judge.specs.Owing.{HoldsAll, Owes, OwesLast, OwesUnits};
@@ -96,7 +97,8 @@ fn pass_rest(
 ) -> Result<(), AllocError>
     ensures ok { OnOk result ((c : Course) → OwesUnits proceedings.old direction at (drop proceedings.old.passed (units_left units.entry)) c
         → HoldsAll proceedings.new c) }
-    ensures err { OnErr result ((c : Course) → OwesUnits proceedings.old direction at (drop proceedings.old.passed (units_left units.entry)) c
+    ensures err { OnErr result ((c : Course)
+        → OwesUnits proceedings.old direction at (drop proceedings.old.passed (units_left units.entry)) c
         → OwesUnits proceedings.new direction at (drop proceedings.new.passed (units_left units.entry)) c) }
 {
     let rest = units_after(units, proceedings.passed);
@@ -114,7 +116,8 @@ pub(crate) fn pass_packet(
     packet: &[u8],
 ) -> Result<(), AllocError>
     ensures ok { OnOk result ((c : Course) → Owes proceedings.old direction at packet.now c → HoldsAll proceedings.new c) }
-    ensures err { OnErr result ((c : Course) → Owes proceedings.old direction at packet.now c → Owes proceedings.new direction at packet.now c) }
+    ensures err { OnErr result ((c : Course) → Owes proceedings.old direction at packet.now c
+        → Owes proceedings.new direction at packet.now c) }
 {
     match read_units(packet) {
         Ok(units) => pass_rest(proceedings, direction, at, units),

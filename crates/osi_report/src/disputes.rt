@@ -52,7 +52,8 @@ pub(crate) fn judgement_by(
     judge: &mut Judge,
     opening: &Opening,
 ) -> Result<Judgement, AllocError>
-    ensures judged { IfOk result (λ j. (capture : Capture) → HoldsState judge.old (comes_to capture) → Opens opening.now (stream Left capture)
+    ensures judged { IfOk result (λ j. (capture : Capture) → HoldsState judge.old (comes_to capture)
+        → Opens opening.now (stream Left capture)
         → Judges (unjudged capture) (comes_to capture) j.lines.items j.status) }
     ensures small { IfOk result (λ j. j.status < 2) }
 {

@@ -16,7 +16,8 @@ ghost use Rattle.osi_report.specs.Telling.{connection_with, keeps, leaves, stray
 ghost use Rattle.osi_report.specs.Reports.{is_opened, is_refused_in, Tells, IsPair, IsPairOf, IsSummary};
 ghost use Rattle.osi_report.specs.Reports.{all_keep, some_over, carried, is_clear, kept_last, HoldsReached, IsFirstLast};
 ghost use Rattle.osi_report.specs.Reports.{IsLast, IsMarkLast, IsStrayLast};
-ghost use Rattle.osi_report.specs.Openings.{Opens, begins_late, called_back, has_no_octets, is_request, lacks_a_side, may_be_late, unjudged_in};
+ghost use Rattle.osi_report.specs.Openings.{Opens, begins_late, called_back, has_no_octets, is_request};
+ghost use Rattle.osi_report.specs.Openings.{lacks_a_side, may_be_late, unjudged_in};
 
 use crate::openings::Opening;
 use crate::told::Connection;

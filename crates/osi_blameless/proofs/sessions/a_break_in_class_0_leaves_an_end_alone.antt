@@ -4,7 +4,7 @@ use Rattle.osi_blameless.proofs.Vocabulary.{◌≡◌, ◌∙◌, inl, inr, refl
 use Rattle.osi_blameless.proofs.Vocabulary.{◌++◌, map, length, Some, arith, append_assoc, Result, Ok, AllByRecursion, append-nil, IsOctets}
 use Rattle.osi_blameless.proofs.Vocabulary.{units_of, Value, data0, written, TpduFault, Two, Zero, Local, other, Direction, is_applied}
 use Rattle.osi_blameless.proofs.Vocabulary.{class_for, takes, side_zero, Deeds, AreHard, IsHard, Known, Cause, unit_passes, units_pass}
-use Rattle.osi_blameless.proofs.Vocabulary.{unread, way_of, Joint, Step, Steps, begins_other, begins_own, passes_other, passes_own, turns, stops_last, units_by}
+use Rattle.osi_blameless.proofs.Vocabulary.{unread, way_of, Joint, Step, begins_other, begins_own, passes_other, passes_own, turns, stops_last}
 use Rattle.osi_blameless.proofs.Vocabulary.{calls_from, IsNoPacket, IsUnread, LaterAlong, LaterSteps, spoilt}
 use Rattle.osi_rules.specs.declared.courses.Course.{Course as Judging}
 use Rattle.osi_rules.specs.declared.findings.Reach.TheVariants as reach

@@ -1,10 +1,10 @@
 -- Until class 2 is selected all connections of a called end stand at a judge as units of the other side pass: CRs and DCs, and in class 0
 -- DTs for its one connection. For the session of the connection of a called end in class 0.
-use Rattle.osi_blameless.proofs.Vocabulary.{arith, ◌≡◌, ◌∙◌, refl, sym, ap, subst, ℕ, ◌<◌, Bool, true, false, List, [], ◌∷◌}
-use Rattle.osi_blameless.proofs.Vocabulary.{◌++◌, Some, None, append_assoc, not, AllByRecursion, list_all, append-nil, Connect, Value}
-use Rattle.osi_blameless.proofs.Vocabulary.{acknowledge, confirm, data0, data2, disconnect, disconnected, error, request, unit_parts, Part}
-use Rattle.osi_blameless.proofs.Vocabulary.{Zero, Left, Right, is_over, State, is_stopped, takes, left_class, Deeds, taken, Course}
-use Rattle.osi_blameless.proofs.Vocabulary.{unit_passes, units_pass}
+use Rattle.osi_blameless.proofs.Vocabulary.{arith, ◌≡◌, ◌∙◌, refl, sym, ap, subst, ℕ, ◌<◌, Bool, true, false, List, [], ◌∷◌, ◌++◌, Some}
+use Rattle.osi_blameless.proofs.Vocabulary.{None, append_assoc, not, AllByRecursion, list_all, append-nil, Connect, Value, acknowledge}
+use Rattle.osi_blameless.proofs.Vocabulary.{confirm, data0, data2, disconnect, disconnected, error, request, unit_parts, Part, Zero, Left}
+use Rattle.osi_blameless.proofs.Vocabulary.{Right, is_over, State, is_stopped, takes, left_class, Deeds, taken, Course, unit_passes}
+use Rattle.osi_blameless.proofs.Vocabulary.{units_pass, differ}
 use Rattle.osi_carrier.specs.State.{State as Carrier}
 use Rattle.osi_rules.specs.declared.directions.Direction.TheVariants as way
 use Rattle.osi_blameless.proofs.what_a_taker_passes_over.{IsMild}
@@ -21,14 +21,11 @@ use Rattle.osi_blameless.proofs.sessions.no_connection_is_opened_before_a_class_
 use Rattle.osi_blameless.proofs.sessions.nothing_is_done_before_a_cr_passes.{may_take}
 use Rattle.osi_blameless.proofs.sessions.a_dt_of_class_0_is_in_flight.{zero_grows}
 use Rattle.osi_blameless.proofs.sessions.steps_of_either_class_leave_all_standing.{IsTolerable}
-use Rattle.osi_blameless.proofs.small_facts_that_many_lemmas_use.{all_join as all_of_both}
+use Rattle.osi_blameless.proofs.small_facts_that_many_lemmas_use.{all_join as all_of_both, none_some, same_one}
 use Rattle.osi_blameless.proofs.sessions.what_is_in_flight_to_an_end.{flight_same, known_of}
 use Rattle.osi_blameless.proofs.sessions.what_passes_leaves_all_standing as in_two
 use Rattle.osi_blameless.proofs.sessions.what_passes_leaves_all_standing.{IsHeardFirm}
 use Rattle.osi_blameless.proofs.sessions.what_stands_of_a_connection.{Known}
-use Rattle.osi_blameless.proofs.Vocabulary.{differ}
-use Rattle.osi_blameless.proofs.small_facts_that_many_lemmas_use.{none_some}
-use Rattle.osi_blameless.proofs.small_facts_that_many_lemmas_use.{same_one}
 
 -- ---- what holds
 

@@ -15,7 +15,7 @@ use Rattle.osi_carrier.specs.State.{Connection as Live, State as Carrier, asked}
 use Rattle.osi_fair.specs.Wholes as wholes
 use Rattle.osi_honest.proofs.courses.how_long_a_connection_is_open.{Stage}
 use Rattle.osi_blameless.proofs.a_carrier_does_events.{none_of}
-use Rattle.osi_blameless.proofs.small_facts_that_many_lemmas_use.{amid_not, given_so, past_not}
+use Rattle.osi_blameless.proofs.small_facts_that_many_lemmas_use.{amid_not, given_so, past_not, all_join as all_of_both}
 use Rattle.osi_blameless.proofs.steps_are_events.{IsFollowed, begin_followed}
 use Rattle.osi_blameless.proofs.sessions.a_called_end_of_class_2_has_its_lines.{HasLines, has_lines}
 use Rattle.osi_blameless.proofs.sessions.a_called_end_of_class_2_puts_no_dt_of_class_0.{called_turn_two}
@@ -27,8 +27,7 @@ use Rattle.osi_blameless.proofs.sessions.ccs_that_wait_are_above_those_that_pass
 use Rattle.osi_blameless.proofs.sessions.each_cc_of_a_called_end_opens_another_connection.{put_ordered}
 use Rattle.osi_blameless.proofs.sessions.each_reference_of_an_end_is_new.{GoesOn, IsAhead, above_unused, begins_other_ahead}
 use Rattle.osi_blameless.proofs.sessions.each_reference_of_an_end_is_new.{begins_own_ahead, passes_above, passes_other_ahead}
-use Rattle.osi_blameless.proofs.sessions.each_reference_of_an_end_is_new.{passes_own_ahead, turns_ahead}
-use Rattle.osi_blameless.proofs.sessions.each_reference_of_an_end_is_new.{AreUpTo, IsUpTo}
+use Rattle.osi_blameless.proofs.sessions.each_reference_of_an_end_is_new.{passes_own_ahead, turns_ahead, AreUpTo, IsUpTo}
 use Rattle.osi_blameless.proofs.sessions.each_unit_of_a_called_end_has_a_home.{OpensByNoCc, called_marked}
 use Rattle.osi_blameless.proofs.sessions.each_unit_of_a_turn_has_one_connection.{HasHome, IsMarked}
 use Rattle.osi_blameless.proofs.sessions.nothing_comes_before_a_cc_passes.{IsBelow, below_higher, none_waits}
@@ -38,7 +37,6 @@ use Rattle.osi_blameless.proofs.sessions.units_written_alike_have_the_same_ccs.{
 use Rattle.osi_blameless.proofs.sessions.units_written_alike_have_the_same_ccs.{has_back, has_front, none_before, not_twice_alike}
 use Rattle.osi_blameless.proofs.sessions.units_written_alike_have_the_same_ccs.{ordered_alike}
 use Rattle.osi_blameless.proofs.sessions.what_a_turn_puts_goes_to_its_peer.{all_back, same_units}
-use Rattle.osi_blameless.proofs.small_facts_that_many_lemmas_use.{all_join as all_of_both}
 use Rattle.osi_blameless.proofs.sessions.what_an_end_takes_at_a_connection.{apart_none, during_taken}
 use Rattle.osi_blameless.proofs.sessions.what_is_in_flight_to_an_end.{parts_taken}
 use Rattle.osi_blameless.proofs.sessions.what_is_left_for_an_end.{left_empty}

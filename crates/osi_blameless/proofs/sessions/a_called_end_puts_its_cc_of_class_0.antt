@@ -9,15 +9,14 @@ use Rattle.osi_blameless.proofs.Vocabulary.{stage_there, all_units_more, CanBeWr
 use Rattle.osi_carrier.specs.State.{State as Carrier}
 use Rattle.osi_blameless.proofs.a_carrier_does_events.{none_of}
 use Rattle.osi_blameless.proofs.steps_are_events.{IsFollowed}
-use Rattle.osi_blameless.proofs.small_facts_that_many_lemmas_use.{can_more as all_more}
+use Rattle.osi_blameless.proofs.small_facts_that_many_lemmas_use.{can_more as all_more, none_some}
 use Rattle.osi_blameless.proofs.what_is_put_is_what_is_written.{none_written}
 use Rattle.osi_blameless.proofs.sessions.a_called_end_hears_what_comes_until_class_2.{IsAsking, IsNoCc, StandsCalledEarly, known_one}
-use Rattle.osi_blameless.proofs.small_facts_that_many_lemmas_use.{none_some}
 use Rattle.osi_blameless.proofs.sessions.a_called_end_of_class_2_has_its_lines.{has_lines}
 use Rattle.osi_blameless.proofs.sessions.a_called_end_stands_as_units_pass.{StandsCalled}
 use Rattle.osi_blameless.proofs.sessions.a_called_end_stands_in_class_0.{WasOpen, answers_now, cc_not_dt, first, open_before, opens_now}
 use Rattle.osi_blameless.proofs.sessions.a_called_end_stands_until_its_cc_of_class_0_passes.{StandsAnswering}
-use Rattle.osi_blameless.proofs.sessions.a_calling_end_stands_as_units_pass.{known_at}
+use Rattle.osi_blameless.proofs.sessions.an_end_stands_as_units_pass.{known_at}
 use Rattle.osi_blameless.proofs.sessions.a_turn_after_which_a_cc_of_class_0_waits.{dts_after, no_cc_taken, turns_waiting}
 use Rattle.osi_blameless.proofs.sessions.a_turn_of_a_calling_end_until_class_2.{early_lasts}
 use Rattle.osi_blameless.proofs.sessions.all_connections_stand.{AllStand}
@@ -101,8 +100,8 @@ module _ (local : Local) (proper : AllProper) (turn : Turn) (old new : Joint) (t
   abbrev then_end : Carrier
   then_end = new.holding.end.carrier
 
-  abbrev pub ahead : GoesOn Right (first local) h.called.ahead.bound new
-  ahead = turns_ahead Right (first local) proper turn old new t h.called.ahead
+  abbrev pub ahead : GoesOn Right (first local) h.own.ahead.bound new
+  ahead = turns_ahead Right (first local) proper turn old new t h.own.ahead
 
   abbrev f : IsFollowed Right (first local) new
   f = ahead.ahead.followed
@@ -133,12 +132,12 @@ module _ (local : Local) (proper : AllProper) (turn : Turn) (old new : Joint) (t
     empty : old.put ≡ []
     empty =
         none_two z.x.source answer z.more old.put t.units (subst (AreAlike (confirm z.x.source answer ∷ z.more)) t.put alike) refl
-        h.called.two
+        h.own.two
 
     all_put : all_units on.put ≡ confirm starts.n x ∷ starts.rest
     all_put = sym units ∙ ap (λ (l : List Value). l ++ t.units) (sym empty) ∙ sym t.put ∙ starts.is
 
-    less : h.called.ahead.bound < x.source
+    less : h.own.ahead.bound < x.source
     less = search (arith, waits_above, first, then_can, starts)
 
     dts : AllByRecursion (IsWrittenAs IsDt0) starts.rest
@@ -180,12 +179,12 @@ module _ (local : Local) (proper : AllProper) (turn : Turn) (old new : Joint) (t
 
     some : old.begun ≡ true → old.put ≡ [] → ⊥
     some begun =
-        let g = h.called.ahead.followed in
-        let lines = has_lines local old g h.can h.called.two (going_on old.course.traffic.course clear) in
+        let g = h.own.ahead.followed in
+        let lines = has_lines local old g h.can h.own.two (going_on old.course.traffic.course clear) in
         none_written old.put g.whole.put (sym g.put) (λ none. lines.called.some (g.begun ∙ begun) (sym lines.called.put ∙ none))
 
     pub turns_selecting : StandsAnswering local (λ r. then_did (deeds r) (on.more r)) new
     turns_selecting =
         turns_waiting local proper turn old new t deeds on life units f then_can class starts.n x starts.rest starts.is starts.not_two
         (grind (arith, less)) early_so some ((grind (arith, less, empty)) ∙ ap (waiting_for (Some starts.n)) (sym empty))
-        (parts_taken (deeds x.source).calls ∙ ap parts_of (h.called.unheard x.source less)) dts is_x opened
+        (parts_taken (deeds x.source).calls ∙ ap parts_of (h.own.unheard x.source less)) dts is_x opened

@@ -18,7 +18,7 @@ use Rattle.osi_blameless.proofs.sessions.a_called_end_answers_with_class_2_or_se
 use Rattle.osi_blameless.proofs.sessions.an_end_hears_what_breaks_no_rule.{AreFine}
 use Rattle.osi_blameless.proofs.sessions.a_called_end_hears_what_comes_until_class_2.{AreTaken, IsAsking, IsNoCc, StandsCalledEarly}
 use Rattle.osi_blameless.proofs.sessions.a_called_end_hears_what_comes_until_class_2.{known_one, units_early}
-use Rattle.osi_blameless.proofs.small_facts_that_many_lemmas_use.{none_some}
+use Rattle.osi_blameless.proofs.small_facts_that_many_lemmas_use.{none_some, can_more as all_more}
 use Rattle.osi_blameless.proofs.sessions.a_called_end_puts_its_cc_of_class_0.{all_unnamed, asking_plain, turns_selecting}
 use Rattle.osi_blameless.proofs.sessions.a_called_end_stands_as_units_pass.{StandsCalled, begins_other_stands, begins_own_stands}
 use Rattle.osi_blameless.proofs.sessions.a_called_end_stands_as_units_pass.{passes_other_stands, passes_own_stands, turns_stand}
@@ -28,7 +28,7 @@ use Rattle.osi_blameless.proofs.sessions.a_called_end_stands_in_class_0.{passes_
 use Rattle.osi_blameless.proofs.sessions.a_called_end_stands_until_its_cc_of_class_0_passes.{StandsAnswering, begins_other_answering}
 use Rattle.osi_blameless.proofs.sessions.a_called_end_stands_until_its_cc_of_class_0_passes.{begins_own_answering, passes_other_answering}
 use Rattle.osi_blameless.proofs.sessions.a_called_end_stands_until_its_cc_of_class_0_passes.{passes_own_answering, units_select_none}
-use Rattle.osi_blameless.proofs.sessions.a_calling_end_stands_as_units_pass.{known_at}
+use Rattle.osi_blameless.proofs.sessions.an_end_stands_as_units_pass.{known_at}
 use Rattle.osi_blameless.proofs.sessions.a_cc_of_class_0_opens_one_connection.{has_effect}
 use Rattle.osi_blameless.proofs.sessions.a_turn_after_which_a_cc_of_class_0_waits.{no_cc_taken, turns_answering}
 use Rattle.osi_blameless.proofs.sessions.a_turn_does_what_its_deeds_say.{turn_leaves, units_join}
@@ -46,7 +46,6 @@ use Rattle.osi_blameless.proofs.sessions.what_passes_leaves_all_standing.{firm_g
 use Rattle.osi_blameless.proofs.sessions.steps_of_either_class_leave_all_standing.{IsRight, stand_none}
 use Rattle.osi_blameless.proofs.sessions.units_written_alike_have_the_same_ccs.{AnswersTwo, HasCc, has_back, has_front}
 use Rattle.osi_blameless.proofs.sessions.what_a_turn_puts_goes_to_its_peer.{all_back, all_so}
-use Rattle.osi_blameless.proofs.small_facts_that_many_lemmas_use.{can_more as all_more}
 
 -- ---- small facts
 
@@ -154,7 +153,7 @@ module _ (local : Local) (proper : AllProper) where
       (new.course.traffic.course.class ≡ Some Two → ⊥) → StandsInNone deeds old → StandsInNone deeds new
   none_passes deeds at v old new (read, octets, put, begun, is) right firm sure not h =
       let mid : Joint = record old { put = new.put; begun = false; course = units_pass Right at (v ∷ []) old.course } in
-      let plain : IsNoCc v = not_cc at v old new.put put h.stands.called.two right sure h.class
+      let plain : IsNoCc v = not_cc at v old new.put put h.stands.own.two right sure h.class
       (λ two. not (ap (λ (j : Joint). j.course.traffic.course.class) is ∙ two)) in
       let fine : IsProper Right v old.course = record {
         goes = right.goes;
@@ -255,7 +254,7 @@ module _ (local : Local) (proper : AllProper) where
       }
 
       turn_by : AllByRecursion AnswersTwo new.put
-          ⊎ Selecting local (turns_ahead Right (first local) proper turn old new t h.stands.called.ahead).ahead.followed.whole →
+          ⊎ Selecting local (turns_ahead Right (first local) proper turn old new t h.stands.own.ahead).ahead.followed.whole →
           Phase then_deeds new
       turn_by (inl two) = inl (none_turns two)
       turn_by (inr z) =
@@ -264,7 +263,7 @@ module _ (local : Local) (proper : AllProper) where
 
       none_or_selects : Phase then_deeds new
       none_or_selects =
-          turn_by (answers_or_selects local new (turns_ahead Right (first local) proper turn old new t h.stands.called.ahead).ahead.followed
+          turn_by (answers_or_selects local new (turns_ahead Right (first local) proper turn old new t h.stands.own.ahead).ahead.followed
           (subst (AllByRecursion CanBeWritten) (sym turn_put) (all_more old.put (all_units put) h.stands.can does.of.on.can))
           (subst (λ (c : Passed). IsOngoing c.traffic.course) (sym t.course) (going_on old.course.traffic.course clear))
           (subst Agree (sym t.course) h.stands.standing.all.places))

@@ -2,10 +2,9 @@
 -- a packet of the called side.
 -- For all connections of a calling end and a judge.
 use Rattle.osi_blameless.proofs.Vocabulary.{arith, ◌≡◌, ◌∙◌, refl, sym, ap, subst, ℕ, Bool, true, List, [], ◌∷◌, ◌++◌, map, Some}
-use Rattle.osi_blameless.proofs.Vocabulary.{append_assoc, AllByRecursion, append-nil, HasFieldsInRange, Value, acknowledge}
-use Rattle.osi_blameless.proofs.Vocabulary.{confirm, data0, data2, disconnect, disconnected, error, Connect, request, written}
-use Rattle.osi_blameless.proofs.Vocabulary.{Local, Left, Right, is_applied, State, takes}
-use Rattle.osi_blameless.proofs.Vocabulary.{Whole, next_joined, IsOwned, IsOngoing, Deeds, CanBeWritten, Course}
+use Rattle.osi_blameless.proofs.Vocabulary.{append_assoc, AllByRecursion, append-nil, HasFieldsInRange, Value, acknowledge, confirm, data0}
+use Rattle.osi_blameless.proofs.Vocabulary.{data2, disconnect, disconnected, error, Connect, request, written, Local, Left, Right}
+use Rattle.osi_blameless.proofs.Vocabulary.{is_applied, State, takes, Whole, next_joined, IsOwned, IsOngoing, Deeds, CanBeWritten, Course}
 use Rattle.osi_blameless.proofs.Vocabulary.{unit_passes, units_pass, HaveSamePlaces}
 use Rattle.osi_rules.specs.declared.directions.Direction.TheVariants as way
 use Rattle.osi_fair.specs.Wholes as wholes

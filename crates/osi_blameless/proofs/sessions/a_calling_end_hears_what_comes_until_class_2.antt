@@ -28,16 +28,12 @@ use Rattle.osi_blameless.proofs.sessions.references_of_an_end_are_distinct.{AreD
 use Rattle.osi_blameless.proofs.sessions.a_dt_of_class_0_is_in_flight.{zero_grows, zero_stays as flight_stays}
 use Rattle.osi_blameless.proofs.sessions.steps_of_either_class_leave_all_standing.{IsTolerable}
 use Rattle.osi_blameless.proofs.sessions.units_of_class_0_come_after_its_cc.{InOrder, IsCcFor, IsLater, IsQuiet, order_more, quiet_cc}
-use Rattle.osi_blameless.proofs.small_facts_that_many_lemmas_use.{all_join as all_of_both}
+use Rattle.osi_blameless.proofs.small_facts_that_many_lemmas_use.{all_join as all_of_both, given_so, none_some, over_none, same_one}
 use Rattle.osi_blameless.proofs.sessions.what_is_in_flight_to_an_end.{flight_same, known_of}
 use Rattle.osi_blameless.proofs.sessions.what_passes_leaves_all_standing as in_two
 use Rattle.osi_blameless.proofs.sessions.what_passes_leaves_all_standing.{IsHeardFirm}
 use Rattle.osi_blameless.proofs.sessions.what_stands_of_a_connection.{Known, waiting_for}
 use Rattle.osi_blameless.proofs.sessions.what_the_stage_of_a_calling_end_says.{AwaitsAnswer, awaits, cc_comes, gone, one_early}
-use Rattle.osi_blameless.proofs.small_facts_that_many_lemmas_use.{given_so}
-use Rattle.osi_blameless.proofs.small_facts_that_many_lemmas_use.{none_some}
-use Rattle.osi_blameless.proofs.small_facts_that_many_lemmas_use.{over_none}
-use Rattle.osi_blameless.proofs.small_facts_that_many_lemmas_use.{same_one}
 
 -- ---- what holds
 

@@ -15,9 +15,8 @@ use Rattle.osi_blameless.proofs.steps_are_events.{IsFollowed, begin_followed, ow
 use Rattle.osi_blameless.proofs.sessions.a_right_dt_has_one_place.{AreUsedApart, named_apart}
 use Rattle.osi_blameless.proofs.sessions.a_turn_does_what_its_deeds_say.{turn_leaves, units_join}
 use Rattle.osi_blameless.proofs.sessions.crs_that_wait_are_above_those_that_passed.{AreAbove, above_along, passes_asked}
-use Rattle.osi_blameless.proofs.sessions.each_reference_of_an_end_is_new.{IsAhead, GoesOn, IsUpTo, begins_other_ahead}
-use Rattle.osi_blameless.proofs.sessions.each_reference_of_an_end_is_new.{begins_own_ahead, passes_other_ahead, other_up}
-use Rattle.osi_blameless.proofs.sessions.each_reference_of_an_end_is_new.{passes_own_ahead, turns_ahead}
+use Rattle.osi_blameless.proofs.sessions.each_reference_of_an_end_is_new.{IsAhead, GoesOn, IsUpTo, begins_other_ahead, begins_own_ahead}
+use Rattle.osi_blameless.proofs.sessions.each_reference_of_an_end_is_new.{passes_other_ahead, other_up, passes_own_ahead, turns_ahead}
 use Rattle.osi_blameless.proofs.sessions.nothing_is_done_before_a_cr_passes.{AreUndone, IsNoZero, cr_calm, cr_ready, known_from, none_come}
 use Rattle.osi_blameless.proofs.sessions.nothing_is_done_before_a_cr_passes.{may_take, turn_undone}
 use Rattle.osi_blameless.proofs.sessions.what_passes_leaves_all_standing.{IsReady}

@@ -1,12 +1,11 @@
--- A calling end of class 2 and a judge: what passes leaves all connections of the end standing, and so does a turn; and nobody of the end
--- is to blame at those that have lost their judgement. For the session of each connection of an end.
-use Rattle.osi_blameless.proofs.Vocabulary.{[], ap, false, inl, inr, length, List, refl, Some, subst, sym, true, ℕ, ◌++◌, ◌<◌, ◌^◌, ◌∙◌}
-use Rattle.osi_blameless.proofs.Vocabulary.{◌∷◌, ◌≡◌, ◌⊎◌, append-nil, AllByRecursion, slice_get, units_fit, units_found, units_of, Value}
-use Rattle.osi_blameless.proofs.Vocabulary.{Part, Local, Left, Right, AllProper, early, Life, stage_at, CanBeWritten, Continues, Deeds}
-use Rattle.osi_blameless.proofs.Vocabulary.{then_did, units_in, units_read, all_units, Turn, Joined, reference_of, spoken, units_pass}
-use Rattle.osi_blameless.proofs.Vocabulary.{heard, Tracked, IsOngoing, begins_other, begins_own, Joint, passes_other, passes_own, Steps}
-use Rattle.osi_blameless.proofs.Vocabulary.{TakesTurn, Direction, takes, unit_passes, Connection, is_closing, HaveSamePlaces, arith}
-use Rattle.osi_blameless.proofs.Vocabulary.{number_is, packet_begins}
+-- A calling end of class 2 and a judge: what passes leaves all connections of the end standing, and so does a turn; and nobody of the end is
+-- to blame at those that have lost their judgement.
+-- For the session of each connection of an end.
+use Rattle.osi_blameless.proofs.Vocabulary.{[], ap, inl, inr, length, List, Some, subst, sym, true, ℕ, ◌<◌, ◌^◌, ◌∙◌, ◌≡◌, ◌⊎◌}
+use Rattle.osi_blameless.proofs.Vocabulary.{AllByRecursion, slice_get, units_fit, units_found, Value, Part, Local, Left, Right, AllProper}
+use Rattle.osi_blameless.proofs.Vocabulary.{early, Life, stage_at, CanBeWritten, Continues, Deeds, then_did, units_in, all_units, Turn}
+use Rattle.osi_blameless.proofs.Vocabulary.{Joined, reference_of, spoken, heard, Tracked, IsOngoing, begins_other, begins_own, Joint}
+use Rattle.osi_blameless.proofs.Vocabulary.{passes_other, passes_own, Steps, TakesTurn, takes, Connection, is_closing, arith, number_is}
 use Rattle.osi_honest.specs.Courses.{Course}
 use Rattle.osi_judge.specs.Courses.{Course as Passed}
 use Rattle.osi_blameless.proofs.small_facts_that_many_lemmas_use.{can_more as all_more, ranges_of}
@@ -19,98 +18,54 @@ use Rattle.osi_blameless.proofs.sessions.a_calling_end_is_ready.{peers_apart, wh
 use Rattle.osi_blameless.proofs.sessions.a_calling_end_takes_nothing_before_its_cc.{TrackedJudged}
 use Rattle.osi_blameless.proofs.sessions.a_calling_end_takes_what_is_in_flight.{calling_dr, calling_takes}
 use Rattle.osi_blameless.proofs.sessions.a_turn_leaves_all_standing.{IsOfOne, Turns, of_done, of_live}
-use Rattle.osi_blameless.proofs.sessions.a_turn_does_what_its_deeds_say.{units_join}
-use Rattle.osi_blameless.proofs.sessions.all_connections_stand.{all_room, one_at}
-use Rattle.osi_blameless.proofs.sessions.connections_have_the_same_places.{at_same, unit_joins, unit_knows}
+use Rattle.osi_blameless.proofs.sessions.all_connections_stand.{one_at}
+use Rattle.osi_blameless.proofs.sessions.an_end_stands_as_units_pass.{StandsWith, known_at, other_begins_with, other_passes_with}
+use Rattle.osi_blameless.proofs.sessions.an_end_stands_as_units_pass.{own_begins_with, own_passes_with}
+use Rattle.osi_blameless.proofs.sessions.connections_have_the_same_places.{at_same}
 use Rattle.osi_blameless.proofs.sessions.each_unit_of_a_turn_has_one_connection.{IsMarked, puts_wait}
 use Rattle.osi_blameless.proofs.sessions.each_reference_of_an_end_is_new.{gives_new}
-use Rattle.osi_blameless.proofs.sessions.nothing_is_done_before_a_cr_passes.{known_from, may_take}
-use Rattle.osi_blameless.proofs.sessions.references_of_an_end_are_distinct.{AreDistinct, begins_distinct, unit_distinct}
-use Rattle.osi_blameless.proofs.sessions.steps_leave_all_standing.{IsProper, Standing, step_begins_other, step_begins_own, step_passes_own}
-use Rattle.osi_blameless.proofs.sessions.steps_leave_all_standing.{step_turns}
-use Rattle.osi_blameless.proofs.sessions.the_dr_of_the_other_side_is_in_flight.{AreShut, HaveRoom, begins_shut, own_shut, turn_shut}
+use Rattle.osi_blameless.proofs.sessions.nothing_is_done_before_a_cr_passes.{may_take}
+use Rattle.osi_blameless.proofs.sessions.references_of_an_end_are_distinct.{AreDistinct}
+use Rattle.osi_blameless.proofs.sessions.steps_leave_all_standing.{IsProper, step_turns}
+use Rattle.osi_blameless.proofs.sessions.the_dr_of_the_other_side_is_in_flight.{AreShut, turn_shut}
 use Rattle.osi_blameless.proofs.sessions.what_is_left_for_an_end.{known_left}
-use Rattle.osi_blameless.proofs.sessions.what_stands_of_a_connection.{Known, Takes, waiting_for}
-
--- what is known of the parts that are left over
-abbrev pub known_at : Joint → Known
-known_at j = known_from (may_take j.holding.end.carrier) (units_in j.coming)
-
--- the DRs of the other side are in flight
-abbrev pub AreShutAtJoint : Direction → Joint → Type 0
-AreShutAtJoint d j = AreShut d (may_take j.holding.end.carrier) (units_in j.coming) j.course.traffic j.course.sessions
-
-pub own_passes_shut : (d : Direction) (at : ℕ) (unit : Value) (j : Joint) →
-    HaveSamePlaces j.course.traffic.connections j.course.sessions.live → HaveRoom j.course.sessions → AreShutAtJoint d j →
-    AreShut d (may_take j.holding.end.carrier) (units_in j.coming) (unit_passes d at unit j.course).traffic
-    (unit_passes d at unit j.course).sessions
-own_passes_shut d at unit j places rooms h = grind (arith, may_take, unit_knows, unit_joins, own_shut)
+use Rattle.osi_blameless.proofs.sessions.what_stands_of_a_connection.{Takes, waiting_for}
 
 module _ (local : Local) (two : local.class2 ≡ true) (proper : AllProper) where
-  pub record StandsCalling (deeds : ℕ → Deeds) (j : Joint) : Type 0 where
-    pub calling : IsCalling local two deeds j
-    pub standing : Standing Left deeds (known_at j) j
-    pub distinct : AreDistinct Left j.course.sessions
-    pub shut : AreShutAtJoint Left j
-    pub can : AllByRecursion CanBeWritten j.put
+  abbrev pub StandsCalling : (ℕ → Deeds) → Joint → Type 0
+  StandsCalling deeds j = StandsWith Left (IsCalling local two) deeds j
 
   pub begins_own_stands : (deeds : ℕ → Deeds) (old new : Joint) → Steps Left begins_own old new →
       ((r : ℕ) → Course true r (deeds r) old.holding.end) →
       ((i : ℕ) (j : Joined) → slice_get old.course.sessions.live i ≡ Some j → length (heard (spoken Right j)) < 2 ^ 64) →
       StandsCalling deeds old → StandsCalling deeds new
-  begins_own_stands deeds old new (some, none, is) courses few h =
-      let mid : Joint = record old { begun = true; course = packet_begins Left old.course } in
-      subst (StandsCalling deeds) (sym is) (search (arith, begins_own_calling, step_begins_own, begins_distinct, begins_shut, may_take))
+  begins_own_stands deeds old new step courses few h =
+      own_begins_with Left (IsCalling local two) deeds old new step courses few
+      (begins_own_calling local two proper deeds old new step h.own) h
 
   pub begins_other_stands : (deeds : ℕ → Deeds) (old new : Joint) → Steps Left begins_other old new → StandsCalling deeds old →
       StandsCalling deeds new
-  begins_other_stands deeds old new is h =
-      let mid : Joint = record old { course = packet_begins Right old.course } in
-      subst (StandsCalling deeds) (sym is) (search (arith, begins_other_calling, step_begins_other, begins_distinct, begins_shut, may_take))
-
-  rooms : (deeds : ℕ → Deeds) (j : Joint) → StandsCalling deeds j → HaveRoom j.course.sessions
-  rooms deeds j h i k here = search (arith, all_room)
+  begins_other_stands deeds old new step h =
+      other_begins_with Left (IsCalling local two) deeds old new step (begins_other_calling local two proper deeds old new step h.own) h
 
   pub passes_own_stands : (deeds : ℕ → Deeds) (at : ℕ) (unit : Value) (old new : Joint) → Steps Left (passes_own at unit) old new →
       IsProper Left unit old.course → IsOngoing old.course.traffic.course → StandsCalling deeds old → StandsCalling deeds new
-  passes_own_stands deeds at unit old new (read, octets, put, begun, is) fine clear h =
-      let mid : Joint = record old { put = new.put; begun = false; course = units_pass Left at (unit ∷ []) old.course } in
-      let step : Steps Left (passes_own at unit) old mid = (read, octets, put, begun, refl) in
-      let a = h.standing.all in
-      subst (StandsCalling deeds) (sym is) (record {
-        calling = passes_own_calling local two proper deeds at unit old mid step a.places h.calling;
-        standing = step_passes_own Left deeds (known_at old) at unit old mid step fine
-            (peers_apart local two old h.calling.ahead.followed clear) (is_ready local two deeds at unit old mid step clear h.calling)
-            h.standing;
-        distinct = subst (AreDistinct Left) (sym (unit_joins Left at unit old.course))
-            (unit_distinct Left Left at unit old.course.traffic old.course.sessions a.places h.distinct
-            (gives_new Left _ at unit old mid step h.calling.ahead) (rooms deeds old h));
-        shut = own_passes_shut Left at unit old a.places (rooms deeds old h) h.shut;
-        can = (subst (AllByRecursion CanBeWritten) put h.can).1;
-      })
+  passes_own_stands deeds at unit old new step fine clear h =
+      own_passes_with Left (IsCalling local two) deeds at unit old new step fine (peers_apart local two old h.own.ahead.followed clear)
+      (is_ready local two deeds at unit old new step clear h.own) (gives_new Left _ at unit old new step h.own.ahead)
+      (passes_own_calling local two proper deeds at unit old new step h.standing.all.places h.own) h
 
   pub passes_other_stands : (deeds : ℕ → Deeds) (at : ℕ) (packet : List ℕ) (units : List Value) (old new : Joint) →
       Steps Left (passes_other at packet units) old new → AreFine Left at units old.course → StandsCalling deeds old → StandsCalling deeds new
   passes_other_stands deeds at packet units old new (octets, read, is) fine h =
-      let mid : Joint = record old { course = units_pass Right at units old.course; coming = old.coming ++ packet ∷ [] } in
-      let f = h.calling.ahead.followed in
+      let f = h.own.ahead.followed in
       let behind : IsBehind local old.put old.course = search (arith, whole_joined) in
-      let one : units_in (packet ∷ []) ≡ units = append-nil (units_read (units_of packet)) ∙ ap units_read read in
-      let all : units_in old.coming ++ units ≡ units_in (old.coming ++ packet ∷ []) =
-      sym (units_join old.coming (packet ∷ []) ∙ ap (λ (l : List Value). units_in old.coming ++ l) one) in
       let k = units_heard local old.put h.can deeds (may_take old.holding.end.carrier) old.begun at units (units_in old.coming)
       old.course fine (ranges_of units (units_fit units packet (units_found packet units octets read))) behind
       (record { stand = h.standing.all; distinct = h.distinct; shut = h.shut }) in
-      subst (StandsCalling deeds) (sym is) (record {
-        calling = passes_other_plain local two proper deeds at packet units old mid (octets, read, refl) h.standing.all.places h.calling
-            (fine_plain h.calling.ahead.bound at units old.course fine);
-        standing = record {
-          all = grind (arith, known_from, may_take);
-        };
-        distinct = k.distinct;
-        shut = grind (arith, may_take);
-        can = h.can;
-      })
+      other_passes_with Left (IsCalling local two) deeds at packet units old new (octets, read, is) k
+      (passes_other_plain local two proper deeds at packet units old new (octets, read, is) h.standing.all.places h.own
+      (fine_plain h.own.ahead.bound at units old.course fine)) h
 
   -- no two connections have one reference
   judged_tracked : (deeds : ℕ → Deeds) (j : Joint) → StandsCalling deeds j → (r i : ℕ) (c : Connection) (k : Joined) →
@@ -145,19 +100,19 @@ module _ (local : Local) (two : local.class2 ≡ true) (proper : AllProper) wher
       IsOngoing old.course.traffic.course → StandsCalling deeds old → StandsCalling (λ r. then_did (deeds r) (on.more r)) new
   turns_stand turn old new t deeds on life units can marked takes shut clear h =
       let a = h.standing.all in
-      let f = h.calling.ahead.followed in
+      let f = h.own.ahead.followed in
       let turns : Turns Left on.more (known_at old) (known_at new) t.units old.course.traffic old.course.sessions = record {
         puts = λ i c j r there here mine live.
             puts_wait Left deeds (known_at old) old.put old.begun old.course.traffic old.course.sessions a
             (peers_apart local two old f clear) h.distinct i c j r there here mine live
-            (h.calling.ahead.below.live i j r here mine).0 on.put marked (on.more r).put
-            (on.own r (h.calling.ahead.below.live i j r here mine).0)
+            (h.own.ahead.below.live i j r here mine).0 on.put marked (on.more r).put
+            (on.own r (h.own.ahead.below.live i j r here mine).0)
             ∙ ap (waiting_for (reference_of Right j)) (sym units);
         takes = λ r one later sure.
             let x = takes r sure.0 one later sure.1 in record { rest = x.rest; first = x.first; sure = (sure.0, x.sure) };
       } in
       record {
-        calling = turns_calling local two proper turn old new t deeds on life a.places clear h.calling;
+        own = turns_calling local two proper turn old new t deeds on life a.places clear h.own;
         standing = step_turns Left deeds (known_at old) turn on.more (known_at new) old new t
             (λ begun. none_written old.put f.whole.put (sym f.put) ((whole_followed local two old f clear).some (f.begun ∙ begun))) turns
             h.standing;
@@ -181,16 +136,16 @@ module _ (local : Local) (two : local.class2 ≡ true) (proper : AllProper) wher
       StandsCalling (λ r. then_did (deeds r) (on.more r)) new
   turns_stand_early turn old new t deeds on life units can marked quiet tracked clear h =
       let places = h.standing.all.places in
-      let then_calling = turns_calling local two proper turn old new t deeds on life places clear h.calling in
+      let then_calling = turns_calling local two proper turn old new t deeds on life places clear h.own in
       turns_stand turn old new t deeds on life units can marked
       (λ r some one later sure. search (arith, calling_takes, judged_or))
       (turn_shut Left (may_take old.holding.end.carrier) (may_take new.holding.end.carrier) (units_in old.coming)
       (units_in new.coming) old.course.traffic old.course.sessions
       (λ i c j r there here judged closing named live.
-      let some = (h.calling.ahead.below.live i j r here named).0 in
+      let some = (h.own.ahead.below.live i j r here named).0 in
       let one = one_at old.course.traffic.connections old.course.sessions.live i c j places there here in
       let same : c.left.reference ≡ r = number_is c.left.reference r (ap (λ (n : ℕ). Some n) (sym one.calling) ∙ named) in
-      calling_dr local two turn old new t deeds on h.calling then_calling clear places r some (life r some)
+      calling_dr local two turn old new t deeds on h.own then_calling clear places r some (life r some)
       (λ may. judged_tracked deeds old h r i c j there here judged named
       (subst (λ (n : ℕ). 0 < n → stage_at n old.holding.end.carrier ≡ early → Tracked old.course.traffic.connections n) same
       (tracked i c there closing) some may)) live) h.shut) clear h

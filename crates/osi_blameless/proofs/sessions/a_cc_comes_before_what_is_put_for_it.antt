@@ -1,19 +1,18 @@
 -- A CC that has its effect gives a reference that no connection has which the calling end has not closed. So none of the units that wait
 -- to pass are for this reference: each of them is for a connection whose CC has passed.
 -- For all connections of an end and a judge.
-use Rattle.osi_blameless.proofs.Vocabulary.{◌≡◌, ◌∙◌, refl, ap, ℕ, Bool, true, false, if◌then◌else◌, List, [], ◌∷◌, Option, Some, arith, ◌||◌}
-use Rattle.osi_blameless.proofs.Vocabulary.{not, slice_get, AllByRecursion, Connect, Value, confirm, destination_of, Class, Left}
+use Rattle.osi_blameless.proofs.Vocabulary.{◌≡◌, ◌∙◌, refl, ap, ℕ, Bool, true, false, if◌then◌else◌, List, [], ◌∷◌, Option, Some, arith}
+use Rattle.osi_blameless.proofs.Vocabulary.{◌||◌, not, slice_get, AllByRecursion, Connect, Value, confirm, destination_of, Class, Left}
 use Rattle.osi_blameless.proofs.Vocabulary.{Connection, Broke, Outside, Phase, is_applied, first_failed, given_again, is_closing, is_open}
 use Rattle.osi_blameless.proofs.Vocabulary.{uses, State, at_found, at_place, found_on, route_in, in_doubt, routed, takes, unnamed_by}
-use Rattle.osi_blameless.proofs.Vocabulary.{uses_source, IsOwned, asking, is_tracked, stray, none_true, picked_rest, Sessions, HaveSamePlaces}
-use Rattle.osi_blameless.proofs.Vocabulary.{named_by}
+use Rattle.osi_blameless.proofs.Vocabulary.{uses_source, IsOwned, asking, is_tracked, stray, none_true, picked_rest, Sessions}
+use Rattle.osi_blameless.proofs.Vocabulary.{HaveSamePlaces, named_by, differ}
 use Rattle.osi_rules.specs.declared.directions.Direction.TheVariants as way
 use Rattle.osi_rules.specs.declared.findings.Rule.TheVariants as rule
 use Rattle.osi_fair.proofs.each_connection_has_its_line.{of}
 use Rattle.osi_blameless.proofs.sessions.a_right_dt_has_one_place.{AreUsedApart, still_used}
 use Rattle.osi_blameless.proofs.sessions.connections_have_the_same_places.{at_same}
 use Rattle.osi_blameless.proofs.sessions.what_stands_of_a_connection.{is_for, waiting_for}
-use Rattle.osi_blameless.proofs.Vocabulary.{differ}
 use Rattle.osi_blameless.proofs.small_facts_that_many_lemmas_use.{and_both}
 
 -- ---- a CC that has its effect

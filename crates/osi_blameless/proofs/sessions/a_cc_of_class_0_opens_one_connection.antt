@@ -7,7 +7,7 @@ use Rattle.osi_blameless.proofs.Vocabulary.{Connection, Offer, Finding, Broke, N
 use Rattle.osi_blameless.proofs.Vocabulary.{first_failed, given_again, is_refused, is_silent, Outcome, State, at_found, class_of}
 use Rattle.osi_blameless.proofs.Vocabulary.{connection_after, found_on, is_stopped, in_doubt, judged_on, sent_on, takes, unnamed_by, unlike}
 use Rattle.osi_blameless.proofs.Vocabulary.{AreJudged, Waits, after_change, calm_judge, set_there, Joined, Sessions, reference_of, taken}
-use Rattle.osi_blameless.proofs.Vocabulary.{Course, HaveSamePlaces}
+use Rattle.osi_blameless.proofs.Vocabulary.{Course, HaveSamePlaces, differ}
 use Rattle.osi_side.specs.declared.directions.Direction.TheVariants as side
 use Rattle.osi_rules.specs.declared.directions.Direction.TheVariants.{Right}
 use Rattle.osi_rules.specs.declared.findings.Rule.TheVariants as rule
@@ -20,7 +20,6 @@ use Rattle.osi_blameless.proofs.sessions.connections_have_the_same_places.{at_sa
 use Rattle.osi_blameless.proofs.sessions.each_reference_of_an_end_is_new.{AreUpTo, IsWithin}
 use Rattle.osi_blameless.proofs.sessions.references_of_an_end_are_distinct.{AreDistinct}
 use Rattle.osi_blameless.proofs.sessions.what_a_unit_does_at_its_place.{Does, asks_again, asks_more, nowhere, somewhere, unit_does}
-use Rattle.osi_blameless.proofs.Vocabulary.{differ}
 use Rattle.osi_blameless.proofs.small_facts_that_many_lemmas_use.{same_one}
 
 -- ---- small facts

@@ -6,15 +6,14 @@ use Rattle.osi_blameless.proofs.Vocabulary.{map, Option, Some, None, arith, inl,
 use Rattle.osi_blameless.proofs.Vocabulary.{lt-ltb, Connect, Value, confirm, written, parts_in, Part, Zero, Local, unit_octets, Right}
 use Rattle.osi_blameless.proofs.Vocabulary.{State, Selecting, zero_puts, IsFirm, picked_join, AreApart, Continues, Deeds, then_did}
 use Rattle.osi_blameless.proofs.Vocabulary.{units_in, Marked, all_units, is_of_link, Turn, AllProper, Life, early, stage_at, all_units_more}
-use Rattle.osi_blameless.proofs.Vocabulary.{none_mark, taken_more, CanBeWritten, Joint, TakesTurn, turns, parts_of}
+use Rattle.osi_blameless.proofs.Vocabulary.{none_mark, taken_more, CanBeWritten, Joint, TakesTurn, turns, parts_of, differ}
 use Rattle.std.proofs.lemmas.List.Concat.{flat_map-append}
 use Rattle.osi_carrier.specs.State.{State as Carrier}
 use Rattle.osi_judge.specs.Courses.{Course as Passed}
 use Rattle.osi_blameless.proofs.steps_are_events.{IsFollowed, step_followed}
-use Rattle.osi_blameless.proofs.small_facts_that_many_lemmas_use.{can_more as all_more}
+use Rattle.osi_blameless.proofs.small_facts_that_many_lemmas_use.{can_more as all_more, none_some, all_front}
 use Rattle.osi_blameless.proofs.sessions.a_called_end_answers_with_class_2_or_selects_class_0.{answers_or_selects}
 use Rattle.osi_blameless.proofs.sessions.a_called_end_hears_what_comes_until_class_2.{IsAsking, IsNoCc, StandsCalledEarly, known_one}
-use Rattle.osi_blameless.proofs.small_facts_that_many_lemmas_use.{none_some}
 use Rattle.osi_blameless.proofs.sessions.a_called_end_stands_in_class_0.{WasOpen, answers_now, cc_not_dt, first, not_early, open_before}
 use Rattle.osi_blameless.proofs.sessions.a_called_end_stands_in_class_0.{open_so, opens_now, put_so}
 use Rattle.osi_blameless.proofs.sessions.a_called_end_stands_until_its_cc_of_class_0_passes.{StandsAnswering, asking_none}
@@ -26,13 +25,11 @@ use Rattle.osi_blameless.proofs.sessions.no_connection_is_opened_before_a_class_
 use Rattle.osi_blameless.proofs.sessions.steps_leave_all_standing.{step_turns}
 use Rattle.osi_blameless.proofs.sessions.units_written_alike_have_the_same_ccs.{AnswersTwo}
 use Rattle.osi_blameless.proofs.sessions.what_a_turn_puts_goes_to_its_peer.{all_back, all_so, none_for, one_of}
-use Rattle.osi_blameless.proofs.small_facts_that_many_lemmas_use.{all_front}
 use Rattle.osi_blameless.proofs.sessions.what_a_turn_puts_waits.{Agree, marks_wait}
 use Rattle.osi_blameless.proofs.sessions.what_an_end_takes_at_each_stage.{AreCalm, turn_takes}
 use Rattle.osi_blameless.proofs.sessions.what_is_in_flight_to_an_end.{parts_taken}
 use Rattle.osi_blameless.proofs.sessions.what_stands_of_a_connection.{is_for, waiting_for}
 use Rattle.osi_blameless.proofs.sessions.what_the_stage_of_a_calling_end_says.{IsDt0, all_data}
-use Rattle.osi_blameless.proofs.Vocabulary.{differ}
 
 -- ---- small facts
 

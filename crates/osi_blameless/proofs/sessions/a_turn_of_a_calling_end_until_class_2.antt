@@ -1,12 +1,12 @@
 -- Until class 2 is selected, a turn of a calling end leaves all its connections standing at a judge: what it puts is for its one connection
 -- in class 0, and what it takes there is the first of what is in flight. For the session of the connection of an end in class 0.
 use Rattle.osi_blameless.proofs.Vocabulary.{◌≡◌, ◌∙◌, refl, sym, ap, subst, ℕ, zero, suc, ◌<◌, ◌≤◌, Bool, true, false, List, [], ◌∷◌, ◌++◌}
-use Rattle.osi_blameless.proofs.Vocabulary.{Option, Some, None, arith, is_some, append_assoc, inl, inr, ◌⊎◌, ◌==◌, nat_lt}
-use Rattle.osi_blameless.proofs.Vocabulary.{slice_get, AllByRecursion, eq-eqb, eqb-true, lt-ltb, Connect, Value, confirm, Class, Two}
-use Rattle.osi_blameless.proofs.Vocabulary.{Zero, Local, Left, Right, Connection, is_open, State, Whole, unlike, IsFirm, AreApart}
-use Rattle.osi_blameless.proofs.Vocabulary.{Opens, Continues, Deeds, then_did, units_in, Marked, all_units, is_of_link, Turn, AllProper, Life}
-use Rattle.osi_blameless.proofs.Vocabulary.{amid, early, opens_by, past, stage_at, stage_over, stays, all_units_more, none_mark, Joined}
-use Rattle.osi_blameless.proofs.Vocabulary.{reference_of, Joint, TakesTurn, IsOneOf}
+use Rattle.osi_blameless.proofs.Vocabulary.{Option, Some, None, arith, is_some, append_assoc, inl, inr, ◌⊎◌, ◌==◌, nat_lt, slice_get}
+use Rattle.osi_blameless.proofs.Vocabulary.{AllByRecursion, eq-eqb, eqb-true, lt-ltb, Connect, Value, confirm, Class, Two, Zero, Local}
+use Rattle.osi_blameless.proofs.Vocabulary.{Left, Right, Connection, is_open, State, Whole, unlike, IsFirm, AreApart, Opens, Continues}
+use Rattle.osi_blameless.proofs.Vocabulary.{Deeds, then_did, units_in, Marked, all_units, is_of_link, Turn, AllProper, Life, amid, early}
+use Rattle.osi_blameless.proofs.Vocabulary.{opens_by, past, stage_at, stage_over, stays, all_units_more, none_mark, Joined, reference_of}
+use Rattle.osi_blameless.proofs.Vocabulary.{Joint, TakesTurn, IsOneOf, differ}
 use Rattle.osi_carrier.specs.State.{State as Carrier}
 use Rattle.osi_fair.proofs.how_requests_go_on.{Stage}
 use Rattle.osi_honest.proofs.courses.how_long_a_connection_is_open.{Stage as Time}
@@ -31,15 +31,11 @@ use Rattle.osi_blameless.proofs.sessions.steps_leave_all_standing.{step_turns}
 use Rattle.osi_blameless.proofs.sessions.units_of_class_0_come_after_its_cc.{HasCc, InOrder, IsCcFor, IsQuiet, order_back, order_calm}
 use Rattle.osi_blameless.proofs.sessions.units_of_class_0_come_after_its_cc.{quiet_none}
 use Rattle.osi_blameless.proofs.sessions.what_a_turn_puts_goes_to_its_peer.{all_back, none_for, one_of}
-use Rattle.osi_blameless.proofs.small_facts_that_many_lemmas_use.{all_front}
+use Rattle.osi_blameless.proofs.small_facts_that_many_lemmas_use.{all_front, same_one, given_so, none_first}
 use Rattle.osi_blameless.proofs.sessions.what_a_turn_puts_waits.{Agree, marks_wait}
 use Rattle.osi_blameless.proofs.sessions.what_an_end_takes_at_each_stage.{AreCalm, turn_takes}
 use Rattle.osi_blameless.proofs.sessions.what_stands_of_a_connection.{is_for, waiting_for}
 use Rattle.osi_blameless.proofs.sessions.what_the_stage_of_a_calling_end_says.{IsDt0, cc_waits, dts_put}
-use Rattle.osi_blameless.proofs.Vocabulary.{differ}
-use Rattle.osi_blameless.proofs.small_facts_that_many_lemmas_use.{same_one}
-use Rattle.osi_blameless.proofs.small_facts_that_many_lemmas_use.{given_so}
-use Rattle.osi_blameless.proofs.small_facts_that_many_lemmas_use.{none_first}
 
 -- ---- small facts
 

@@ -1,12 +1,11 @@
 -- At a judge each CR of a calling end that passes gives a new reference, and so does each CC of a called end; and this stays so with each step.
 -- For all connections of an end and a judge.
 use Rattle.osi_blameless.proofs.Vocabulary.{◌≡◌, ◌∙◌, ◌⊎◌, inl, inr, refl, sym, ap, subst, ℕ, ◌<◌, ◌≤◌, Bool, false, List, [], ◌∷◌, ◌++◌}
-use Rattle.osi_blameless.proofs.Vocabulary.{length, Option, Some, None, arith, slice_get, AllByRecursion, Connect, Value, confirm}
-use Rattle.osi_blameless.proofs.Vocabulary.{request, Direction, Left, Right, other, State, meaning_if, meant}
-use Rattle.osi_blameless.proofs.Vocabulary.{takes, Event, HappenAlong, Whole, after_add, after_set, Turn, AllProper, Room, Joined, Sessions, all_begin, asked}
-use Rattle.osi_blameless.proofs.Vocabulary.{reference_of, taken, Course, unit_passes, units_pass, way_of, Joint, Step, Steps, TakesTurn}
-use Rattle.osi_blameless.proofs.Vocabulary.{begins_other, begins_own, passes_other, passes_own, turns, HaveSamePlaces}
-use Rattle.osi_blameless.proofs.Vocabulary.{AreAbove as RiseAbove}
+use Rattle.osi_blameless.proofs.Vocabulary.{length, Option, Some, None, arith, slice_get, AllByRecursion, Connect, Value, confirm, request}
+use Rattle.osi_blameless.proofs.Vocabulary.{Direction, Left, Right, other, State, meaning_if, meant, takes, Event, HappenAlong, Whole}
+use Rattle.osi_blameless.proofs.Vocabulary.{after_add, after_set, Turn, AllProper, Room, Joined, Sessions, all_begin, asked, reference_of}
+use Rattle.osi_blameless.proofs.Vocabulary.{taken, Course, unit_passes, units_pass, way_of, Joint, Step, Steps, TakesTurn, begins_other}
+use Rattle.osi_blameless.proofs.Vocabulary.{begins_own, passes_other, passes_own, turns, HaveSamePlaces, AreAbove as RiseAbove}
 use Rattle.osi_carrier.specs.State.{State as Carrier}
 use Rattle.osi_fair.specs.Wholes as wholes
 use Rattle.osi_judge.specs.Connections.{packet_begins}

@@ -14,7 +14,7 @@ use Rattle.osi_fair.specs.Wholes.{begin}
 use Rattle.osi_fair.proofs.each_connection_of_a_called_end.{Row, past}
 use Rattle.osi_fair.proofs.units_by_their_place.{units_at}
 use Rattle.osi_honest.specs.Arriving.{is_open as opened}
-use Rattle.osi_blameless.proofs.small_facts_that_many_lemmas_use.{all_front, over_not}
+use Rattle.osi_blameless.proofs.small_facts_that_many_lemmas_use.{all_front, over_not, not_some}
 use Rattle.osi_blameless.proofs.steps_are_events.{IsFollowed}
 use Rattle.osi_blameless.proofs.sessions.a_called_end_has_its_lines.{HasCalled, called_joined, called_lines}
 use Rattle.osi_blameless.proofs.sessions.a_right_dt_has_one_place.{still_used}
@@ -24,7 +24,6 @@ use Rattle.osi_blameless.proofs.sessions.each_unit_of_a_turn_has_one_connection.
 use Rattle.osi_blameless.proofs.sessions.references_of_an_end_are_distinct.{GivesNew, IsUnused}
 use Rattle.osi_blameless.proofs.sessions.what_a_turn_puts_goes_to_its_peer.{IsNotZero, IsThere, Lived, by_units, came, linked_so, none_shut}
 use Rattle.osi_blameless.proofs.sessions.what_a_turn_puts_goes_to_its_peer.{one_of, put_for, turn_marked, whole_lasts}
-use Rattle.osi_blameless.proofs.small_facts_that_many_lemmas_use.{not_some}
 
 -- ---- small facts
 

@@ -4,15 +4,13 @@
 use Rattle.osi_blameless.proofs.Vocabulary.{◌≡◌, ◌∙◌, refl, ap, ℕ, ◌<◌, Bool, true, false, List, [], ◌∷◌, Option, Some, arith, ◌==◌}
 use Rattle.osi_blameless.proofs.Vocabulary.{slice_get, AllByRecursion, eq-eqb, eqb-true, Value, acknowledge, confirm, data0, data2}
 use Rattle.osi_blameless.proofs.Vocabulary.{disconnect, disconnected, error, request, other, Direction, Connection, is_open, own, State}
-use Rattle.osi_blameless.proofs.Vocabulary.{Deeds, Marked, all_units, units_at, Joined, Sessions, reference_of, way_of}
+use Rattle.osi_blameless.proofs.Vocabulary.{Deeds, Marked, all_units, units_at, Joined, Sessions, reference_of, way_of, differ}
 use Rattle.osi_blameless.proofs.sessions.a_right_dt_has_one_place.{AreUsedApart, one_use}
 use Rattle.osi_blameless.proofs.sessions.all_connections_stand.{AllStand, one_at}
 use Rattle.osi_blameless.proofs.sessions.references_of_an_end_are_distinct.{AreDistinct}
 use Rattle.osi_blameless.proofs.sessions.what_a_turn_puts_waits.{Agree, marks_wait}
 use Rattle.osi_blameless.proofs.sessions.what_stands_of_a_connection.{Known, is_for, names_it, waiting_for}
-use Rattle.osi_blameless.proofs.Vocabulary.{differ}
-use Rattle.osi_blameless.proofs.small_facts_that_many_lemmas_use.{same_one}
-use Rattle.osi_blameless.proofs.small_facts_that_many_lemmas_use.{same_bool}
+use Rattle.osi_blameless.proofs.small_facts_that_many_lemmas_use.{same_one, same_bool}
 
 -- a connection with these references, which this end has not closed, at the judge
 pub record HasHome (d : Direction) (r peer : ℕ) (s : State) (t : Sessions) : Type 0 where

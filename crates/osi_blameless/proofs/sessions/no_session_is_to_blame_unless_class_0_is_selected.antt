@@ -1,10 +1,9 @@
 -- No session of an end is to blame, whatever the other side breaks, as long as class 0 is not selected: what stands of an end at each step
 -- stands also after a connection of class 2 has lost its judgement.
 -- For the law that no session of an end is to blame after a break.
-use Rattle.osi_blameless.proofs.Vocabulary.{◌≡◌, ◌∙◌, ◌⊎◌, inl, inr, refl, sym, subst, ℕ, List, arith, [], Option}
-use Rattle.osi_blameless.proofs.Vocabulary.{Value, Class, Zero, Local, Capture, other, Direction, Reach, class_for, takes, Deeds}
-use Rattle.osi_blameless.proofs.Vocabulary.{Holding, IsFresh, AllProper, Cause, units_pass, unread, way_of, comes_to, Joint, Step}
-use Rattle.osi_blameless.proofs.Vocabulary.{calls_from, LaterAlong, spoilt, Some}
+use Rattle.osi_blameless.proofs.Vocabulary.{◌≡◌, ◌∙◌, ◌⊎◌, inl, inr, refl, sym, subst, ℕ, List, arith, [], Option, Value, Class, Zero}
+use Rattle.osi_blameless.proofs.Vocabulary.{Local, Capture, other, Direction, Reach, class_for, takes, Deeds, Holding, IsFresh, AllProper}
+use Rattle.osi_blameless.proofs.Vocabulary.{Cause, units_pass, unread, way_of, comes_to, Joint, Step, calls_from, LaterAlong, spoilt, Some}
 use Rattle.osi_rules.specs.declared.findings.Reach.TheVariants as reach
 use Rattle.osi_fair.specs.Pieces.{units_in}
 use Rattle.osi_fair.specs.Wholes as wholes

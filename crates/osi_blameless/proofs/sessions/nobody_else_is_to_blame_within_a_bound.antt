@@ -1,9 +1,8 @@
 -- A unit makes nobody to blame for what a judge with a bound judges whom it doesn't make to blame for what a judge without one judges.
 -- For the law on such a judge.
-use Rattle.osi_blameless.proofs.Vocabulary.{arith, slice_get, ◌≡◌, ◌∙◌, refl, sym, ap, subst, ℕ, zero, suc, Bool, true, false}
-use Rattle.osi_blameless.proofs.Vocabulary.{List, [], ◌∷◌, ◌++◌, length, set, Option, Some, None, Meaning, Value, Direction, Room, Octets}
-use Rattle.osi_blameless.proofs.Vocabulary.{IsToBlame, Joined, Sessions, adds_if, changed, placed, taken, taken_at, user_of, fits}
-use Rattle.osi_blameless.proofs.Vocabulary.{kept_on, IsJudgedOf}
+use Rattle.osi_blameless.proofs.Vocabulary.{arith, slice_get, ◌≡◌, ◌∙◌, refl, sym, ap, subst, ℕ, zero, suc, Bool, true, false, List, []}
+use Rattle.osi_blameless.proofs.Vocabulary.{◌∷◌, ◌++◌, length, set, Option, Some, None, Meaning, Value, Direction, Room, Octets, IsToBlame}
+use Rattle.osi_blameless.proofs.Vocabulary.{Joined, Sessions, adds_if, changed, placed, taken, taken_at, user_of, fits, kept_on, IsJudgedOf}
 use Rattle.osi_rules.specs.declared.findings.Meaning.TheVariants as meaning
 use Rattle.osi_judge.specs.Connections.{meant}
 use Rattle.osi_judge.specs.Rooms.{is_over}

@@ -12,11 +12,8 @@ use Rattle.osi_judge.specs.Connections as joined
 use Rattle.osi_blameless.proofs.sessions.a_right_dt_has_one_place.{AreUsedApart, lost_use, one_use}
 use Rattle.osi_blameless.proofs.sessions.a_unit_is_joined_where_it_is_named.{named_any, named_there, names_there}
 use Rattle.osi_blameless.proofs.sessions.all_connections_stand.{AllStand, IsPlain, Leaves, Rests, like_same, other_after, other_part}
-use Rattle.osi_blameless.proofs.sessions.all_connections_stand.{other_plain}
-use Rattle.osi_blameless.proofs.sessions.all_connections_stand.{own_part}
-use Rattle.osi_blameless.proofs.sessions.all_connections_stand.{own_plain, quiet, rests}
-use Rattle.osi_blameless.proofs.sessions.what_stands_of_a_connection.{Known, Stands, is_for, names_it, stands_elsewhere}
-use Rattle.osi_blameless.proofs.sessions.what_stands_of_a_connection.{stands_other_none}
+use Rattle.osi_blameless.proofs.sessions.all_connections_stand.{other_plain, own_part, own_plain, quiet, rests}
+use Rattle.osi_blameless.proofs.sessions.what_stands_of_a_connection.{Known, Stands, is_for, names_it, stands_elsewhere, stands_other_none}
 
 -- ---- a DT or an AK of class 2
 

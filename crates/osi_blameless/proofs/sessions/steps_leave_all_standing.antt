@@ -10,8 +10,7 @@ use Rattle.osi_blameless.proofs.no_unit_of_a_whole_end_is_a_break.{IsNoBreak}
 use Rattle.osi_blameless.proofs.sessions.a_right_dt_has_one_place.{AreUsedApart}
 use Rattle.osi_blameless.proofs.sessions.a_turn_leaves_all_standing.{Turns, all_turn}
 use Rattle.osi_blameless.proofs.sessions.all_connections_stand.{AllStand, all_begin_other, all_begin_own}
-use Rattle.osi_blameless.proofs.sessions.what_passes_leaves_all_standing.{IsReady, LinksGoOn}
-use Rattle.osi_blameless.proofs.sessions.what_passes_leaves_all_standing.{own_stands}
+use Rattle.osi_blameless.proofs.sessions.what_passes_leaves_all_standing.{IsReady, LinksGoOn, own_stands}
 use Rattle.osi_blameless.proofs.sessions.what_stands_of_a_connection.{Known}
 
 -- all connections stand at a judge, beside what was done at the end

@@ -4,7 +4,7 @@
 use Rattle.osi_blameless.proofs.Vocabulary.{[], ap, Bool, false, inl, inr, List, map, None, refl, Some, subst, sym, ℕ, ◌++◌, ◌∙◌, ◌∷◌, ◌≡◌}
 use Rattle.osi_blameless.proofs.Vocabulary.{◌⊎◌, AllByRecursion, Value, written, Zero, Local, acceptance, Holding, Traffic as State, AsSent}
 use Rattle.osi_blameless.proofs.Vocabulary.{AsParts, CalledLaw, CallerLaw, Left, Right, AllProper, CanBeWritten, Deeds, no_deeds, then_did}
-use Rattle.osi_blameless.proofs.Vocabulary.{units_in, IsFresh, Turn, none, Sessions, unit_passes, units_pass, Selecting, fresh_apart, no_item}
+use Rattle.osi_blameless.proofs.Vocabulary.{units_in, IsFresh, Turn, none, Sessions, unit_passes, units_pass, Selecting}
 use Rattle.osi_blameless.proofs.Vocabulary.{selecting_passes, begins_other, begins_own, Class, Option, Two, Joint, passes_other, passes_own}
 use Rattle.osi_blameless.proofs.Vocabulary.{Step, Steps, TakesTurn, turns, arith, begin, IsOngoing, firm_unless_two}
 use Rattle.osi_fair.specs.Wholes as wholes
@@ -20,32 +20,22 @@ use Rattle.osi_blameless.proofs.sessions.an_end_hears_what_breaks_no_rule.{AreFi
 use Rattle.osi_blameless.proofs.sessions.a_called_end_is_ready.{begin_called}
 use Rattle.osi_blameless.proofs.sessions.a_called_end_stands_as_units_pass.{StandsCalled, begins_other_stands, begins_own_stands}
 use Rattle.osi_blameless.proofs.sessions.a_called_end_stands_as_units_pass.{passes_other_stands, passes_own_stands, turns_stand}
-use Rattle.osi_blameless.proofs.sessions.a_calling_end_stands_as_units_pass.{known_at}
+use Rattle.osi_blameless.proofs.sessions.an_end_stands_as_units_pass.{distinct_first, known_at, standing_first}
 use Rattle.osi_blameless.proofs.sessions.nobody_of_a_side_is_to_blame.{NoneIsToBlame}
 use Rattle.osi_blameless.proofs.sessions.all_connections_stand.{AllStand, there_too}
 use Rattle.osi_blameless.proofs.sessions.an_end_that_has_said_nothing_is_not_to_blame.{IsMute, mute_begins, mute_none, mute_units}
 use Rattle.osi_blameless.proofs.sessions.connections_have_the_same_places.{Agree, packet_agrees, unit_knows, units_agree}
 use Rattle.osi_blameless.proofs.sessions.no_connection_is_opened_before_a_class_is_selected.{AreUncalled, UncalledUntil, uncalled_claim}
-use Rattle.osi_blameless.proofs.sessions.what_is_asked_of_what_holds_at_each_step.{HaveCourses}
+use Rattle.osi_blameless.proofs.sessions.what_is_asked_of_what_holds_at_each_step.{HaveCourses, ArePassed, Keeps}
 use Rattle.osi_blameless.proofs.sessions.nothing_is_done_before_a_cr_passes.{known_from, may_take}
-use Rattle.osi_blameless.proofs.sessions.references_of_an_end_are_distinct.{AreDistinct}
-use Rattle.osi_blameless.proofs.sessions.steps_leave_all_standing.{IsProper, Standing}
+use Rattle.osi_blameless.proofs.sessions.steps_leave_all_standing.{IsProper}
 use Rattle.osi_blameless.proofs.sessions.steps_of_either_class_leave_all_standing.{stand_none}
 use Rattle.osi_blameless.proofs.sessions.the_dr_of_the_other_side_is_in_flight.{first_shut}
 use Rattle.osi_blameless.proofs.sessions.units_written_alike_have_the_same_ccs.{AnswersTwo, first_not_zero}
 use Rattle.osi_blameless.proofs.sessions.what_stands_of_a_connection.{Known}
-use Rattle.osi_blameless.proofs.sessions.what_is_asked_of_what_holds_at_each_step.{ArePassed, Keeps}
 
 none_two : (k : Option Class) → k ≡ None → k ≡ Some Two → ⊥
 none_two k none two = let no : None ≡ Some Two = sym none ∙ two in cc
-
--- ---- at the beginning
-
-distinct_first : AreDistinct Right none
-distinct_first = record { live = λ i k j l r here. absurd (cc here); done = λ i k j l r here. absurd (cc here) }
-
-standing_first : (known : Known) (h : Holding) → Standing Right (λ r. no_deeds) known (begin h)
-standing_first known h = grind (arith, fresh_apart, no_item)
 
 -- ---- before a class is selected nothing has been said
 
@@ -200,8 +190,8 @@ module _ (local : Local) (proper : AllProper) where
     nobody_amid deeds at front old courses taken (inr h) = grind (arith, mute_none, mute_units)
     nobody_amid deeds at front old courses taken (inl h) =
         let live = may_take old.holding.end.carrier in
-        let k = units_heard deeds live old.put old.begun h.called.ahead.bound at front (units_in old.coming) old.course
-        (fine_of at front old.course taken) (record { stand = h.standing.all; distinct = h.distinct; shut = h.shut }) h.called.ahead.below in
+        let k = units_heard deeds live old.put old.begun h.own.ahead.bound at front (units_in old.coming) old.course
+        (fine_of at front old.course taken) (record { stand = h.standing.all; distinct = h.distinct; shut = h.shut }) h.own.ahead.below in
         let after = units_pass Left at front old.course in
         stand_none known_of parts caller called Right deeds old.put old.begun old.holding.end courses
         (known_from live (units_in old.coming ++ front)) after.traffic after.sessions k.all.stand

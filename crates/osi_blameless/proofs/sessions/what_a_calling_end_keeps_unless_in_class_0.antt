@@ -3,8 +3,8 @@
 -- For the law that no session of an end is blamed first.
 use Rattle.osi_blameless.proofs.Vocabulary.{[], List, Some, true, ℕ, ◌++◌, ◌∷◌, ◌≡◌, units_fit, units_found, HasFieldsInRange, Value, Zero}
 use Rattle.osi_blameless.proofs.Vocabulary.{Local, Holding, AsSent, AsParts, CalledLaw, CallerLaw, Left, Right, AllProper, Deeds, no_deeds}
-use Rattle.osi_blameless.proofs.Vocabulary.{then_did, units_in, IsFresh, Turn, none, unit_passes, units_pass, fresh_apart, no_item}
-use Rattle.osi_blameless.proofs.Vocabulary.{IsOngoing, Joint, passes_other, passes_own, Steps, TakesTurn, arith, begin}
+use Rattle.osi_blameless.proofs.Vocabulary.{then_did, units_in, IsFresh, Turn, unit_passes, units_pass, IsOngoing}
+use Rattle.osi_blameless.proofs.Vocabulary.{Joint, passes_other, passes_own, Steps, TakesTurn, arith, begin}
 use Rattle.osi_fair.specs.Wholes as wholes
 use Rattle.osi_judge.specs.Courses.{Course as Passed}
 use Rattle.osi_blameless.proofs.small_facts_that_many_lemmas_use.{all_front, ranges_of}
@@ -13,28 +13,18 @@ use Rattle.osi_blameless.proofs.what_the_turns_among_steps_do.{TurnDoes}
 use Rattle.osi_blameless.proofs.sessions.a_calling_end_hears_what_breaks_no_rule.{IsBehind, units_heard}
 use Rattle.osi_blameless.proofs.sessions.an_end_hears_what_breaks_no_rule.{AreFine}
 use Rattle.osi_blameless.proofs.sessions.a_calling_end_is_ready.{begin_calling, whole_joined}
-use Rattle.osi_blameless.proofs.sessions.a_calling_end_stands_as_units_pass.{StandsCalling, begins_other_stands, begins_own_stands, known_at}
+use Rattle.osi_blameless.proofs.sessions.a_calling_end_stands_as_units_pass.{StandsCalling, begins_other_stands, begins_own_stands}
+use Rattle.osi_blameless.proofs.sessions.an_end_stands_as_units_pass.{distinct_first, known_at, standing_first}
 use Rattle.osi_blameless.proofs.sessions.a_calling_end_stands_as_units_pass.{passes_other_stands, passes_own_stands, turns_stand_early}
 use Rattle.osi_blameless.proofs.sessions.nobody_of_a_side_is_to_blame.{NoneIsToBlame}
 use Rattle.osi_blameless.proofs.sessions.each_unit_of_a_calling_end_has_a_home.{calling_marked}
-use Rattle.osi_blameless.proofs.sessions.what_is_asked_of_what_holds_at_each_step.{HaveCourses}
+use Rattle.osi_blameless.proofs.sessions.what_is_asked_of_what_holds_at_each_step.{HaveCourses, ArePassed, Keeps}
 use Rattle.osi_blameless.proofs.sessions.nothing_is_done_before_a_cr_passes.{known_from, may_take}
-use Rattle.osi_blameless.proofs.sessions.references_of_an_end_are_distinct.{AreDistinct}
-use Rattle.osi_blameless.proofs.sessions.steps_leave_all_standing.{IsProper, Standing}
+use Rattle.osi_blameless.proofs.sessions.steps_leave_all_standing.{IsProper}
 use Rattle.osi_blameless.proofs.sessions.steps_of_either_class_leave_all_standing.{stand_none}
 use Rattle.osi_blameless.proofs.sessions.the_dr_of_the_other_side_is_in_flight.{first_shut}
 use Rattle.osi_blameless.proofs.sessions.what_has_come_before_a_cc.{AreQuiet, begin_quiet, begins_other_quiet, begins_own_quiet}
 use Rattle.osi_blameless.proofs.sessions.what_has_come_before_a_cc.{passes_other_quiet, passes_own_quiet, turns_quiet}
-use Rattle.osi_blameless.proofs.sessions.what_is_asked_of_what_holds_at_each_step.{ArePassed, Keeps}
-use Rattle.osi_blameless.proofs.sessions.what_stands_of_a_connection.{Known}
-
--- ---- at the beginning
-
-distinct_first : AreDistinct Left none
-distinct_first = record { live = λ i k j l r here. absurd (cc here); done = λ i k j l r here. absurd (cc here) }
-
-standing_first : (known : Known) (h : Holding) → Standing Left (λ r. no_deeds) known (begin h)
-standing_first known h = grind (arith, fresh_apart, no_item)
 
 -- ---- a packet of the called side
 
@@ -91,7 +81,7 @@ module _ (local : Local) (two : local.class2 ≡ true) (proper : AllProper) wher
         StandsQuiet deeds old → NoneIsToBlame Left (units_pass Right at front old.course).sessions
     nobody_amid deeds at octets front back old new (all_octets, read, is) courses taken all =
         let h = all.stands in
-        let f = h.calling.ahead.followed in
+        let f = h.own.ahead.followed in
         let behind : IsBehind local old.put old.course = search (arith, whole_joined) in
         let ranges = ranges_of (front ++ back) (units_fit (front ++ back) octets (units_found octets (front ++ back) all_octets read)) in
         let after = units_pass Right at front old.course in

@@ -1,12 +1,12 @@
 -- What an end puts in a turn for a connection goes to the peer that the connection has there, and the unit with which the connection
 -- opens in the turn had come: so each DT and each AK of the turn has a home at a judge if the connection has.
 -- For calling and called ends.
-use Rattle.osi_blameless.proofs.Vocabulary.{◌≡◌, ◌∙◌, refl, sym, ap, subst, ℕ, suc, zero, ◌<◌, Bool, true, false, List, [], ◌∷◌, ◌++◌, Option}
-use Rattle.osi_blameless.proofs.Vocabulary.{Some, None, is_some, IsSome, Result, append_assoc, arith, ◌==◌, nat_lt}
-use Rattle.osi_blameless.proofs.Vocabulary.{AllByRecursion, eq-eqb, eqb-true, append-nil, units_of, Value, data0, TpduFault, Standing}
-use Rattle.osi_blameless.proofs.Vocabulary.{link_of, open_link, value_at, linked, packets, EndReason, Direction, State, units_by, Whole}
-use Rattle.osi_blameless.proofs.Vocabulary.{AreApart, GivesTo, Lives, Parts, Continues, Deeds, Marked, all_units, is_of_link, over_acts}
-use Rattle.osi_blameless.proofs.Vocabulary.{all_units_more, Turn, Sessions, Joint, TakesTurn}
+use Rattle.osi_blameless.proofs.Vocabulary.{◌≡◌, ◌∙◌, refl, sym, ap, subst, ℕ, suc, zero, ◌<◌, Bool, true, false, List, [], ◌∷◌, ◌++◌}
+use Rattle.osi_blameless.proofs.Vocabulary.{Option, Some, None, is_some, IsSome, Result, append_assoc, arith, ◌==◌, nat_lt, AllByRecursion}
+use Rattle.osi_blameless.proofs.Vocabulary.{eq-eqb, eqb-true, append-nil, units_of, Value, data0, TpduFault, Standing, link_of, open_link}
+use Rattle.osi_blameless.proofs.Vocabulary.{value_at, linked, packets, EndReason, Direction, State, units_by, Whole, AreApart, GivesTo}
+use Rattle.osi_blameless.proofs.Vocabulary.{Lives, Parts, Continues, Deeds, Marked, all_units, is_of_link, over_acts, all_units_more, Turn}
+use Rattle.osi_blameless.proofs.Vocabulary.{Sessions, Joint, TakesTurn, differ}
 use Rattle.osi_carrier.specs.State.{Connection as Live, State as Carrier}
 use Rattle.osi_fair.specs.Pieces.{units_in}
 use Rattle.osi_honest.specs.Arriving as arriving
@@ -16,9 +16,7 @@ use Rattle.osi_blameless.proofs.steps_are_events.{IsFollowed}
 use Rattle.osi_blameless.proofs.what_is_put_is_what_is_written.{are_first}
 use Rattle.osi_blameless.proofs.sessions.each_unit_of_a_turn_has_one_connection.{IsFor, IsHomed, IsMarked, of_none, of_one}
 use Rattle.osi_blameless.proofs.sessions.what_stands_of_a_connection.{is_for}
-use Rattle.osi_blameless.proofs.Vocabulary.{differ}
-use Rattle.osi_blameless.proofs.small_facts_that_many_lemmas_use.{all_front}
-use Rattle.osi_blameless.proofs.small_facts_that_many_lemmas_use.{all_join}
+use Rattle.osi_blameless.proofs.small_facts_that_many_lemmas_use.{all_front, all_join}
 
 -- ---- lists
 

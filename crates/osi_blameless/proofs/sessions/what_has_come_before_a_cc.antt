@@ -35,11 +35,10 @@ use Rattle.osi_blameless.proofs.sessions.a_unit_is_joined_where_it_is_named.{nam
 use Rattle.osi_blameless.proofs.sessions.connections_have_the_same_places.{unit_knows}
 use Rattle.osi_blameless.proofs.sessions.nothing_is_done_before_a_cr_passes.{IsNoZero, same_units}
 use Rattle.osi_blameless.proofs.sessions.what_a_turn_puts_goes_to_its_peer.{one_of}
-use Rattle.osi_blameless.proofs.small_facts_that_many_lemmas_use.{all_front}
+use Rattle.osi_blameless.proofs.small_facts_that_many_lemmas_use.{all_front, same_one}
 use Rattle.osi_blameless.proofs.sessions.what_a_unit_does_at_its_place.{Does, asks_again, asks_more, nowhere, somewhere, unit_does}
 use Rattle.osi_blameless.proofs.sessions.what_passes_leaves_all_standing.{AllGoesOn}
 use Rattle.osi_blameless.proofs.sessions.what_stands_of_a_connection.{is_for, waiting_for}
-use Rattle.osi_blameless.proofs.small_facts_that_many_lemmas_use.{same_one}
 
 -- ---- what is so
 

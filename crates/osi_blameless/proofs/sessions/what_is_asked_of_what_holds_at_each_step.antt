@@ -1,14 +1,13 @@
 -- What is asked of what holds of an end and a judge at each step, by which nobody of the end is to blame as long as one class is not selected:
 -- class 2, or class 0. And what units are while so much is judged.
 -- For the laws that no session of an end is to blame.
-use Rattle.osi_blameless.proofs.Vocabulary.{◌≡◌, ◌≢◌, ◌∙◌, ◌⊎◌, refl, sym, ap, subst, ℕ, ◌^◌, ◌<◌, ◌≤◌, Bool, false, if◌then◌else◌}
-use Rattle.osi_blameless.proofs.Vocabulary.{List, [], ◌∷◌, ◌++◌, length, Some, is_some, arith, slice_get}
-use Rattle.osi_blameless.proofs.Vocabulary.{length-append, Value, Class, Two, Zero, Local, Capture, other, Direction}
-use Rattle.osi_blameless.proofs.Vocabulary.{TooMany, class_for, is_stopped, takes, packet, unit, IsFirm, IsOngoing, packet_begins, Holding, Deeds}
-use Rattle.osi_blameless.proofs.Vocabulary.{no_deeds, then_did, IsFresh, Turn, Cause, Joined, spoken, marked}
-use Rattle.osi_blameless.proofs.Vocabulary.{marks_of, moved, unit_passes, units_pass, unread, unread_mark, unread_moment}
-use Rattle.osi_blameless.proofs.Vocabulary.{way_of, heard, after, Joint, Step, Steps, TakesTurn, begin, begins_other}
-use Rattle.osi_blameless.proofs.Vocabulary.{begins_own, passes_other, passes_own, calls_from}
+use Rattle.osi_blameless.proofs.Vocabulary.{◌≡◌, ◌≢◌, ◌∙◌, ◌⊎◌, refl, sym, ap, subst, ℕ, ◌^◌, ◌<◌, ◌≤◌, Bool, false, if◌then◌else◌, List}
+use Rattle.osi_blameless.proofs.Vocabulary.{[], ◌∷◌, ◌++◌, length, Some, is_some, arith, slice_get, length-append, Value, Class, Two, Zero}
+use Rattle.osi_blameless.proofs.Vocabulary.{Local, Capture, other, Direction, TooMany, class_for, is_stopped, takes, packet, unit, IsFirm}
+use Rattle.osi_blameless.proofs.Vocabulary.{IsOngoing, packet_begins, Holding, Deeds, no_deeds, then_did, IsFresh, Turn, Cause, Joined}
+use Rattle.osi_blameless.proofs.Vocabulary.{spoken, marked, marks_of, moved, unit_passes, units_pass, unread, unread_mark, unread_moment}
+use Rattle.osi_blameless.proofs.Vocabulary.{way_of, heard, after, Joint, Step, Steps, TakesTurn, begin, begins_other, begins_own}
+use Rattle.osi_blameless.proofs.Vocabulary.{passes_other, passes_own, calls_from}
 use Rattle.osi_rules.specs.Sides as sides
 use Rattle.osi_rules.specs.Traffic.{State as Traffic}
 use Rattle.osi_rules.specs.Traffic as traffic

@@ -6,8 +6,7 @@ use Rattle.osi_blameless.proofs.Vocabulary.{all_begin, asked, changed, count, pl
 use Rattle.osi_blameless.proofs.Vocabulary.{IsJudgedOf, SessionsOf}
 use Rattle.std.specs.Option.{option_map}
 use Rattle.osi_rules.specs.declared.findings.Meaning.TheVariants as meaning
-use Rattle.osi_judge.specs.Connections.{meant}
-use Rattle.osi_judge.specs.Connections.{packet_begins}
+use Rattle.osi_judge.specs.Connections.{meant, packet_begins}
 
 -- ---- lists of connections
 

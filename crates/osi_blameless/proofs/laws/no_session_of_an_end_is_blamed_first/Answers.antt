@@ -1,7 +1,6 @@
 use Rattle.osi_blameless.proofs.Vocabulary.{Option, Some, subst, ◌≡◌, ◌<◌, ◌^◌, true, false, List, length, Local, Left, Right, Holding}
 use Rattle.osi_blameless.proofs.Vocabulary.{said_again, SpduLaws, AsSent, Capture, all_proper, Known, can_begin, IsFresh, IsSeen, Run, Turn}
-use Rattle.osi_blameless.proofs.Vocabulary.{AreOctets}
-use Rattle.osi_blameless.proofs.Vocabulary.{BreaksFirst, IsFirstOf, first_in, IsFed, comes_to, First, Judge, IsJudged}
+use Rattle.osi_blameless.proofs.Vocabulary.{AreOctets, BreaksFirst, IsFirstOf, first_in, IsFed, comes_to, First, Judge, IsJudged}
 use Rattle.osi_blameless.proofs.sessions.no_end_is_ever_to_blame.{IsBlameless, blameless_first, called_blameless, calling_blameless}
 use Rattle.osi_blameless.proofs.sessions.no_end_is_ever_to_blame.{none_among}
 use Rattle.osi_blameless.proofs.sessions.the_first_break_of_all_is_of_the_other_side.{neither_first}
