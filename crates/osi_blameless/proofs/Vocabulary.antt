@@ -168,9 +168,10 @@ pub use Rattle.osi_judge.specs.Connections.{Joined, Sessions, adds, adds_all, ad
 pub use Rattle.osi_judge.specs.Connections.{opened}
 pub use Rattle.osi_judge.specs.Connections.{placed, reference_of, shut, spoken, taken, taken_at, user_of}
 pub use Rattle.osi_judge.specs.Courses.{Course, Moment, cause_of, changes, earlier, first_by, first_marked, first_of, fresh_within}
-pub use Rattle.osi_judge.specs.Courses.{is_break, kind_of, mark_by, marked, marks_of, moment_of, moved, noted_by, number_at, number_of}
-pub use Rattle.osi_judge.specs.Courses.{packet_begins, packet_by, packet_passes, reached, unit_passes, units_pass, unread, unread_mark}
-pub use Rattle.osi_judge.specs.Courses.{unread_moment, way_of}
+pub use Rattle.osi_judge.specs.Courses.{is_break}
+pub use Rattle.osi_judge.specs.Courses.{kind_of, mark_by, marked, marks_of, moment_of, moved, noted_by, number_at, number_of, packet_begins}
+pub use Rattle.osi_judge.specs.Courses.{packet_by, packet_passes, reached, unit_passes, units_pass, unread, unread_mark, unread_moment}
+pub use Rattle.osi_judge.specs.Courses.{way_of}
 pub use Rattle.osi_judge.specs.Lines.{Begun, Spoken, added, begun_before, begun_octets, heard, octets_of, told}
 pub use Rattle.osi_judge.specs.Rooms.{fits}
 pub use Rattle.osi_judge.specs.Standing.{HoldsState, IsFed, IsJudged, first_in}

@@ -1,7 +1,8 @@
--- As long as no break ends any judging, both sides are judged and every connection is; and after one that ends all, nobody is judged any more.
--- For the laws that an end is blamed nowhere.
+-- As long as no break ends any judging, both sides are judged and every connection is; and after one that ends all, nobody is judged any
+-- more. For the laws that an end is blamed nowhere.
 use Rattle.osi_blameless.proofs.Vocabulary.{ap, arith, Bool, false, if◌then◌else◌, is_some, None, true, ℕ, ◌≡◌, Reach, Direction, changes}
-use Rattle.osi_blameless.proofs.Vocabulary.{first_by, marked, marks_of, moved, unread, unread_mark, unread_moment, way_of, Cause, Mark, Marks}
+use Rattle.osi_blameless.proofs.Vocabulary.{first_by, marked, marks_of, moved, unread, unread_mark, unread_moment, way_of, Cause, Mark}
+use Rattle.osi_blameless.proofs.Vocabulary.{Marks}
 use Rattle.osi_blameless.proofs.Vocabulary.{Course}
 use Rattle.osi_rules.specs.Traffic as traffic
 

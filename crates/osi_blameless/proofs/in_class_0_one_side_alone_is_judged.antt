@@ -7,7 +7,8 @@ use Rattle.osi_blameless.proofs.Vocabulary.{unit_passes, unread, way_of}
 use Rattle.osi_rules.specs.Traffic as traffic
 use Rattle.osi_rules.specs.declared.findings.Reach.TheVariants as reach
 use Rattle.osi_judge.specs.declared.marks.Cause.TheVariants as cause
-use Rattle.osi_blameless.proofs.a_break_ends_no_judging_or_all.{far_of, loose_by, loose_more, loose_so, mark, mid, o, reach_so, refused_over}
+use Rattle.osi_blameless.proofs.a_break_ends_no_judging_or_all.{far_of, loose_by, loose_more, loose_so, mark, mid, o, reach_so}
+use Rattle.osi_blameless.proofs.a_break_ends_no_judging_or_all.{refused_over}
 use Rattle.osi_blameless.proofs.a_break_ends_no_judging_or_all.{refuses, side_so, stops_so, unread_if, some_earlier}
 use Rattle.osi_blameless.proofs.all_is_judged_or_nothing.{IsJudged, IsOver}
 use Rattle.osi_blameless.proofs.what_is_halted_stays_halted.{IsHalted, halted_claim}

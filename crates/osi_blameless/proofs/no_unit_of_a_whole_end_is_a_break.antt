@@ -1,6 +1,7 @@
 -- No unit of a whole end is a break as it passes, as long as the other side is judged: what osi_fair says of it.
 -- For the laws that an end is blamed nowhere.
-use Rattle.osi_blameless.proofs.Vocabulary.{false, true, ◌≡◌, ◌⊎◌, ◌∷◌, List, Some, Local, Value, Way, Finding, Broke, Outside, Kept, NotJudged}
+use Rattle.osi_blameless.proofs.Vocabulary.{false, true, ◌≡◌, ◌⊎◌, ◌∷◌, List, Some, Local, Value, Way, Finding, Broke, Outside, Kept}
+use Rattle.osi_blameless.proofs.Vocabulary.{NotJudged}
 use Rattle.osi_blameless.proofs.Vocabulary.{TooMany, Zero, is_stopped, takes, Event, HappenAlong, Whole, called_fair, calling_fair, arith}
 use Rattle.osi_blameless.proofs.Vocabulary.{called_fair_in_class_0, calling_fair_in_class_0}
 use Rattle.osi_rules.specs.Sides as sides
@@ -18,7 +19,6 @@ abbrev pub IsFair : Way → Whole → Type 0
 IsFair d first = (events : List Event) (w : Whole) (unit : Value) (rest : List Value) → HappenAlong d first events w → w.begun ≡ true →
     w.put ≡ unit ∷ rest → is_stopped (sides.other d) w.judge.course ≡ false → IsNoBreak (takes d unit w.judge).told.finding
 
--- in class 0 each is right, as long as the end is judged itself
 abbrev pub IsFairAlone : Way → Whole → Type 0
 IsFairAlone d first = (events : List Event) (w : Whole) (unit : Value) (rest : List Value) → HappenAlong d first events w →
     w.begun ≡ true → w.put ≡ unit ∷ rest → is_stopped d w.judge.course ≡ false → w.judge.course.loose ≡ false →

@@ -1,9 +1,11 @@
 -- Small facts that lemmas of several files use: of truth values, lists and numbers, and of one step of a connection.
 -- For all proofs of this crate.
 use Rattle.osi_blameless.proofs.Vocabulary.{AllByRecursion, Bool, CanBeWritten, Carrier, Class, Connection, EndReason, Fits}
-use Rattle.osi_blameless.proofs.Vocabulary.{HasFieldsInRange, List, None, Option, Some, Time as Stage, Two, Value, Zero, [], amid, ap}
-use Rattle.osi_blameless.proofs.Vocabulary.{early, false, has_given, is_some, le-leb, lt-ltb, nat_le, past, refl, sym, true, ℕ, ◌&&◌, ◌++◌}
-use Rattle.osi_blameless.proofs.Vocabulary.{◌<◌, ◌||◌, ◌∙◌, ◌∷◌, ◌≡◌, ◌≤◌, arith}
+use Rattle.osi_blameless.proofs.Vocabulary.{HasFieldsInRange}
+use Rattle.osi_blameless.proofs.Vocabulary.{List, None, Option, Some, Time as Stage, Two, Value, Zero, [], amid, ap, early, false}
+use Rattle.osi_blameless.proofs.Vocabulary.{has_given}
+use Rattle.osi_blameless.proofs.Vocabulary.{is_some, le-leb, lt-ltb, nat_le, past, refl, sym, true, ℕ, ◌&&◌, ◌++◌, ◌<◌, ◌||◌, ◌∙◌, ◌∷◌, ◌≡◌}
+use Rattle.osi_blameless.proofs.Vocabulary.{◌≤◌, arith}
 
 pub all_front : {X : Type 0} (P : X → Type 0) (xs ys : List X) → AllByRecursion P (xs ++ ys) → AllByRecursion P xs
 all_front P [] ys h = tt

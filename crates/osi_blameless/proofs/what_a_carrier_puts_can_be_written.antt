@@ -6,11 +6,12 @@ use Rattle.osi_blameless.proofs.Vocabulary.{Connect, HasFieldsInRange, IsConnect
 use Rattle.osi_blameless.proofs.Vocabulary.{Standing, with_tsdu, accept, refuse, selected_by, LinkFault, Class, Two, Zero, closed_with}
 use Rattle.osi_blameless.proofs.Vocabulary.{link_of, open_link, sent, sent_all, connection_by, written_by, answers, before_class, denies}
 use Rattle.osi_blameless.proofs.Vocabulary.{handed_out, has_peer, in_class, in_two, in_zero, is_full, pumps, react_by, taking}
-use Rattle.osi_blameless.proofs.Vocabulary.{to_connection, to_linked, to_only, to_reference, Rows, value_at, connects, user_does, closing}
-use Rattle.osi_blameless.proofs.Vocabulary.{ends, linked, EndReason, put_at, put_before, put_by, put_closing, put_for, put_for_selection}
-use Rattle.osi_blameless.proofs.Vocabulary.{put_in, put_in_two, put_in_zero, put_linked, put_only, put_sent, put_taking, put_to}
-use Rattle.osi_blameless.proofs.Vocabulary.{put_together, refusal, row_at, row_more, row_put, row_without, cc_plain, cr_by, size_in_range}
-use Rattle.osi_blameless.proofs.Vocabulary.{AreNumbered, IsNumbered, gives_written, link_opens, taken_numbered}
+use Rattle.osi_blameless.proofs.Vocabulary.{to_connection}
+use Rattle.osi_blameless.proofs.Vocabulary.{to_linked, to_only, to_reference, Rows, value_at, connects, user_does, closing, ends, linked}
+use Rattle.osi_blameless.proofs.Vocabulary.{EndReason, put_at, put_before, put_by, put_closing, put_for, put_for_selection, put_in}
+use Rattle.osi_blameless.proofs.Vocabulary.{put_in_two, put_in_zero, put_linked, put_only, put_sent, put_taking, put_to, put_together}
+use Rattle.osi_blameless.proofs.Vocabulary.{refusal, row_at, row_more, row_put, row_without, cc_plain, cr_by, size_in_range, AreNumbered}
+use Rattle.osi_blameless.proofs.Vocabulary.{IsNumbered, gives_written, link_opens, taken_numbered}
 use Rattle.osi_class.specs.Link.{taken}
 use Rattle.osi_carrier.specs.Calls.{sent_on}
 use Rattle.osi_carrier.specs.React.{opens}

@@ -1,7 +1,8 @@
 -- What each packet and the TSDUs of a session, which are not too long, leave true of a carrier and of the packets that it used so
 -- far, a turn of an end leaves true, whatever arrives and however much memory there is.
 -- For what a turn of an end does to its carrier. `osi_honest` has the like for TSDUs of any length.
-use Rattle.osi_blameless.proofs.Vocabulary.{[], ap, append_assoc, arith, Bool, drop, false, if◌then◌else◌, inl, inr, is_some, IsSome, length}
+use Rattle.osi_blameless.proofs.Vocabulary.{[], ap, append_assoc, arith, Bool, drop, false, if◌then◌else◌, inl, inr, is_some, IsSome}
+use Rattle.osi_blameless.proofs.Vocabulary.{length}
 use Rattle.osi_blameless.proofs.Vocabulary.{List, nat_lt, None, Option, option_map, refl, Some, subst, sym, take, true, ℕ, ◌++◌, ◌∙◌, ◌∷◌}
 use Rattle.osi_blameless.proofs.Vocabulary.{◌≡◌, ◌⊎◌, nat_tests, append-nil, take-append-drop, take_all, AllByRecursion, list_any, IsOctets}
 use Rattle.osi_blameless.proofs.Vocabulary.{ArePackets, Fed, tsap_octets, Tsap, Standing, acts_cases, closed_with, may_connect}

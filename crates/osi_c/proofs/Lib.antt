@@ -7,6 +7,7 @@ pub mod what_is_lent_is_stored
 pub mod octets_are_followed_by_zeros
 pub mod a_piece_passes_to_a_judge
 pub mod a_note_is_of_what_passed
+pub mod what_is_told_is_kept
 pub mod what_is_fetched_of_a_judge
 pub mod what_is_asked_of_a_judge
 pub mod each_connection_is_looked_at

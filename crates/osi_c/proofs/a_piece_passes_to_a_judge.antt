@@ -8,41 +8,62 @@ use Rattle.osi_side.specs.declared.directions.Direction.{Direction}
 use Rattle.osi_side.specs.declared.directions.Direction.TheVariants.{Left}
 use Rattle.osi_side.specs.Captures.{Capture, of, piece, stream}
 use Rattle.osi_judge.proofs.a_piece_comes_to_what_its_octets_do.{after_more}
+use Rattle.osi_judge.proofs.what_is_over_stays.{over_stays}
 use Rattle.osi_judge.specs.declared.rooms.Room.TheVariants.{Octets}
+use Rattle.osi_judge.specs.Connections.{Joined}
+use Rattle.osi_judge.specs.Pasts.{StayOver}
 use Rattle.osi_judge.specs.Standing.{HoldsState}
 use Rattle.osi_judge.specs.States.{State, after, begin_within}
 use Rattle.osi_report.specs.Openings.{Opens}
 use Rattle.osi_report.specs.declared.openings.Opening.{Opening}
-use Rattle.osi_c.specs.Judges.{fed, Knows, Passes, TakesPiece}
+use Rattle.osi_c.specs.Fed.{fed, WasFed}
+use Rattle.osi_c.specs.Judges.{AreDoneWith, Knows, Passes, TakesPiece}
+use Rattle.osi_c.specs.Subjects.{told_by}
 use Rattle.osi_c.specs.declared.judges.HeldJudge.{HeldJudge}
+use Rattle.osi_c.specs.declared.subjects.Subject.{Subject}
 
 -- ---- what a judge knows
 
 fed_more : (a b : Capture) → fed (a ++ b) ≡ after b (fed a)
 fed_more a b = after_more a b (begin_within (Octets 3145728))
 
+pub was_fed : (w : HeldJudge) (capture : Capture) → Knows w capture → WasFed w capture
+was_fed w capture k = record { holds = k.holds; opens = k.opens }
+
+-- of the connections that are over it has seen the same, and these keep their places
+pub seen_before : (old new : HeldJudge) (before now : List Joined) → new.seen ≡ old.seen → told_by new.told ≡ told_by old.told
+    → StayOver before now → AreDoneWith old.seen (told_by old.told) before → AreDoneWith new.seen (told_by new.told) now
+seen_before old new before now same told stay seen =
+    subst (λ (n : ℕ). AreDoneWith n (told_by new.told) now) (sym same)
+    (subst (λ (t : Subject → Bool). AreDoneWith old.seen t now) (sym told)
+    (λ i lt. let r = seen i lt in (r.0, stay i r.0 r.1, r.2, r.3)))
+
 -- octets passed to its judge and to its opening
 pub octets_known : (d : Direction) (octets : List ℕ) (old new : HeldJudge)
     → ((s : State) → HoldsState old.judge s → HoldsState new.judge (after (piece d octets) s))
     → ((capture : Capture) → Opens old.opening (stream Left capture) → Opens new.opening (stream Left (capture ++ piece d octets)))
-    → (capture : Capture) → Knows old capture → Knows new (capture ++ piece d octets)
-octets_known d octets old new judges opens capture k = record {
+    → new.seen ≡ old.seen → told_by new.told ≡ told_by old.told → (capture : Capture) → Knows old capture → Knows new (capture ++ piece d octets)
+octets_known d octets old new judges opens same told capture k = record {
   holds = subst (HoldsState new.judge) (sym (fed_more capture (piece d octets))) (judges (fed capture) k.holds);
   opens = opens capture k.opens;
+  seen = seen_before old new (fed capture).course.sessions.done (fed (capture ++ piece d octets)).course.sessions.done same told
+      (subst (λ (s : State). StayOver (fed capture).course.sessions.done s.course.sessions.done) (sym (fed_more capture (piece d octets)))
+      (over_stays (piece d octets) (fed capture))) k.seen;
 }
 
 -- its judge goes on, and nothing passes
 pub still_known : (old new : HeldJudge) → ((s : State) → HoldsState old.judge s → HoldsState new.judge s) → new.opening ≡ old.opening
-    → (capture : Capture) → Knows old capture → Knows new capture
-still_known old new judges same capture k = record {
+    → new.seen ≡ old.seen → told_by new.told ≡ told_by old.told → (capture : Capture) → Knows old capture → Knows new capture
+still_known old new judges same seen told capture k = record {
   holds = judges (fed capture) k.holds;
   opens = subst (λ (o : Opening). Opens o (stream Left capture)) (sym same) k.opens;
+  seen = seen_before old new (fed capture).course.sessions.done (fed capture).course.sessions.done seen told (λ i j e. e) k.seen;
 }
 
 -- ---- nothing passes
 
 pub none_passes : (d : Direction) (old new : HeldJudge) → ((capture : Capture) → Knows old capture → Knows new capture)
-    → new.told ≡ old.told → new.text ≡ old.text → Passes d [] old new
+    → told_by new.told ≡ told_by old.told → new.text ≡ old.text → Passes d [] old new
 none_passes d old new knows told text = record {
   knows = λ capture k. subst (Knows new) (sym (append-nil capture)) (knows capture k);
   told = told;

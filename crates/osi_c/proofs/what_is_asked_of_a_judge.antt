@@ -10,7 +10,8 @@ use Rattle.osi_judge.specs.Holding.{HoldsFound}
 use Rattle.osi_judge.specs.Standing.{IsSettled}
 use Rattle.osi_report.specs.Reports.{IsReached}
 use Rattle.osi_c.specs.Asking.{HasAsked, ShowsBreak, ShowsOf, ShowsTransport}
-use Rattle.osi_c.specs.Judges.{fed, Keeps, Settles}
+use Rattle.osi_c.specs.Fed.{fed}
+use Rattle.osi_c.specs.Judges.{Keeps, Settles}
 use Rattle.osi_c.specs.Notes.{Tells, is_certain}
 use Rattle.osi_c.specs.Verdicts.{Shows}
 use Rattle.osi_c.specs.declared.asking.Asked.{Asked}

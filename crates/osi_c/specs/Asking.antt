@@ -5,7 +5,8 @@ use Rattle.osi_side.specs.Captures.{Capture}
 use Rattle.osi_side.specs.declared.directions.Direction.{Direction}
 use Rattle.osi_judge.specs.Connections.{count, numbered}
 use Rattle.osi_c.specs.Codes.{coded}
-use Rattle.osi_c.specs.Judges.{fed, side_of, Knows, Keeps, Settles}
+use Rattle.osi_c.specs.Fed.{fed, WasFed}
+use Rattle.osi_c.specs.Judges.{side_of, Keeps, Settles}
 use Rattle.osi_c.specs.Notes.{Tells, is_certain}
 use Rattle.osi_c.specs.Verdicts.{Shows, nothing}
 use Rattle.osi_c.specs.declared.asking.Asked.{Asked}
@@ -35,7 +36,7 @@ pub record ShowsTransport (w : HeldJudge) (d : Direction) (v : OsiVerdict) : Typ
 
 -- whether a connection has this number, whatever the judge was fed
 abbrev pub IsNumbered : HeldJudge → ℕ → Bool → Type 0
-IsNumbered w number b = (capture : Capture) → Knows w capture → is_some (numbered number (fed capture).course.sessions) ≡ b
+IsNumbered w number b = (capture : Capture) → WasFed w capture → is_some (numbered number (fed capture).course.sessions) ≡ b
 
 -- on the session of a side of the connection with this number
 pub record ShowsSession (w : HeldJudge) (number : ℕ) (d : Direction) (v : OsiVerdict) : Type 0 where
@@ -91,7 +92,7 @@ Asks number side v answer old new = ⊥
 -- ---- how many connections were requested
 
 pub record Counts (w : HeldJudge) (n : ℕ) : Type 0 where
-  pub count : (capture : Capture) → Knows w capture → n ≡ offset_of (count (fed capture).course.sessions)
+  pub count : (capture : Capture) → WasFed w capture → n ≡ offset_of (count (fed capture).course.sessions)
 
 -- The answer to counting.
 pub data Counting : Type 0 where

@@ -6,14 +6,16 @@ use Rattle.osi_judge.specs.Standing.{IsSettled}
 use Rattle.osi_report.specs.Disputes.{Judges}
 use Rattle.osi_report.specs.Openings.{unjudged_in}
 use Rattle.osi_c.specs.Codes.{coded}
-use Rattle.osi_c.specs.Judges.{fed, Knows, Keeps}
+use Rattle.osi_c.specs.Fed.{fed, WasFed}
+use Rattle.osi_c.specs.Judges.{Knows, Keeps}
+use Rattle.osi_c.specs.Subjects.{told_by}
 use Rattle.osi_c.specs.declared.judgements.Written.{Written}
 use Rattle.osi_c.specs.declared.judgements.Written.TheVariants as written
 use Rattle.osi_c.specs.declared.judges.HeldJudge.{HeldJudge}
 
 -- what `osi judge` prints for whatever the judge was fed: a report, or why nothing is judged
 abbrev pub IsTextOf : HeldJudge → List ℕ → Type 0
-IsTextOf w text = (capture : Capture) → Knows w capture
+IsTextOf w text = (capture : Capture) → WasFed w capture
     → (status : ℕ) × Judges (unjudged_in (fed capture) (stream Left capture)) (fed capture) text status
 
 -- all that passed is judged, and the text says what it comes to
@@ -21,7 +23,7 @@ pub record WritesText (old new : HeldJudge) : Type 0 where
   pub knows : (capture : Capture) → Knows old capture → Knows new capture
   pub settled : IsSettled new.judge
   pub text : IsTextOf new new.text.items
-  pub told : new.told.items ≡ old.told.items
+  pub told : told_by new.told ≡ told_by old.told
 
 -- if memory ran out the text is as it was
 abbrev pub HasWritten : Written → HeldJudge → HeldJudge → Type 0

@@ -1,31 +1,40 @@
 -- A judge of a byte connection that C feeds: what passes, and what the calls answer.
-use Rattle.std.specs.Prelude.{◌≡◌, ◌≤◌, ◌<◌, ◌∷◌, ℕ, List, [], ◌++◌, take, length, Option, Some, None}
+use Rattle.std.specs.Prelude.{◌≡◌, ◌⊎◌, ◌≤◌, ◌<◌, ◌∷◌, ℕ, Bool, true, List, [], ◌++◌, take, length, Option, Some, None, slice_get}
 use Rattle.osi_side.specs.Captures.{Capture, piece, stream}
 use Rattle.osi_side.specs.declared.directions.Direction.{Direction}
 use Rattle.osi_side.specs.declared.directions.Direction.TheVariants.{Left, Right}
-use Rattle.osi_judge.specs.declared.rooms.Room.TheVariants.{Octets}
+use Rattle.osi_judge.specs.Connections.{Joined}
 use Rattle.osi_judge.specs.Standing.{HoldsState, IsSettled}
-use Rattle.osi_judge.specs.States.{State, begin_within, after}
 use Rattle.osi_report.specs.Openings.{Opens}
 use Rattle.osi_c.specs.Codes.{coded, Made, Begun, InUse}
 use Rattle.osi_c.specs.Codes as codes
+use Rattle.osi_c.specs.Fed.{fed}
+use Rattle.osi_c.specs.Notes.{IsStillOf}
+use Rattle.osi_c.specs.Subjects.{no_subject, told_by}
+use Rattle.osi_c.specs.declared.subjects.Subject.{Subject}
+use Rattle.osi_c.specs.declared.subjects.Subject.TheVariants.{Session}
 use Rattle.osi_c.specs.declared.judges.HeldJudge.{HeldJudge}
 
 -- ---- what a judge knows
 
--- what a capture comes to, if of each connection 3,145,728 octets may be kept
-abbrev pub fed : Capture → State
-fed capture = after capture (begin_within (Octets 3145728))
+-- nothing is certain of the session of a side of a connection, or C was told of it
+abbrev pub IsDoneWith : Direction → (told : Subject → Bool) → Joined → Type 0
+IsDoneWith d told j = IsStillOf d j ⊎ (told (Session j.number d) ≡ true)
 
--- it was fed this capture
+-- and of both sides of each of the first of these connections
+abbrev pub AreDoneWith : ℕ → (told : Subject → Bool) → List Joined → Type 0
+AreDoneWith n told js = (i : ℕ) → i < n → (j : Joined) × (slice_get js i ≡ Some j) × IsDoneWith Left told j × IsDoneWith Right told j
+
+-- it was fed this capture, and of the connections that are over nothing more is to be told of the first, which it has seen
 pub record Knows (w : HeldJudge) (capture : Capture) : Type 0 where
   pub holds : HoldsState w.judge (fed capture)
   pub opens : Opens w.opening (stream Left capture)
+  pub seen : AreDoneWith w.seen (told_by w.told) (fed capture).course.sessions.done
 
 -- it still knows what it was fed, C was told of nothing more, and the text is as it was
 pub record Keeps (old new : HeldJudge) : Type 0 where
   pub knows : (capture : Capture) → Knows old capture → Knows new capture
-  pub told : new.told.items ≡ old.told.items
+  pub told : told_by new.told ≡ told_by old.told
   pub text : new.text ≡ old.text
 
 -- and all that passed is judged
@@ -38,7 +47,7 @@ pub record Settles (old new : HeldJudge) : Type 0 where
 -- nothing has passed, C was told of nothing, and there is no text
 pub record IsNew (w : HeldJudge) : Type 0 where
   pub knows : Knows w []
-  pub told : w.told.items ≡ []
+  pub told : told_by w.told ≡ no_subject
   pub text : w.text.items ≡ []
 
 abbrev pub begins_of : ℕ → Option Made
@@ -55,7 +64,7 @@ Begins answer old new = ⊥
 -- these octets of a side passed
 pub record Passes (d : Direction) (octets : List ℕ) (old new : HeldJudge) : Type 0 where
   pub knows : (capture : Capture) → Knows old capture → Knows new (capture ++ piece d octets)
-  pub told : new.told ≡ old.told
+  pub told : told_by new.told ≡ told_by old.told
   pub text : new.text ≡ old.text
 
 -- so many of a piece

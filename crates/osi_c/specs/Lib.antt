@@ -9,9 +9,10 @@ pub mod Tracing
 pub mod Addressed
 pub mod Told
 pub mod Ruled
-pub mod Judges
 pub mod Subjects
+pub mod Fed
 pub mod Notes
+pub mod Judges
 pub mod Verdicts
 pub mod Fetching
 pub mod Asking

@@ -23,7 +23,7 @@ use Rattle.osi_judge.specs.Standing.{IsSettled}
 use Rattle.osi_judge.specs.States.{State}
 use Rattle.osi_report.specs.Telling.{is_dropped}
 use Rattle.osi_report.specs.Openings.{begins_late}
-use Rattle.osi_c.specs.Judges.{fed, Knows}
+use Rattle.osi_c.specs.Fed.{fed, WasFed}
 use Rattle.osi_c.specs.declared.judges.HeldJudge.{HeldJudge}
 use Rattle.osi_c.specs.declared.notes.Note.{Note}
 use Rattle.osi_c.specs.declared.notes.Note.TheVariants.{Silent, Kept, Broke, Leaves, TooMany, Over, Stopped, Halted, Unopened}
@@ -95,7 +95,7 @@ is_late_in capture = begins_late (fed capture) (stream Left capture)
 
 -- whatever the judge was fed
 abbrev pub Tells : HeldJudge → Subject → Note → Type 0
-Tells w k n = (capture : Capture) → Knows w capture → IsSettled w.judge → IsNote (fed capture) (is_late_in capture) k n
+Tells w k n = (capture : Capture) → WasFed w capture → IsSettled w.judge → IsNote (fed capture) (is_late_in capture) k n
 
 -- ---- what is certain
 
@@ -108,6 +108,10 @@ is_certain n = true
 -- nothing is certain of a side of a connection
 abbrev pub IsStillOf : Direction → Joined → Type 0
 IsStillOf d j = (n : Note) × IsNoteOf d j n × (is_certain n ≡ false)
+
+-- of the connection with a number, if there is one
+abbrev pub IsStillAt : Direction → Option Joined → Type 0
+IsStillAt d o = (n : Note) × IsNoteAt d o n × (is_certain n ≡ false)
 
 -- of either side of a connection that a judge holds, once each session has heard all
 abbrev pub IsStill : Connection → Type 0
@@ -127,5 +131,5 @@ StillPastIf false p = Unit {0}
 
 -- of a subject, whatever the judge was fed
 abbrev pub TellsNothing : HeldJudge → Subject → Type 0
-TellsNothing w k = (capture : Capture) → Knows w capture → IsSettled w.judge
+TellsNothing w k = (capture : Capture) → WasFed w capture → IsSettled w.judge
     → (n : Note) × IsNote (fed capture) (is_late_in capture) k n × (is_certain n ≡ false)

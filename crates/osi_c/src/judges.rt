@@ -3,7 +3,7 @@
 ghost use Rattle.std.specs.Prelude.{◌≡◌, ◌≤◌, ◌<◌, [], IfOk, OnErr, length, take};
 ghost use Rattle.osi_c.specs.Judges.{IsNew, Passes, TakesPiece};
 
-use crate::subjects::Subject;
+use crate::told::Told;
 use osi_judge::Judge;
 use osi_report::Opening;
 use osi_side::Direction;
@@ -14,13 +14,15 @@ use std::alloc::{AllocError, Global};
 /// much of outlines.
 const MOST_OF_A_CONNECTION: usize = 3_145_728;
 
-/// The contents of a C slot that judges a byte connection: the judge; how the octets of left begin; of what C was told; and the text
-/// that C asked for last. The text is lent until the next call.
+/// The contents of a C slot that judges a byte connection: the judge; how the octets of left begin; of what C was told; how many of
+/// the connections that are over were seen, in the order of `Judge::replaced`, of which nothing more is to be told; and the text that
+/// C asked for last. The text is lent until the next call.
 #[derive(Drop)]
 pub struct HeldJudge {
     pub judge: Judge,
     pub opening: Opening,
-    pub told: Vec<Subject>,
+    pub told: Told,
+    pub seen: usize,
     pub text: Vec<u8>,
 }
 
@@ -31,7 +33,8 @@ pub(crate) fn fresh(alloc: Global) -> HeldJudge
     HeldJudge {
         judge: Judge::within(alloc, MOST_OF_A_CONNECTION),
         opening: Opening::new(),
-        told: Vec::new(alloc),
+        told: Told::new(alloc),
+        seen: 0,
         text: Vec::new(alloc),
     }
 }

@@ -31,6 +31,7 @@ mod standings;
 mod streams;
 mod subjects;
 mod telling;
+mod told;
 mod traces;
 mod tracing;
 mod verdicts;

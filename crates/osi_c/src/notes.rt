@@ -8,7 +8,7 @@ ghost use Rattle.osi_judge.specs.Pasts.{HoldsPast};
 ghost use Rattle.osi_judge.specs.Standing.{HoldsState, IsSettled};
 ghost use Rattle.osi_judge.specs.States.{State};
 ghost use Rattle.osi_report.specs.Telling.{is_left, is_dropped, leaves};
-ghost use Rattle.osi_c.specs.Judges.{Knows};
+ghost use Rattle.osi_c.specs.Fed.{WasFed};
 ghost use Rattle.osi_c.specs.Notes.{note_of_found, note_of_kept, note_of_outcome, note_unless};
 ghost use Rattle.osi_c.specs.Notes.{note_of_break, note_of_halt, is_certain, is_late_in};
 ghost use Rattle.osi_c.specs.Notes.{IsNoteOf, IsNoteAt, StillIf, StillPastIf, Tells};
@@ -126,7 +126,7 @@ fn is_dropped_by(own: Outcome, beside: Outcome) -> bool
 }
 
 /// The same of the session of a side of a connection whose place was given to another.
-fn note_of_past(past: &Past, direction: Direction) -> Note
+pub(crate) fn note_of_past(past: &Past, direction: Direction) -> Note
     ensures { (j : Joined) → HoldsPast past.now j → IsNoteOf direction j result }
 {
     let own = past.outcome(direction);
@@ -210,7 +210,7 @@ fn note_of_halt(is_late: bool, halted: Option<Mark>) -> Note
 
 /// Whether the capture begins in the middle of a connection.
 fn is_late(held: &HeldJudge) -> bool
-    ensures { (capture : Capture) → Knows held.now capture → IsSettled held.now.judge → result ≡ is_late_in capture }
+    ensures { (capture : Capture) → WasFed held.now capture → IsSettled held.now.judge → result ≡ is_late_in capture }
 {
     osi_report::is_late(&held.judge, &held.opening)
 }

@@ -1,8 +1,7 @@
 //! Of what C is told on a byte connection.
 
 ghost use Rattle.std.specs.Prelude.{◌≡◌};
-ghost use Rattle.std.specs.List.{list_any};
-ghost use Rattle.osi_c.specs.Subjects.{same_side, same_session, same, leading_session, leading_by, leading};
+ghost use Rattle.osi_c.specs.Subjects.{leading_session, leading_by, leading};
 
 use osi_judge::{First, Layer};
 use osi_side::Direction;
@@ -16,46 +15,6 @@ pub enum Subject {
     Transport(Direction),
     /// After which packet nothing more of a side is judged.
     Rest(Direction),
-}
-
-fn is_same_side(one: Direction, other: Direction) -> bool
-    ensures { result ≡ same_side one other }
-{
-    match (one, other) {
-        (Direction::Left, Direction::Left) => true,
-        (Direction::Right, Direction::Right) => true,
-        (Direction::Left, Direction::Right) => false,
-        (Direction::Right, Direction::Left) => false,
-    }
-}
-
-fn is_same_session(number: usize, side: Direction, another: usize, beside: Direction) -> bool
-    ensures { result ≡ same_session number side another beside }
-{
-    if number != another {
-        return false;
-    }
-    is_same_side(side, beside)
-}
-
-fn is_same(one: &Subject, other: &Subject) -> bool
-    ensures { result ≡ same one.now other.now }
-{
-    match (*one, *other) {
-        (Subject::Session(number, side), Subject::Session(another, beside)) => is_same_session(
-            number, side, another, beside,
-        ),
-        (Subject::Transport(side), Subject::Transport(beside)) => is_same_side(side, beside),
-        (Subject::Rest(side), Subject::Rest(beside)) => is_same_side(side, beside),
-        _ => false,
-    }
-}
-
-/// Whether it is among those of which C was told.
-pub(crate) fn is_among(told: &[Subject], subject: Subject) -> bool
-    ensures { result ≡ list_any (λ k. same k subject) told.now }
-{
-    told.iter().any(|other| is_same(other, &subject))
 }
 
 fn leading_session(side: Direction, connection: Option<usize>) -> Option<Subject>

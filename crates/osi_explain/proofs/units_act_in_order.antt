@@ -1,6 +1,6 @@
 -- The units of a TSDU act in order, and its first unit last.
-use Rattle.std.proofs.Common.{◌≡◌, ◌∙◌, refl, ap, sym, ◌-◌, ℕ, zero, suc, Bool, true, false, ◌||◌, if◌then◌else◌, List, [], ◌∷◌, ◌++◌, Option, Some, None}
-use Rattle.std.proofs.Common.{arith, Result, Ok, Err}
+use Rattle.std.proofs.Common.{◌≡◌, ◌∙◌, refl, ap, sym, ◌-◌, ℕ, zero, suc, Bool, true, false, ◌||◌, if◌then◌else◌, List, [], ◌∷◌, ◌++◌}
+use Rattle.std.proofs.Common.{Option, arith, Result, Ok, Err}
 use Rattle.std.specs.List.{list_any, slice_get}
 use Rattle.osi_spdu.specs.declared.faults.SpduFault.{SpduFault}
 use Rattle.osi_spdu.specs.Known.{Units}
@@ -14,17 +14,9 @@ use Rattle.osi_session.specs.Joining.{acting_words, is_restart_word}
 abbrev pub ending : Bool → Words → Word → Words
 ending restarts rest first = if restarts || list_any is_restart_word rest then rest else rest ++ first ∷ []
 
-pub ending_begins : (first : Word) (rest : Words) → acting_words (first ∷ rest) ≡ ending false rest first
-unfolding acting_words
-ending_begins first rest = refl
-
 or_assoc : (a b c : Bool) → (a || (b || c)) ≡ ((a || b) || c)
 or_assoc true b c = refl
 or_assoc false b c = refl
-
-first_by : (b : Bool) (u : Word) (rest : Words) (first : Word) → slice_get (if b then u ∷ rest else (u ∷ rest) ++ first ∷ []) 0 ≡ Some u
-first_by true u rest first = refl
-first_by false u rest first = refl
 
 later_by : (b : Bool) (n : ℕ) (u : Word) (rest : Words) (first : Word) → slice_get (if b then u ∷ rest else (u ∷ rest) ++ first ∷ []) (suc n)
     ≡ slice_get (if b then rest else rest ++ first ∷ []) n
@@ -36,9 +28,6 @@ pub begun : (first f : Word) (rest r : Words) (place : ℕ) → f ≡ first → 
     → slice_get (acting_words (first ∷ rest)) place ≡ slice_get (ending false r f) place
 unfolding acting_words
 begun first f rest r place e h = ap (λ (x : Word). slice_get (ending false rest x) place) (sym e) ∙ ap (λ (x : Words). slice_get (ending false x f) place) (sym h)
-
-pub ending_first : (restarts : Bool) (u : Word) (rest : Words) (first : Word) → slice_get (ending restarts (u ∷ rest) first) 0 ≡ Some u
-ending_first restarts u rest first = first_by (restarts || list_any is_restart_word (u ∷ rest)) u rest first
 
 pub ending_later : (restarts : Bool) (n : ℕ) (u : Word) (rest : Words) (first : Word) → slice_get (ending restarts (u ∷ rest) first) (suc n)
     ≡ slice_get (ending (restarts || is_restart_word u) rest first) n

@@ -166,11 +166,6 @@ noted_last places ps p noted unknown lt number at e = by (place_of number ps) re
             let t = there number ps i f in
             grind (arith, slice_get-get_or ps i p t.within, t.found, same, unknown)
 
--- places are added
-pub noted_still : (old new : List ℕ) (ps : List Past) → ((n at : ℕ) → slice_get old n ≡ Some at → slice_get new n ≡ Some at)
-    → AreNoted old ps → AreNoted new ps
-noted_still old new ps kept noted number at e = kept number at (noted number at e)
-
 pub places_more : (old new : List ℕ) (x : ℕ) → new ≡ old ++ x ∷ [] → (n at : ℕ) → slice_get old n ≡ Some at → slice_get new n ≡ Some at
 places_more old new x is n at e = subst (λ (l : List ℕ). slice_get l n ≡ Some at) (sym is) (in_front old n e)
   where

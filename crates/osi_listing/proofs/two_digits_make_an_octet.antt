@@ -1,7 +1,8 @@
 -- The table of digits holds what a digit is worth, and two of them make an octet: for `value_of`, `octet_of` and `front_octet`.
 use Rattle.std.proofs.Common.{zero, suc, ◌&&◌, nat_eq, get_or}
 use Rattle.std.proofs.lemmas.Bool.{and_parts, cases_eq, eqb-true}
-use Rattle.osi_listing.proofs.Vocabulary.{◌≡◌, ◌∙◌, ◌<◌, ◌≤◌, ℕ, ◌+◌, ◌*◌, ◌-◌, Bool, true, List, Option, Some, None, length, take, drop, slice_index}
+use Rattle.osi_listing.proofs.Vocabulary.{◌≡◌, ◌∙◌, ◌<◌, ◌≤◌, ℕ, ◌+◌, ◌*◌, ◌-◌, Bool, true, List, Option, Some, None, length, take, drop}
+use Rattle.osi_listing.proofs.Vocabulary.{slice_index}
 use Rattle.osi_listing.proofs.Vocabulary.{refl, inl, inr, subst, arith, hex_digit_value, after_octets, digits_of, octets_from, ◌∷◌, []}
 use Rattle.osi_listing.specs.Digits.{octet_by, octet_of, value_or_256}
 use Rattle.osi_listing.proofs.digits_give_octets.{front_read}

@@ -2,14 +2,13 @@
 use Rattle.std.proofs.Common.{◌+◌, ◌*◌, ◌-◌, ◌≤◌, slice_index}
 use Rattle.std.proofs.lemmas.List.{take_all}
 use Rattle.hex.specs.Hex.{hex_digit_value}
-use Rattle.osi_listing.specs.Capture.{is_blank}
 use Rattle.osi_listing.specs.Digits.{octet_by, octet_of}
 use Rattle.osi_listing.proofs.digits_give_octets.{digit_no_blank}
 use Rattle.osi_report.proofs.Vocabulary.{◌≡◌, ◌∙◌, refl, sym, ap, ℕ, ◌==◌, false, List, [], ◌∷◌, ◌++◌, length, take, drop, Option, Some}
-use Rattle.osi_report.proofs.Vocabulary.{None, inl, inr, true, subst, arith, eqb_tells, append_assoc, map-append, Direction, Capture, of, piece}
+use Rattle.osi_report.proofs.Vocabulary.{None, inl, inr, subst, arith, eqb_tells, append_assoc, Direction, Capture, piece}
 use Rattle.osi_report.specs.declared.places.Place.{Place}
 use Rattle.osi_report.specs.declared.places.Step.{Step}
-use Rattle.osi_report.specs.Passing.{after_passed, digit_read, if_step, passed_from, plain, quiet, side_at, step_of}
+use Rattle.osi_report.specs.Passing.{after_passed, digit_read, if_step, passed_from, plain, side_at, step_of}
 
 pub after_none : (o : Option Capture) → after_passed [] o ≡ o
 after_none None = refl
@@ -71,64 +70,8 @@ pub octet_passes : (d : Direction) (text more : List ℕ) (octet : ℕ) → 2 �
 octet_passes d text more octet n h =
     front_by d text more octet (hex_digit_value (slice_index text 0)) (hex_digit_value (slice_index text 1)) n refl refl h
 
--- ---- blanks, and the first character of a line
-
-blank_no_feed : (c : ℕ) → is_blank c ≡ true → (c == 10) ≡ false
-blank_no_feed c h = elim (eqb_tells c 10) [
-  | inl e ↦ absurd (search (arith, h, e.1))
-  | inr n ↦ n.0
-]
-
-blank_no_sign : (c : ℕ) → is_blank c ≡ true → (c == 35) ≡ false
-blank_no_sign c h = elim (eqb_tells c 35) [
-  | inl e ↦ absurd (search (arith, h, e.1))
-  | inr n ↦ n.0
-]
-
-blank_steps : (d : Direction) (c : ℕ) → is_blank c ≡ true → step_of (plain d) c ≡ Some (quiet (plain d))
-blank_steps d c h = rw (blank_no_feed c h, blank_no_sign c h, h) refl
-
-blank_passes : (d : Direction) (c : ℕ) (rest : List ℕ) → is_blank c ≡ true → passed_from (plain d) (c ∷ rest) ≡ passed_from (plain d) rest
-blank_passes d c rest h =
-    ap (λ (s : Option Step). if_step s (λ (p : Place). passed_from p rest)) (blank_steps d c h) ∙ after_none (passed_from (plain d) rest)
-
-all_behind : (c : ℕ) (rest : List ℕ) → take (length (c ∷ rest) - 1) (drop 1 (c ∷ rest)) ≡ rest
-all_behind c rest = grind (arith, take_all)
-
-pub blank_at_front : (d : Direction) (text more : List ℕ) → 1 ≤ length text → is_blank (slice_index text 0) ≡ true
-    → passed_from (plain d) (take (length text - 1) (drop 1 text) ++ more) ≡ passed_from (plain d) (text ++ more)
-blank_at_front d [] more n h = absurd (omega arith)
-blank_at_front d (c ∷ rest) more n h =
-    ap (λ (xs : List ℕ). passed_from (plain d) (xs ++ more)) (all_behind c rest) ∙ sym (blank_passes d c (rest ++ more) h)
-
-pub line_begins : (p : Place) (text more : List ℕ) → 1 ≤ length text → (slice_index text 0 ≡ 10 → ⊥)
-    → passed_from (record p { begins = false; direction = side_at (slice_index text 0) p }) (text ++ more) ≡ passed_from p (text ++ more)
-line_begins p [] more n h = absurd (omega arith)
-line_begins p (c ∷ rest) more n h = elim (eqb_tells c 10) [
-  | inl e ↦ absurd (h e.1)
-  | inr other ↦ rw other.0 refl
-]
-
 -- ---- octets after octets
 
 pub after_both : (a b : Capture) (o : Option Capture) → after_passed (a ++ b) o ≡ after_passed a (after_passed b o)
 after_both a b None = refl
 after_both a b (Some x) = ap Some (append_assoc a b x)
-
-pub passed_both : (d : Direction) (xs ys : List ℕ) (o : Option Capture)
-    → after_passed (piece d (xs ++ ys)) o ≡ after_passed (piece d xs) (after_passed (piece d ys) o)
-passed_both d xs ys o = ap (λ (c : Capture). after_passed c o) (map-append (of d) xs ys) ∙ after_both (piece d xs) (piece d ys) o
-
--- four octets, one after the other
-pub four_pass : (d : Direction) (a b c e : ℕ) (all p q r rest : Option Capture) → all ≡ after_passed (piece d (a ∷ [])) p
-    → p ≡ after_passed (piece d (b ∷ [])) q → q ≡ after_passed (piece d (c ∷ [])) r → r ≡ after_passed (piece d (e ∷ [])) rest
-    → all ≡ after_passed (piece d (a ∷ b ∷ c ∷ e ∷ [])) rest
-four_pass d a b c e all p q r rest f g h k =
-    f ∙ ap (after_passed (piece d (a ∷ []))) (g ∙ ap (after_passed (piece d (b ∷ []))) (h ∙ ap (after_passed (piece d (c ∷ []))) k
-    ∙ sym (after_both (piece d (c ∷ [])) (piece d (e ∷ [])) rest)) ∙ sym (after_both (piece d (b ∷ [])) (piece d (c ∷ e ∷ [])) rest))
-    ∙ sym (after_both (piece d (a ∷ [])) (piece d (b ∷ c ∷ e ∷ [])) rest)
-
--- octets that were read and then pass, after those before
-pub read_on : (d : Direction) (old four : List ℕ) (all rest : Option Capture) → all ≡ after_passed (piece d four) rest
-    → after_passed (piece d (old ++ four)) rest ≡ after_passed (piece d old) all
-read_on d old four all rest e = passed_both d old four rest ∙ ap (after_passed (piece d old)) (sym e)

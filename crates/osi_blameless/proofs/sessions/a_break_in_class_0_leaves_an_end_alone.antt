@@ -4,7 +4,8 @@ use Rattle.osi_blameless.proofs.Vocabulary.{◌≡◌, ◌∙◌, inl, inr, refl
 use Rattle.osi_blameless.proofs.Vocabulary.{◌++◌, map, length, Some, arith, append_assoc, Result, Ok, AllByRecursion, append-nil, IsOctets}
 use Rattle.osi_blameless.proofs.Vocabulary.{units_of, Value, data0, written, TpduFault, Two, Zero, Local, other, Direction, is_applied}
 use Rattle.osi_blameless.proofs.Vocabulary.{class_for, takes, side_zero, Deeds, AreHard, IsHard, Known, Cause, unit_passes, units_pass}
-use Rattle.osi_blameless.proofs.Vocabulary.{unread, way_of, Joint, Step, begins_other, begins_own, passes_other, passes_own, turns, stops_last}
+use Rattle.osi_blameless.proofs.Vocabulary.{unread, way_of, Joint, Step, begins_other, begins_own, passes_other, passes_own, turns}
+use Rattle.osi_blameless.proofs.Vocabulary.{stops_last}
 use Rattle.osi_blameless.proofs.Vocabulary.{calls_from, IsNoPacket, IsUnread, LaterAlong, LaterSteps, spoilt}
 use Rattle.osi_rules.specs.declared.courses.Course.{Course as Judging}
 use Rattle.osi_rules.specs.declared.findings.Reach.TheVariants as reach
@@ -23,7 +24,8 @@ use Rattle.osi_blameless.proofs.what_passes_keeps_a_claim.{units_kept}
 use Rattle.osi_blameless.proofs.what_is_judged_beside_a_halted_side.{IsBeside, beside_break, beside_unread}
 use Rattle.osi_blameless.proofs.sessions.a_dt_that_is_too_long_stays_so.{IsTooLong, breaks_too_long}
 use Rattle.osi_blameless.proofs.sessions.an_end_beside_a_judge.{Goes, other_goes}
-use Rattle.osi_blameless.proofs.sessions.an_end_goes_on_as_if_no_break_had_come.{How, IsAsWithout, IsHardFor, is_over, none_alone, none_comes}
+use Rattle.osi_blameless.proofs.sessions.an_end_goes_on_as_if_no_break_had_come.{How, IsAsWithout, IsHardFor, is_over, none_alone}
+use Rattle.osi_blameless.proofs.sessions.an_end_goes_on_as_if_no_break_had_come.{none_comes}
 use Rattle.osi_blameless.proofs.sessions.an_end_goes_on_as_if_no_break_had_come.{other_alone, other_begins_alone, own_alone_so}
 use Rattle.osi_blameless.proofs.sessions.an_end_goes_on_as_if_no_break_had_come.{own_begins_alone, still_units, turn_alone, waits_for}
 use Rattle.osi_blameless.proofs.sessions.an_end_of_class_0_has_begun_what_a_judge_has_joined.{HasBegun}

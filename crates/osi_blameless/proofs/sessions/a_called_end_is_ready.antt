@@ -9,7 +9,8 @@ use Rattle.osi_blameless.proofs.Vocabulary.{Right, Connection, is_refused, has_g
 use Rattle.osi_blameless.proofs.Vocabulary.{Continues, Deeds, no_deeds, then_did, units_in, units_read, units_taken, Marked, all_units}
 use Rattle.osi_blameless.proofs.Vocabulary.{units_at, IsFresh, Turn, over_acts, AllProper, Life, WhenPast, amid, early, past, stage_at}
 use Rattle.osi_blameless.proofs.Vocabulary.{stage_by, stage_is, stage_over, all_units_more, taken_more, CanBeWritten, Sessions, Course}
-use Rattle.osi_blameless.proofs.Vocabulary.{Joint, Steps, TakesTurn, begin, begins_other, begins_own, passes_other, passes_own, parts_of}
+use Rattle.osi_blameless.proofs.Vocabulary.{Joint}
+use Rattle.osi_blameless.proofs.Vocabulary.{Steps, TakesTurn, begin, begins_other, begins_own, passes_other, passes_own, parts_of}
 use Rattle.osi_blameless.proofs.Vocabulary.{HaveSamePlaces, differ, above_up, IsOngoing}
 use Rattle.osi_carrier.specs.State.{Connection as Live, State as Carrier, asked}
 use Rattle.osi_fair.specs.Wholes as wholes
@@ -33,7 +34,8 @@ use Rattle.osi_blameless.proofs.sessions.each_unit_of_a_turn_has_one_connection.
 use Rattle.osi_blameless.proofs.sessions.nothing_comes_before_a_cc_passes.{IsBelow, below_higher, none_waits}
 use Rattle.osi_blameless.proofs.sessions.nothing_is_done_before_a_cr_passes.{known_from, may_take}
 use Rattle.osi_blameless.proofs.sessions.references_of_an_end_are_distinct.{GivesNew, IsUnused}
-use Rattle.osi_blameless.proofs.sessions.units_written_alike_have_the_same_ccs.{AnswersTwo, AreAlike, AreOrdered, HasCc, IsCc, has_either, has_above, has_alike}
+use Rattle.osi_blameless.proofs.sessions.units_written_alike_have_the_same_ccs.{AnswersTwo, AreAlike, AreOrdered, HasCc, IsCc, has_either}
+use Rattle.osi_blameless.proofs.sessions.units_written_alike_have_the_same_ccs.{has_above, has_alike}
 use Rattle.osi_blameless.proofs.sessions.units_written_alike_have_the_same_ccs.{has_back, has_front, none_before, not_twice_alike}
 use Rattle.osi_blameless.proofs.sessions.units_written_alike_have_the_same_ccs.{ordered_alike}
 use Rattle.osi_blameless.proofs.sessions.what_a_turn_puts_goes_to_its_peer.{all_back, same_units}

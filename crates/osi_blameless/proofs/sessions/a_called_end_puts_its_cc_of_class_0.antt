@@ -1,7 +1,8 @@
 -- The turn in which a called end selects class 0: it puts its CC first, and opens one connection with it. Before that nothing waits, and no
 -- connection is open. For the session of the connection of a called end in class 0.
 use Rattle.osi_blameless.proofs.Vocabulary.{◌≡◌, ◌∙◌, refl, sym, ap, subst, ℕ, ◌<◌, ◌≤◌, Bool, true, false, List, [], ◌∷◌}
-use Rattle.osi_blameless.proofs.Vocabulary.{◌++◌, map, Some, None, arith, is_some, ◌-◌, AllByRecursion, Connect, Value, acknowledge, confirm}
+use Rattle.osi_blameless.proofs.Vocabulary.{◌++◌, map, Some, None, arith, is_some, ◌-◌, AllByRecursion, Connect, Value, acknowledge}
+use Rattle.osi_blameless.proofs.Vocabulary.{confirm}
 use Rattle.osi_blameless.proofs.Vocabulary.{data0, data2, disconnect, disconnected, error, request, written, Zero, Local, acceptance}
 use Rattle.osi_blameless.proofs.Vocabulary.{unit_octets, Right, State, Selecting, AreAbove, IsInZero, zero_puts, IsClear, IsFirm, Continues}
 use Rattle.osi_blameless.proofs.Vocabulary.{Deeds, then_did, units_in, all_units, Turn, AllProper, Life, amid, early, stage_at, stage_is}

@@ -1,12 +1,14 @@
 -- Once the CC has passed that selects class 0, all connections of a called end stand at a judge: after what passes and is no break or is
 -- passed over, and after turns. For the session of the connection of a called end in class 0.
 use Rattle.osi_blameless.proofs.Vocabulary.{[], ap, Bool, false, inl, inr, length, List, refl, Some, subst, sym, true, ℕ, ◌++◌, ◌<◌, ◌^◌}
-use Rattle.osi_blameless.proofs.Vocabulary.{◌∙◌, ◌∷◌, ◌≡◌, ◌≢◌, ◌⊎◌, append-nil, AllByRecursion, slice_get, units_of, confirm, Connect}
-use Rattle.osi_blameless.proofs.Vocabulary.{request, Value, Zero, Local, Traffic as State, takes, Left, Right, AllProper, amid, early, Life}
-use Rattle.osi_blameless.proofs.Vocabulary.{opens_by, past, Time, stage_at, stays, Answers, Opens, Deeds, units_in, units_read, Marked}
-use Rattle.osi_blameless.proofs.Vocabulary.{Joined, Sessions, spoken, units_pass, heard, lines, selected, selecting, zero_stays, zero_puts}
-use Rattle.osi_blameless.proofs.Vocabulary.{IsFirm, unit as passing, Whole, begins_other, begins_own, Joint, passes_other, passes_own}
-use Rattle.osi_blameless.proofs.Vocabulary.{Steps, arith, Stage, AreApart, packet_begins}
+use Rattle.osi_blameless.proofs.Vocabulary.{◌∙◌}
+use Rattle.osi_blameless.proofs.Vocabulary.{◌∷◌, ◌≡◌, ◌≢◌, ◌⊎◌, append-nil, AllByRecursion, slice_get, units_of, confirm, Connect, request}
+use Rattle.osi_blameless.proofs.Vocabulary.{Value, Zero, Local, Traffic as State, takes, Left, Right, AllProper, amid, early, Life}
+use Rattle.osi_blameless.proofs.Vocabulary.{opens_by}
+use Rattle.osi_blameless.proofs.Vocabulary.{past, Time, stage_at, stays, Answers, Opens, Deeds, units_in, units_read, Marked, Joined}
+use Rattle.osi_blameless.proofs.Vocabulary.{Sessions, spoken, units_pass, heard, lines, selected, selecting, zero_stays, zero_puts, IsFirm}
+use Rattle.osi_blameless.proofs.Vocabulary.{unit as passing, Whole, begins_other, begins_own, Joint, passes_other, passes_own, Steps, arith}
+use Rattle.osi_blameless.proofs.Vocabulary.{Stage, AreApart, packet_begins}
 use Rattle.osi_rules.specs.declared.directions.Direction.TheVariants as way
 use Rattle.osi_fair.specs.Wholes as wholes
 use Rattle.osi_honest.specs.Courses.{Course}

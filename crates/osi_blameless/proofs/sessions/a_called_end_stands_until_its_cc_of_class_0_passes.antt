@@ -1,7 +1,8 @@
 -- From the turn in which a called end puts its CC of class 0 until this CC passes, all its connections stand at a judge; and after that, as
 -- in class 0. For the session of the connection of a called end in class 0.
 use Rattle.osi_blameless.proofs.Vocabulary.{[], ap, Bool, false, length, List, None, Option, refl, Some, subst, sym, true, ℕ, ◌++◌, ◌<◌}
-use Rattle.osi_blameless.proofs.Vocabulary.{◌^◌, ◌∙◌, ◌∷◌, ◌≡◌, eqb-true, append-nil, AllByRecursion, slice_get, units_of, confirm, Connect}
+use Rattle.osi_blameless.proofs.Vocabulary.{◌^◌}
+use Rattle.osi_blameless.proofs.Vocabulary.{◌∙◌, ◌∷◌, ◌≡◌, eqb-true, append-nil, AllByRecursion, slice_get, units_of, confirm, Connect}
 use Rattle.osi_blameless.proofs.Vocabulary.{disconnected, request, Value, parts_in, Zero, Local, class_of, Traffic as State, takes, Left}
 use Rattle.osi_blameless.proofs.Vocabulary.{Right, AllProper, amid, early, stage_at, CanBeWritten, Deeds, units_in, units_read, Joined}
 use Rattle.osi_blameless.proofs.Vocabulary.{Sessions, spoken, unit_passes, units_pass, heard, left_class, begins_other, begins_own, Joint}

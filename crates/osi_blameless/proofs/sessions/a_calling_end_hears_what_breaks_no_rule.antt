@@ -1,6 +1,5 @@
--- A calling end of class 2 hears each unit of the called side: a CC gives a reference for which nothing waits. So all its connections stand after
--- a packet of the called side.
--- For all connections of a calling end and a judge.
+-- A calling end of class 2 hears each unit of the called side: a CC gives a reference for which nothing waits. So all its connections stand
+-- after a packet of the called side. For all connections of a calling end and a judge.
 use Rattle.osi_blameless.proofs.Vocabulary.{arith, ◌≡◌, ◌∙◌, refl, sym, ap, subst, ℕ, Bool, true, List, [], ◌∷◌, ◌++◌, map, Some}
 use Rattle.osi_blameless.proofs.Vocabulary.{append_assoc, AllByRecursion, append-nil, HasFieldsInRange, Value, acknowledge, confirm, data0}
 use Rattle.osi_blameless.proofs.Vocabulary.{data2, disconnect, disconnected, error, Connect, request, written, Local, Left, Right}

@@ -1,6 +1,5 @@
--- A calling end of class 2 and a judge: what passes leaves all connections of the end standing, and so does a turn; and nobody of the end is
--- to blame at those that have lost their judgement.
--- For the session of each connection of an end.
+-- A calling end of class 2 and a judge: what passes leaves all connections of the end standing, and so does a turn; and nobody of the end
+-- is to blame at those that have lost their judgement. For the session of each connection of an end.
 use Rattle.osi_blameless.proofs.Vocabulary.{[], ap, inl, inr, length, List, Some, subst, sym, true, ℕ, ◌<◌, ◌^◌, ◌∙◌, ◌≡◌, ◌⊎◌}
 use Rattle.osi_blameless.proofs.Vocabulary.{AllByRecursion, slice_get, units_fit, units_found, Value, Part, Local, Left, Right, AllProper}
 use Rattle.osi_blameless.proofs.Vocabulary.{early, Life, stage_at, CanBeWritten, Continues, Deeds, then_did, units_in, all_units, Turn}

@@ -25,7 +25,8 @@ use Rattle.osi_blameless.proofs.sessions.connections_have_the_same_places.{unit_
 use Rattle.osi_blameless.proofs.sessions.crs_that_wait_are_above_those_that_passed.{AreAbove, above_along}
 use Rattle.osi_blameless.proofs.sessions.each_reference_of_an_end_is_new.{IsAhead, AreUpTo, begins_other_ahead}
 use Rattle.osi_blameless.proofs.sessions.each_reference_of_an_end_is_new.{begins_own_ahead, begins_up, gives_new}
-use Rattle.osi_blameless.proofs.sessions.each_reference_of_an_end_is_new.{other_up, passes_highest, passes_other_ahead, passes_own_ahead, unit_up, up_higher}
+use Rattle.osi_blameless.proofs.sessions.each_reference_of_an_end_is_new.{other_up, passes_highest, passes_other_ahead, passes_own_ahead}
+use Rattle.osi_blameless.proofs.sessions.each_reference_of_an_end_is_new.{unit_up, up_higher}
 use Rattle.osi_blameless.proofs.sessions.each_step_leaves_class_0_one_connection.{fresh_sure, sure_claim}
 use Rattle.osi_blameless.proofs.sessions.nothing_is_done_before_a_cr_passes.{AreUndone, cr_ready}
 use Rattle.osi_blameless.proofs.sessions.references_of_an_end_are_distinct.{AreDistinct, begins_distinct, unit_distinct}

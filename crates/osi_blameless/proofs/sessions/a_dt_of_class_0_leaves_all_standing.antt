@@ -2,8 +2,10 @@
 -- side that is none or is passed over. For the session of the connection of an end in class 0.
 use Rattle.osi_blameless.proofs.Vocabulary.{◌≡◌, ◌∙◌, arith, Option, refl, sym, ap, ℕ, Bool, true, false, List, [], ◌∷◌, ◌++◌, Some, None}
 use Rattle.osi_blameless.proofs.Vocabulary.{is_some, slice_get, Value, acknowledge, confirm, data0, data2, disconnect, disconnected, error}
-use Rattle.osi_blameless.proofs.Vocabulary.{request, Part, Class, Zero, other, Direction, Connection, Finding, Kept, Reach, Half, is_applied}
-use Rattle.osi_blameless.proofs.Vocabulary.{reach_of, is_open, own, State, class_for, connection_after, is_stopped, meaning_if, meant, takes}
+use Rattle.osi_blameless.proofs.Vocabulary.{request, Part, Class, Zero, other, Direction, Connection, Finding, Kept, Reach, Half}
+use Rattle.osi_blameless.proofs.Vocabulary.{is_applied}
+use Rattle.osi_blameless.proofs.Vocabulary.{reach_of, is_open, own, State, class_for, connection_after, is_stopped, meaning_if, meant}
+use Rattle.osi_blameless.proofs.Vocabulary.{takes}
 use Rattle.osi_blameless.proofs.Vocabulary.{Deeds, Joined, Sessions, reference_of, Course, unit_passes, way_of, IsOneOf}
 use Rattle.osi_rules.specs.declared.findings.Reach.TheVariants as reach
 use Rattle.osi_judge.specs.Connections as joined

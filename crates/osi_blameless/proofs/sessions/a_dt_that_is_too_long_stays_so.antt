@@ -2,9 +2,11 @@
 -- For a TSDU of the other side that becomes too long.
 use Rattle.osi_blameless.proofs.Vocabulary.{arith, ◌≡◌, ◌∙◌, refl, sym, ap, subst, ℕ, zero, suc, ◌+◌, ◌<◌, Bool, true, false, List, [], ◌∷◌}
 use Rattle.osi_blameless.proofs.Vocabulary.{map, length, nat_le, Some, None, eqb-true, leb-false, slice_get, Value, data0, longest_tsdu}
-use Rattle.osi_blameless.proofs.Vocabulary.{Zero, Local, other, Direction, Left, Right, Connection, Broke, Kept, Reach, is_applied}
-use Rattle.osi_blameless.proofs.Vocabulary.{first_failed, begins, own, State, class_for, connection_after, is_stopped, takes, unlike}
-use Rattle.osi_blameless.proofs.Vocabulary.{IsFirm, after_change, Course, unit_passes, way_of, Joint, Steps, passes_own, calls_from}
+use Rattle.osi_blameless.proofs.Vocabulary.{Zero}
+use Rattle.osi_blameless.proofs.Vocabulary.{Local, other, Direction, Left, Right, Connection, Broke, Kept, Reach, is_applied, first_failed}
+use Rattle.osi_blameless.proofs.Vocabulary.{begins, own, State, class_for, connection_after, is_stopped, takes, unlike, IsFirm}
+use Rattle.osi_blameless.proofs.Vocabulary.{after_change}
+use Rattle.osi_blameless.proofs.Vocabulary.{Course, unit_passes, way_of, Joint, Steps, passes_own, calls_from}
 use Rattle.osi_rules.specs.declared.findings.Rule.TheVariants as rule
 use Rattle.osi_rules.specs.Traffic as traffic
 use Rattle.osi_fair.specs.Wholes as wholes

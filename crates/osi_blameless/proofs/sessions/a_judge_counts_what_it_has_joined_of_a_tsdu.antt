@@ -5,8 +5,10 @@ use Rattle.osi_blameless.proofs.Vocabulary.{◌≡◌, ◌∙◌, ◌⊎◌, inl
 use Rattle.osi_blameless.proofs.Vocabulary.{List, [], ◌∷◌, ◌++◌, map, length, Some, is_some, arith, length-append}
 use Rattle.osi_blameless.proofs.Vocabulary.{slice_get_within, set, slice_get, Value, acknowledge, confirm, data0, data2, disconnect}
 use Rattle.osi_blameless.proofs.Vocabulary.{disconnected, error, request, longest_tsdu, other, Direction, Left, Connection, Reach, Half}
-use Rattle.osi_blameless.proofs.Vocabulary.{is_applied, begins, own, State, asked_by, begun_after, closing_phase, connection_after, found_on}
-use Rattle.osi_blameless.proofs.Vocabulary.{half_after, meaning_if, meant, takes, after_add, after_change, All, Joined, Sessions, adds, asked}
+use Rattle.osi_blameless.proofs.Vocabulary.{is_applied, begins, own, State, asked_by, begun_after, closing_phase, connection_after}
+use Rattle.osi_blameless.proofs.Vocabulary.{found_on}
+use Rattle.osi_blameless.proofs.Vocabulary.{half_after, meaning_if, meant, takes, after_add, after_change, All, Joined, Sessions, adds}
+use Rattle.osi_blameless.proofs.Vocabulary.{asked}
 use Rattle.osi_blameless.proofs.Vocabulary.{spoken, taken, user_of, Cause, Course, marks_of, way_of, Spoken, added, begun_octets}
 use Rattle.osi_blameless.proofs.Vocabulary.{HaveSamePlaces, moved, unread_mark, unread_moment}
 use Rattle.osi_rules.specs.Traffic as traffic

@@ -1,9 +1,9 @@
 -- A turn of an end leaves all its connections standing at a judge; and while they stand, no session of the end is to blame.
 -- For the session of each connection of an end.
 use Rattle.osi_blameless.proofs.Vocabulary.{[], Bool, false, List, refl, Some, true, ℕ, ◌++◌, ◌≡◌, slice_get, Value, Part, End, is_open}
-use Rattle.osi_blameless.proofs.Vocabulary.{own, Traffic as State, Connection, AsSent, AsParts, CalledLaw, CallerLaw, other, Direction}
-use Rattle.osi_blameless.proofs.Vocabulary.{Deeds, then_did, IsToBlame, Joined, reference_of, Sessions, way_of, calls_from, IsShownNow}
-use Rattle.osi_blameless.proofs.Vocabulary.{arith}
+use Rattle.osi_blameless.proofs.Vocabulary.{own}
+use Rattle.osi_blameless.proofs.Vocabulary.{Traffic as State, Connection, AsSent, AsParts, CalledLaw, CallerLaw, other, Direction, Deeds}
+use Rattle.osi_blameless.proofs.Vocabulary.{then_did, IsToBlame, Joined, reference_of, Sessions, way_of, calls_from, IsShownNow, arith}
 use Rattle.osi_honest.specs.Courses.{Course}
 use Rattle.osi_blameless.proofs.sessions.a_session_that_is_shown_is_not_to_blame.{none_broken, not_both, not_to_blame}
 use Rattle.osi_blameless.proofs.sessions.all_connections_stand.{AllStand, Rests, quiet, rests, there_too}

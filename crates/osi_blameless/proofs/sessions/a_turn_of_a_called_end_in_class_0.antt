@@ -2,12 +2,13 @@
 -- connection, and what it takes there is the first of what is in flight. And no session of it is to blame then. For the session of the
 -- connection of a called end in class 0.
 use Rattle.osi_blameless.proofs.Vocabulary.{[], ap, arith, Bool, false, inl, inr, is_some, List, nat_lt, Option, refl, Some, subst, suc}
-use Rattle.osi_blameless.proofs.Vocabulary.{sym, true, zero, ℕ, ◌++◌, ◌<◌, ◌==◌, ◌∙◌, ◌∷◌, ◌≡◌, ◌⊎◌, eq-eqb, eqb-true, lt-ltb}
-use Rattle.osi_blameless.proofs.Vocabulary.{AllByRecursion, slice_get, confirm, Connect, Value, Local, Carrier, Traffic as State}
-use Rattle.osi_blameless.proofs.Vocabulary.{Connection, AsSent, AsParts, CalledLaw, CallerLaw, Left, Right, AllProper, early, Life}
-use Rattle.osi_blameless.proofs.Vocabulary.{stage_at, all_units_more, none_mark, Continues, Deeds, then_did, units_in, all_units}
-use Rattle.osi_blameless.proofs.Vocabulary.{is_of_link, Marked, Turn, Joined, reference_of, unlike, IsFirm, Joint, TakesTurn, turns}
-use Rattle.osi_blameless.proofs.Vocabulary.{IsOneOf, Stage, AreApart, differ, number_is}
+use Rattle.osi_blameless.proofs.Vocabulary.{sym}
+use Rattle.osi_blameless.proofs.Vocabulary.{true, zero, ℕ, ◌++◌, ◌<◌, ◌==◌, ◌∙◌, ◌∷◌, ◌≡◌, ◌⊎◌, eq-eqb, eqb-true, lt-ltb, AllByRecursion}
+use Rattle.osi_blameless.proofs.Vocabulary.{slice_get, confirm, Connect, Value, Local, Carrier, Traffic as State, Connection, AsSent}
+use Rattle.osi_blameless.proofs.Vocabulary.{AsParts}
+use Rattle.osi_blameless.proofs.Vocabulary.{CalledLaw, CallerLaw, Left, Right, AllProper, early, Life, stage_at, all_units_more, none_mark}
+use Rattle.osi_blameless.proofs.Vocabulary.{Continues, Deeds, then_did, units_in, all_units, is_of_link, Marked, Turn, Joined, reference_of}
+use Rattle.osi_blameless.proofs.Vocabulary.{unlike, IsFirm, Joint, TakesTurn, turns, IsOneOf, Stage, AreApart, differ, number_is}
 use Rattle.osi_honest.specs.Courses.{Course}
 use Rattle.osi_judge.specs.Courses.{Course as Passed}
 use Rattle.osi_blameless.proofs.small_facts_that_many_lemmas_use.{all_front, none_first, none_some, same_item}

@@ -1,9 +1,13 @@
 -- What holds of an end and a judge as long as both sides are judged and one class is not selected: each step keeps it.
 -- For the laws that no session of an end is to blame.
-use Rattle.osi_blameless.proofs.Vocabulary.{arith, ◌≡◌, sym, subst, ℕ, ◌^◌, ◌<◌, List, length, Some, slice_get, AllByRecursion, Value, Class}
-use Rattle.osi_blameless.proofs.Vocabulary.{Local, other, Direction, Deeds, all_did, no_deeds, Turn, AllProper, IsSane, turn_sane, fresh_sane}
-use Rattle.osi_blameless.proofs.Vocabulary.{fresh_course, CanBeWritten, End, Holding, IsFresh, Joined, spoken, units_pass, heard, Joint, Step}
-use Rattle.osi_blameless.proofs.Vocabulary.{Steps, TakesTurn, begin, begins_other, begins_own, passes_other, passes_own, takes, turns, way_of}
+use Rattle.osi_blameless.proofs.Vocabulary.{arith, ◌≡◌, sym, subst, ℕ, ◌^◌, ◌<◌, List, length, Some, slice_get, AllByRecursion, Value}
+use Rattle.osi_blameless.proofs.Vocabulary.{Class}
+use Rattle.osi_blameless.proofs.Vocabulary.{Local, other, Direction, Deeds, all_did, no_deeds, Turn, AllProper, IsSane, turn_sane}
+use Rattle.osi_blameless.proofs.Vocabulary.{fresh_sane}
+use Rattle.osi_blameless.proofs.Vocabulary.{fresh_course, CanBeWritten, End, Holding, IsFresh, Joined, spoken, units_pass, heard, Joint}
+use Rattle.osi_blameless.proofs.Vocabulary.{Step}
+use Rattle.osi_blameless.proofs.Vocabulary.{Steps, TakesTurn, begin, begins_other, begins_own, passes_other, passes_own, takes, turns}
+use Rattle.osi_blameless.proofs.Vocabulary.{way_of}
 use Rattle.osi_blameless.proofs.Vocabulary.{calls_from}
 use Rattle.osi_rules.specs.declared.findings.Reach.TheVariants as reach
 use Rattle.osi_fair.specs.Wholes as wholes
@@ -19,7 +23,8 @@ use Rattle.osi_blameless.proofs.sessions.each_step_leaves_class_0_one_connection
 use Rattle.osi_blameless.proofs.sessions.no_more_tsdus_than_moments_have_passed.{AreFew, few_claim}
 use Rattle.osi_blameless.proofs.sessions.nobody_of_a_side_is_to_blame.{NeverToBlame, NoneIsToBlame, never_begins, never_first, never_unit}
 use Rattle.osi_blameless.proofs.sessions.what_is_asked_of_what_holds_at_each_step.{ArePassed, HaveCourses, IsStillJudged, Keeps}
-use Rattle.osi_blameless.proofs.sessions.what_is_asked_of_what_holds_at_each_step.{begins_judged, first_judged, lasts_so, nothing_judged, own_is}
+use Rattle.osi_blameless.proofs.sessions.what_is_asked_of_what_holds_at_each_step.{begins_judged, first_judged, lasts_so, nothing_judged}
+use Rattle.osi_blameless.proofs.sessions.what_is_asked_of_what_holds_at_each_step.{own_is}
 
 module _ (proper : AllProper) (barred : Class) (d : Direction) (local : Local) (Inv : (ℕ → Deeds) → Joint → Type 0)
     (k : Keeps barred d local Inv) where

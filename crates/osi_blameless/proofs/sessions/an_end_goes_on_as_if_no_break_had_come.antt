@@ -1,6 +1,6 @@
--- After a break of the other side in class 0 an end and a judge go on as if the break had not come: the end takes what came before it, and is
--- over with the break; and the judge joins nothing more of the other side.
--- For the law that no session of an end is to blame after such a break.
+-- After a break of the other side in class 0 an end and a judge go on as if the break had not come: the end takes what came before it, and
+-- is over with the break; and the judge joins nothing more of the other side. For the law that no session of an end is to blame after such
+-- a break.
 use Rattle.osi_blameless.proofs.Vocabulary.{◌≡◌, ◌∙◌, ◌⊎◌, inl, inr, refl, sym, ap, subst, ℕ, ◌^◌, ◌<◌, Bool, true, false, List, [], ◌∷◌}
 use Rattle.osi_blameless.proofs.Vocabulary.{◌++◌, map, length, Option, Ok, Some, None, IsSome, arith, append_assoc, AllByRecursion, lt-ltb}
 use Rattle.osi_blameless.proofs.Vocabulary.{append-nil, empty_partial, ArePackets, units_of, Value, data0, written, Standing, Two, Zero}

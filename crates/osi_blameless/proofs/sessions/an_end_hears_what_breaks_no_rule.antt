@@ -1,11 +1,11 @@
--- An end of class 2 hears each unit of the other side: a DT that has its effect adds to what is left over at its connection alone, and after
--- any other unit what is left over at a connection that is judged stays. So all its connections stand after each unit; and nobody of the end
--- is to blame at those that have lost their judgement.
--- For all connections of an end and a judge.
+-- An end of class 2 hears each unit of the other side: a DT that has its effect adds to what is left over at its connection alone, and
+-- after any other unit what is left over at a connection that is judged stays. So all its connections stand after each unit; and nobody of
+-- the end is to blame at those that have lost their judgement. For all connections of an end and a judge.
 use Rattle.osi_blameless.proofs.Vocabulary.{[], Bool, false, List, None, refl, Some, subst, sym, true, ℕ, ◌++◌, ◌∷◌, ◌≡◌, slice_get}
 use Rattle.osi_blameless.proofs.Vocabulary.{acknowledge, confirm, data0, data2, destination_of, disconnect, disconnected, error, request}
 use Rattle.osi_blameless.proofs.Vocabulary.{Connect, Value, Zero, is_applied, is_refused, class_for, found_on, is_stopped, takes}
-use Rattle.osi_blameless.proofs.Vocabulary.{Traffic as State, Connection, Broke, Left, Right, Direction, other, IsOngoing, Deeds, Joined, reference_of}
+use Rattle.osi_blameless.proofs.Vocabulary.{Traffic as State, Connection, Broke, Left, Right, Direction, other, IsOngoing, Deeds, Joined}
+use Rattle.osi_blameless.proofs.Vocabulary.{reference_of}
 use Rattle.osi_blameless.proofs.Vocabulary.{Sessions, unit_passes, judged_same, arith, way_of, Course}
 use Rattle.osi_rules.specs.declared.directions.Direction.{Direction as Way}
 use Rattle.osi_rules.specs.declared.directions.Direction.TheVariants as way

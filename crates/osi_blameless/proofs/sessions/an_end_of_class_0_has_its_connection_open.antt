@@ -33,8 +33,7 @@ open_in limit s c begun units still lasts class live h = grind (arith, over_none
 
 -- ---- a calling end
 
-calm_not : {A : Type 0} (w : Whole) (cs : List Connection) (drs : Disconnects) → w.judge ≡ calm_judge cs drs →
-    w.judge.course.class ≡ Some Zero →
+calm_not : {A : Type 0} (w : Whole) (cs : List Connection) (drs : Disconnects) → w.judge ≡ calm_judge cs drs → w.judge.course.class ≡ Some Zero →
     A
 calm_not w cs drs judge class = none_some w.judge.course.class Zero (ap (λ (t : State). t.course.class) judge) class
 

@@ -1,6 +1,7 @@
 -- An end of class 2 and a judge: what passes leaves all connections of the end standing, beside what holds of the end alone.
 -- For the session of each connection of an end.
-use Rattle.osi_blameless.proofs.Vocabulary.{[], ap, false, length, List, refl, Some, subst, sym, true, ℕ, ◌++◌, ◌<◌, ◌^◌, ◌∙◌, ◌∷◌, ◌≡◌, append-nil}
+use Rattle.osi_blameless.proofs.Vocabulary.{[], ap, false, length, List, refl, Some, subst, sym, true, ℕ, ◌++◌, ◌<◌, ◌^◌, ◌∙◌, ◌∷◌, ◌≡◌}
+use Rattle.osi_blameless.proofs.Vocabulary.{append-nil}
 use Rattle.osi_blameless.proofs.Vocabulary.{AllByRecursion, slice_get, units_of, Value, CanBeWritten, Deeds, no_deeds, units_in, units_read}
 use Rattle.osi_blameless.proofs.Vocabulary.{Holding, Joined, spoken, none, unit_passes, units_pass, heard, begins_other, begins_own, Joint}
 use Rattle.osi_blameless.proofs.Vocabulary.{begin, passes_other, passes_own, Steps, Direction, other, HaveSamePlaces, arith, packet_begins}

@@ -1,7 +1,9 @@
 -- No session of an end is to blame that has sent no DT; and what passes keeps that so, unless it is a DT of the end.
 -- For the law that no session of an end is blamed first, if the end doesn't offer class 2 and class 0 is not selected.
-use Rattle.osi_blameless.proofs.Vocabulary.{[], Bool, false, inl, inr, List, Some, subst, sym, ℕ, ◌∙◌, ◌∷◌, ◌≡◌, ◌⊎◌, slice_get, Value, Zero, Local}
-use Rattle.osi_blameless.proofs.Vocabulary.{meaning_if, meant, Traffic as State, takes, other, Direction, AllProper, Deeds, all_begin, asked}
+use Rattle.osi_blameless.proofs.Vocabulary.{[], Bool, false, inl, inr, List, Some, subst, sym, ℕ, ◌∙◌, ◌∷◌, ◌≡◌, ◌⊎◌, slice_get, Value}
+use Rattle.osi_blameless.proofs.Vocabulary.{Zero, Local}
+use Rattle.osi_blameless.proofs.Vocabulary.{meaning_if, meant, Traffic as State, takes, other, Direction, AllProper, Deeds, all_begin}
+use Rattle.osi_blameless.proofs.Vocabulary.{asked}
 use Rattle.osi_blameless.proofs.Vocabulary.{Joined, Sessions, spoken, taken, unit_passes, units_pass, way_of, Room, after_add}
 use Rattle.osi_blameless.proofs.Vocabulary.{after_set, IsOngoing, begins_other, begins_own, Joint, passes_other, passes_own, Step, Steps}
 use Rattle.osi_blameless.proofs.Vocabulary.{calls_from, arith, Course}

@@ -3,13 +3,13 @@
 -- For all connections of an end and a judge.
 use Rattle.osi_blameless.proofs.Vocabulary.{[], arith, Bool, Err, false, if◌then◌else◌, is_some, List, None, Ok, Option, refl, Result, Some}
 use Rattle.osi_blameless.proofs.Vocabulary.{subst, sym, true, ℕ, ◌++◌, ◌+◌, ◌<◌, ◌∷◌, ◌≡◌, ◌≤◌, AllByRecursion, acknowledge, confirm}
-use Rattle.osi_blameless.proofs.Vocabulary.{Connect, data0, data2, disconnect, disconnected, error, request, Value, all_given, Standing}
-use Rattle.osi_blameless.proofs.Vocabulary.{with_tsdu, accept, refuse, selected_by, Selection, LinkFault, Class, Two, Zero, sent}
-use Rattle.osi_blameless.proofs.Vocabulary.{before_class, denies, handed_out, in_class, in_two, react_by, Rows, user_does, UserCall, Live}
-use Rattle.osi_blameless.proofs.Vocabulary.{Carrier, unit_gives, AreAbove, all_gives, closed_gives, ended_gives, not_less, sent_gives}
-use Rattle.osi_blameless.proofs.Vocabulary.{above_more, units_no_cc, put_at, put_before, put_by, put_for, put_for_selection, put_in}
-use Rattle.osi_blameless.proofs.Vocabulary.{put_in_two, put_only, put_sent, put_taking, put_together, refusal, Event, HappenAlong, Happens}
-use Rattle.osi_blameless.proofs.Vocabulary.{Whole, answers, IsNoCc}
+use Rattle.osi_blameless.proofs.Vocabulary.{Connect}
+use Rattle.osi_blameless.proofs.Vocabulary.{data0, data2, disconnect, disconnected, error, request, Value, all_given, Standing, with_tsdu}
+use Rattle.osi_blameless.proofs.Vocabulary.{accept, refuse, selected_by, Selection, LinkFault, Class, Two, Zero, sent, before_class, denies}
+use Rattle.osi_blameless.proofs.Vocabulary.{handed_out, in_class, in_two, react_by, Rows, user_does, UserCall, Live, Carrier, unit_gives}
+use Rattle.osi_blameless.proofs.Vocabulary.{AreAbove, all_gives, closed_gives, ended_gives, not_less, sent_gives, above_more, units_no_cc}
+use Rattle.osi_blameless.proofs.Vocabulary.{put_at, put_before, put_by, put_for, put_for_selection, put_in, put_in_two, put_only, put_sent}
+use Rattle.osi_blameless.proofs.Vocabulary.{put_taking, put_together, refusal, Event, HappenAlong, Happens, Whole, answers, IsNoCc}
 unfoldable use Rattle.osi_carrier.specs.React.{react}
 use Rattle.osi_rules.specs.declared.directions.Direction.TheVariants as way
 use Rattle.osi_fair.specs.Wholes as wholes

@@ -7,10 +7,13 @@ use Rattle.osi_blameless.proofs.Vocabulary.{Value, Class, Two, Zero, is_applied,
 use Rattle.osi_blameless.proofs.Vocabulary.{is_named, is_open, is_over, is_over_by, is_refused, is_silent, asked_by, asks_by, asks_kept}
 use Rattle.osi_blameless.proofs.Vocabulary.{at_found, at_place, connection_after, course_after, found, found_on, judged_on, none_told}
 use Rattle.osi_blameless.proofs.Vocabulary.{request_tests, route_in, routed, sent_on, Traffic as State, takes, unnamed_told, uses_source}
-use Rattle.osi_blameless.proofs.Vocabulary.{Connection, Rules, Way as Direction, Finding, Broke, Kept, NotJudged, Reach, Half, Phase, unlike}
-use Rattle.osi_blameless.proofs.Vocabulary.{applied_found, applied_judged, no_item, not_first, not_true, AreJudged, reached_class, begun_live}
+use Rattle.osi_blameless.proofs.Vocabulary.{Connection, Rules, Way as Direction, Finding, Broke, Kept, NotJudged, Reach, Half, Phase}
+use Rattle.osi_blameless.proofs.Vocabulary.{unlike}
+use Rattle.osi_blameless.proofs.Vocabulary.{applied_found, applied_judged, no_item, not_first, not_true, AreJudged, reached_class}
+use Rattle.osi_blameless.proofs.Vocabulary.{begun_live}
 use Rattle.osi_blameless.proofs.Vocabulary.{each_add, each_map, each_set, first_true, HoldsOfEach, one_added, one_changed, one_mapped}
-use Rattle.osi_blameless.proofs.Vocabulary.{one_put, passes_each, NamesApart as AreApart, Sound, lasts_passing, set_there, HoldsOfOne, packet}
+use Rattle.osi_blameless.proofs.Vocabulary.{one_put, passes_each, NamesApart as AreApart, Sound, lasts_passing, set_there, HoldsOfOne}
+use Rattle.osi_blameless.proofs.Vocabulary.{packet}
 use Rattle.osi_blameless.proofs.Vocabulary.{passes, Passing, rubbish, unit, noted, arith, begun_left, begun_right, differ}
 use Rattle.osi_rules.specs.declared.directions.Direction.TheVariants.{Left, Right}
 use Rattle.osi_rules.specs.declared.findings.Rule.TheVariants as rule

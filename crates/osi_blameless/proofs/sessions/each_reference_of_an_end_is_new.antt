@@ -1,5 +1,5 @@
--- At a judge each CR of a calling end that passes gives a new reference, and so does each CC of a called end; and this stays so with each step.
--- For all connections of an end and a judge.
+-- At a judge each CR of a calling end that passes gives a new reference, and so does each CC of a called end; and this stays so with each
+-- step. For all connections of an end and a judge.
 use Rattle.osi_blameless.proofs.Vocabulary.{◌≡◌, ◌∙◌, ◌⊎◌, inl, inr, refl, sym, ap, subst, ℕ, ◌<◌, ◌≤◌, Bool, false, List, [], ◌∷◌, ◌++◌}
 use Rattle.osi_blameless.proofs.Vocabulary.{length, Option, Some, None, arith, slice_get, AllByRecursion, Connect, Value, confirm, request}
 use Rattle.osi_blameless.proofs.Vocabulary.{Direction, Left, Right, other, State, meaning_if, meant, takes, Event, HappenAlong, Whole}

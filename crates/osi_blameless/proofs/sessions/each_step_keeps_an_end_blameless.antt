@@ -1,10 +1,13 @@
--- The induction over steps: if each step keeps what holds of an end and a judge as long as both sides are judged and one class is not selected,
--- nobody of the end is ever to blame; or something else holds from a unit of the other side on.
--- For the laws that no session of an end is to blame, in either class.
-use Rattle.osi_blameless.proofs.Vocabulary.{◌≡◌, ◌∙◌, ◌⊎◌, inl, inr, refl, sym, ap, subst, ℕ, ◌^◌, ◌<◌, false, Ok, List, [], ◌∷◌, ◌++◌, length, Option}
-use Rattle.osi_blameless.proofs.Vocabulary.{Some, append_assoc, append-nil, arith, slice_get, IsOctets, units_of, Value, Class, Local, Capture}
+-- The induction over steps: if each step keeps what holds of an end and a judge as long as both sides are judged and one class is not
+-- selected, nobody of the end is ever to blame; or something else holds from a unit of the other side on. For the laws that no session of
+-- an end is to blame, in either class.
+use Rattle.osi_blameless.proofs.Vocabulary.{◌≡◌, ◌∙◌, ◌⊎◌, inl, inr, refl, sym, ap, subst, ℕ, ◌^◌, ◌<◌, false, Ok, List, [], ◌∷◌, ◌++◌}
+use Rattle.osi_blameless.proofs.Vocabulary.{length, Option}
+use Rattle.osi_blameless.proofs.Vocabulary.{Some, append_assoc, append-nil, arith, slice_get, IsOctets, units_of, Value, Class, Local}
+use Rattle.osi_blameless.proofs.Vocabulary.{Capture}
 use Rattle.osi_blameless.proofs.Vocabulary.{other, Direction, Finding, is_applied, reach_of, class_for, takes, stops_last, Holding, Deeds}
-use Rattle.osi_blameless.proofs.Vocabulary.{all_did, no_deeds, IsFresh, Turn, AllProper, Joined, spoken, heard, unit_passes, units_pass, way_of}
+use Rattle.osi_blameless.proofs.Vocabulary.{all_did, no_deeds, IsFresh, Turn, AllProper, Joined, spoken, heard, unit_passes, units_pass}
+use Rattle.osi_blameless.proofs.Vocabulary.{way_of}
 use Rattle.osi_blameless.proofs.Vocabulary.{comes_to, Joint, Step, Steps, StepsAlong, TakesTurn, begin, begins_other, begins_own}
 use Rattle.osi_blameless.proofs.Vocabulary.{passes_other, passes_own, turns, TurnsBad, calls_from}
 use Rattle.osi_rules.specs.declared.findings.Reach.TheVariants as reach

@@ -2,7 +2,8 @@
 -- other side. For the laws that no session of an end is to blame after a break, nor blamed first.
 use Rattle.osi_blameless.proofs.Vocabulary.{slice_get, ◌⊎◌, ℕ, inl, inr, ◌≡◌, refl, ◌^◌, ◌<◌, Bool, false, true, List, length, Option}
 use Rattle.osi_blameless.proofs.Vocabulary.{Some, Class, Zero, Local, Capture, Direction, Left, Right, other, AsSent, AsParts, CalledLaw}
-use Rattle.osi_blameless.proofs.Vocabulary.{CallerLaw, Holding, IsFresh, IsSeen, Run, Turn, Known, IsToBlame, Joined, Sessions, Course, comes_to}
+use Rattle.osi_blameless.proofs.Vocabulary.{CallerLaw, Holding, IsFresh, IsSeen, Run, Turn, Known, IsToBlame, Joined, Sessions, Course}
+use Rattle.osi_blameless.proofs.Vocabulary.{comes_to}
 use Rattle.osi_blameless.proofs.Vocabulary.{AreOctets, differ, BreaksFirst, First}
 use Rattle.osi_blameless.proofs.a_capture_is_steps.{capture_steps}
 use Rattle.osi_blameless.proofs.in_class_0_one_side_alone_is_judged.{IsLoose}

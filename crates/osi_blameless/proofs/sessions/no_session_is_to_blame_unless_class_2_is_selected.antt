@@ -1,10 +1,12 @@
--- No session of an end is to blame, whatever the other side breaks, as long as class 2 is not selected: after a break with which the judging of
--- the other side ends, an end goes on as if it had not come.
--- For the law that no session of an end is to blame after a break.
-use Rattle.osi_blameless.proofs.Vocabulary.{◌≡◌, ◌∙◌, ◌⊎◌, inl, inr, refl, sym, ap, subst, ℕ, ◌^◌, ◌<◌, Bool, true, false, Ok, List, [], ◌∷◌}
+-- No session of an end is to blame, whatever the other side breaks, as long as class 2 is not selected: after a break with which the
+-- judging of the other side ends, an end goes on as if it had not come. For the law that no session of an end is to blame after a break.
+use Rattle.osi_blameless.proofs.Vocabulary.{◌≡◌, ◌∙◌, ◌⊎◌, inl, inr, refl, sym, ap, subst, ℕ, ◌^◌, ◌<◌, Bool, true, false, Ok, List, []}
+use Rattle.osi_blameless.proofs.Vocabulary.{◌∷◌}
 use Rattle.osi_blameless.proofs.Vocabulary.{◌++◌, length, Option, Some, None, arith, AllByRecursion, IsOctets, units_of, Value, Two, Zero}
-use Rattle.osi_blameless.proofs.Vocabulary.{Local, Capture, other, Direction, Finding, Broke, TooMany, Reach, is_applied, reach_of, class_for}
-use Rattle.osi_blameless.proofs.Vocabulary.{is_stopped, takes, Deeds, Holding, IsFresh, Known, Cause, unit_passes, units_pass, way_of, comes_to}
+use Rattle.osi_blameless.proofs.Vocabulary.{Local, Capture, other, Direction, Finding, Broke, TooMany, Reach, is_applied, reach_of}
+use Rattle.osi_blameless.proofs.Vocabulary.{class_for}
+use Rattle.osi_blameless.proofs.Vocabulary.{is_stopped, takes, Deeds, Holding, IsFresh, Known, Cause, unit_passes, units_pass, way_of}
+use Rattle.osi_blameless.proofs.Vocabulary.{comes_to}
 use Rattle.osi_blameless.proofs.Vocabulary.{Joint, Step, Steps, calls_from, Class, IsNoPacket, IsUnread, LaterAlong, spoilt}
 use Rattle.osi_blameless.proofs.what_the_turns_among_steps_do.{ComesByDoing}
 use Rattle.osi_rules.specs.declared.findings.Reach.TheVariants as reach
@@ -30,7 +32,8 @@ use Rattle.osi_blameless.proofs.sessions.an_end_beside_a_judge.{Goes}
 use Rattle.osi_blameless.proofs.sessions.an_end_goes_on_as_if_no_break_had_come.{IsAsWithout}
 use Rattle.osi_blameless.proofs.sessions.an_end_of_class_0_has_begun_what_a_judge_has_joined.{HasBegun}
 use Rattle.osi_blameless.proofs.sessions.each_step_keeps_an_end_blameless.{Comes, IsDone, RestsSo, SoFar, Stood, all_done, at_last, ended}
-use Rattle.osi_blameless.proofs.sessions.each_step_keeps_an_end_blameless.{done_claim, goes, is_done, is_rest, is_taken, rested, with_packet}
+use Rattle.osi_blameless.proofs.sessions.each_step_keeps_an_end_blameless.{done_claim, goes, is_done, is_rest, is_taken, rested}
+use Rattle.osi_blameless.proofs.sessions.each_step_keeps_an_end_blameless.{with_packet}
 use Rattle.osi_blameless.proofs.sessions.nobody_of_a_side_is_to_blame.{NeverToBlame, never_unapplied, never_unread}
 use Rattle.osi_blameless.proofs.sessions.what_has_no_effect_joins_nothing.{too_many_ends}
 use Rattle.osi_blameless.proofs.sessions.what_is_asked_of_what_holds_at_each_step.{IsWithout, Keeps, firm_so, goes_so, units_join}

@@ -1,6 +1,6 @@
--- Of each connection that the other side has closed at the judge, its DR is in flight to the end, as long as the end has the connection open.
--- So it is as packets begin and units pass, and as the end takes a turn, if it takes no DR for a connection that it has open after it.
--- For the sessions of an end after a DT or an AK on a connection that its sender had closed.
+-- Of each connection that the other side has closed at the judge, its DR is in flight to the end, as long as the end has the connection
+-- open. So it is as packets begin and units pass, and as the end takes a turn, if it takes no DR for a connection that it has open after
+-- it. For the sessions of an end after a DT or an AK on a connection that its sender had closed.
 use Rattle.osi_blameless.proofs.Vocabulary.{[], ap, arith, Bool, false, inl, inr, length, List, None, Option, refl, Some, sym}
 use Rattle.osi_blameless.proofs.Vocabulary.{true, ℕ, ◌++◌, ◌∙◌, ◌∷◌, ◌≡◌, ◌⊎◌, eq-eqb, append-nil, slice_get, acknowledge, confirm, Connect}
 use Rattle.osi_blameless.proofs.Vocabulary.{data0, data2, disconnect, disconnected, error, request, Value, is_applied, begins, is_closing}

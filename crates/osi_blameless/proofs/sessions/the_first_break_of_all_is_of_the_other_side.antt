@@ -1,10 +1,13 @@
--- If no session of a side is to blame at any moment, and the judge finds no break of its transport, the first break of all, of transport and
--- of sessions, is of the other side.
--- For the laws that an end is never blamed first.
-use Rattle.osi_blameless.proofs.Vocabulary.{arith, ◌≡◌, ◌∙◌, ◌⊎◌, inl, inr, refl, sym, ap, subst, ℕ, Bool, true, false, List, [], ◌∷◌, ◌++◌, Option}
-use Rattle.osi_blameless.proofs.Vocabulary.{None, Some, is_some, AllByRecursion, Value, Capture, other, Direction, Left, Right, Finding, takes}
-use Rattle.osi_blameless.proofs.Vocabulary.{Told, BreaksFirst, IsBreakOf, IsFirstOf, IsToBlame, of_session, of_transport, Cause, First, Mark}
-use Rattle.osi_blameless.proofs.Vocabulary.{Course, Moment, cause_of, changes, comes_to, first_marked, is_break, mark_by, marked_past, marks_of}
+-- If no session of a side is to blame at any moment, and the judge finds no break of its transport, the first break of all, of transport
+-- and of sessions, is of the other side. For the laws that an end is never blamed first.
+use Rattle.osi_blameless.proofs.Vocabulary.{arith, ◌≡◌, ◌∙◌, ◌⊎◌, inl, inr, refl, sym, ap, subst, ℕ, Bool, true, false, List, [], ◌∷◌, ◌++◌}
+use Rattle.osi_blameless.proofs.Vocabulary.{Option}
+use Rattle.osi_blameless.proofs.Vocabulary.{None, Some, is_some, AllByRecursion, Value, Capture, other, Direction, Left, Right, Finding}
+use Rattle.osi_blameless.proofs.Vocabulary.{takes}
+use Rattle.osi_blameless.proofs.Vocabulary.{Told, BreaksFirst, IsBreakOf, IsFirstOf, IsToBlame, of_session, of_transport, Cause, First}
+use Rattle.osi_blameless.proofs.Vocabulary.{Mark}
+use Rattle.osi_blameless.proofs.Vocabulary.{Course, Moment, cause_of, changes, comes_to, first_marked, is_break, mark_by, marked_past}
+use Rattle.osi_blameless.proofs.Vocabulary.{marks_of}
 use Rattle.osi_blameless.proofs.Vocabulary.{noted_by, packet_begins, unit_passes, unread, unread_mark, unread_moment, way_of}
 use Rattle.osi_rules.specs.Traffic as traffic
 use Rattle.osi_judge.specs.Courses.{breaks}
@@ -162,7 +165,7 @@ module _ (d : Direction) where
       after_kept (IsMarked d) marked_claim capture states.begin
       (λ none. record { first = λ f is. absurd (cc is); past = tt }) unbroken
 
--- ---- the first break
+-- ---- breaks of transport
 
 all_at : (P : Moment → Type 0) (front back : List Moment) (m : Moment) → AllByRecursion P (front ++ m ∷ back) → P m
 all_at P [] back m h = h.0

@@ -1,13 +1,13 @@
 -- What a capture shows of a session as packets of both sides begin and pass, and as the end does
 -- more. For the law on a connection of an end and a judge.
 use Rattle.osi_blameless.proofs.Vocabulary.{[], ap, append_assoc, arith, Bool, false, length, List, map, None, Option, refl, Some, subst}
-use Rattle.osi_blameless.proofs.Vocabulary.{sym, true, ℕ, ◌++◌, ◌+◌, ◌<◌, ◌^◌, ◌∙◌, ◌∷◌, ◌≡◌, ◌≤◌, flat_map-append, append-nil}
-use Rattle.osi_blameless.proofs.Vocabulary.{length-append, length-map, map-append, AllByRecursion, offset_of, Value, parts_in, tsdus_out}
-use Rattle.osi_blameless.proofs.Vocabulary.{unit_parts, Part, tsdus, End, other, Direction, said_more, units_came, Deeds, said_in, then_did}
-use Rattle.osi_blameless.proofs.Vocabulary.{ends_whole, adds, adds_all, adds_if, Joined, reference_of, spoken, user_of, added, Begun}
-use Rattle.osi_blameless.proofs.Vocabulary.{begun_before, heard, octets_of, Spoken, fits, kept_on, Room, All, all_before, AreAfter}
-use Rattle.osi_blameless.proofs.Vocabulary.{before_begun, before_of, calls_from, IsJoinedFrom, IsShownNow, left_over, parts_of, with_next}
-use Rattle.osi_blameless.proofs.Vocabulary.{Said}
+use Rattle.osi_blameless.proofs.Vocabulary.{sym}
+use Rattle.osi_blameless.proofs.Vocabulary.{true, ℕ, ◌++◌, ◌+◌, ◌<◌, ◌^◌, ◌∙◌, ◌∷◌, ◌≡◌, ◌≤◌, flat_map-append, append-nil, length-append}
+use Rattle.osi_blameless.proofs.Vocabulary.{length-map, map-append, AllByRecursion, offset_of, Value, parts_in, tsdus_out, unit_parts, Part}
+use Rattle.osi_blameless.proofs.Vocabulary.{tsdus, End, other, Direction, said_more, units_came, Deeds, said_in, then_did, ends_whole, adds}
+use Rattle.osi_blameless.proofs.Vocabulary.{adds_all, adds_if, Joined, reference_of, spoken, user_of, added, Begun, begun_before, heard}
+use Rattle.osi_blameless.proofs.Vocabulary.{octets_of, Spoken, fits, kept_on, Room, All, all_before, AreAfter, before_begun, before_of}
+use Rattle.osi_blameless.proofs.Vocabulary.{calls_from, IsJoinedFrom, IsShownNow, left_over, parts_of, with_next, Said}
 use Rattle.osi_honest.specs.Courses.{Course}
 use Rattle.osi_judge.specs.Connections.{packet_begins}
 use Rattle.osi_judge.specs.Lines.{begins}

@@ -10,10 +10,10 @@ use Rattle.osi_blameless.proofs.Vocabulary.{connection_after, found, found_on, j
 use Rattle.osi_blameless.proofs.Vocabulary.{before_going, applied_judged, each_sound, Followed, IsAnswer, Tracked, all_so, is_tracked, both}
 use Rattle.osi_blameless.proofs.Vocabulary.{left_open, IsIdle, comes_for, HoldsOfEach, after_add, after_map, after_set, Sound, left_then}
 use Rattle.osi_blameless.proofs.Vocabulary.{own_stays, right_passes, IsOngoing, is_name, each_picked, names, picked_join, picked_other}
-use Rattle.osi_blameless.proofs.Vocabulary.{those, those_join, Continues, Deeds, units_in, units_read, Turn, Life, early, past, stage_at}
-use Rattle.osi_blameless.proofs.Vocabulary.{asked_so, has_given, Holding, Joined, Sessions, Course, unit_passes, units_pass, Joint, Steps}
-use Rattle.osi_blameless.proofs.Vocabulary.{TakesTurn, begin, begins_other, begins_own, passes_other, passes_own, HaveSamePlaces, IsOneOf}
-use Rattle.osi_blameless.proofs.Vocabulary.{named_by}
+use Rattle.osi_blameless.proofs.Vocabulary.{those}
+use Rattle.osi_blameless.proofs.Vocabulary.{those_join, Continues, Deeds, units_in, units_read, Turn, Life, early, past, stage_at, asked_so}
+use Rattle.osi_blameless.proofs.Vocabulary.{has_given, Holding, Joined, Sessions, Course, unit_passes, units_pass, Joint, Steps, TakesTurn}
+use Rattle.osi_blameless.proofs.Vocabulary.{begin, begins_other, begins_own, passes_other, passes_own, HaveSamePlaces, IsOneOf, named_by}
 use Rattle.osi_carrier.specs.State.{State as Carrier, asked}
 use Rattle.osi_rules.specs.declared.directions.Direction.{Direction as Way}
 use Rattle.osi_rules.specs.declared.directions.Direction.TheVariants as way
@@ -164,8 +164,7 @@ module _ (local : Local) (v : Value) (w : Whole) (rest : List Value) (put : w.pu
       own_after.judge.connections
   own_closed (nowhere place cs ts) p x at = q.closed p x (ap (λ (l : List Connection). slice_get l p) (sym cs) ∙ at)
   own_closed (somewhere i c k b r place there here one finding is far cs ts) p x at =
-      by (after_set w.judge.connections i p (connection_after way.Left v b r c) x
-      (ap (λ (l : List Connection). slice_get l p) (sym cs) ∙ at))
+      by (after_set w.judge.connections i p (connection_after way.Left v b r c) x (ap (λ (l : List Connection). slice_get l p) (sym cs) ∙ at))
     where
       by : ((p ≡ i) × (x ≡ connection_after way.Left v b r c)) ⊎ (slice_get w.judge.connections p ≡ Some x) → IsPast w.end x.left
       by (inr was) = q.closed p x was
@@ -251,8 +250,7 @@ module _ (local : Local) (v : Value) (w : Whole) (j : Follows local w) (on : All
       then_clear.sure)
 
 module _ (local : Local) (v : Value) (ranges : HasFieldsInRange v) (w : Whole) (j : Follows local w) (zero : IsNoZero v)
-    (clear : IsOngoing w.judge.course) (then_clear : IsOngoing (takes way.Right v w.judge).state.course)
-    (q : IsQuiet w.end w.coming w.judge)
+    (clear : IsOngoing w.judge.course) (then_clear : IsOngoing (takes way.Right v w.judge).state.course) (q : IsQuiet w.end w.coming w.judge)
     (now : (r : ℕ) → MayOpen w.end r → IsForOne r v → Tracked w.judge.connections r) where
   abbrev other_after : Whole
   other_after = record w { judge = (takes way.Right v w.judge).state; coming = w.coming ++ v ∷ [] }

@@ -1,7 +1,8 @@
 -- A unit that has no effect joins nothing: it broke a rule, or nothing more is judged, or it is one connection too many.
 -- For the session of each connection of an end, once nothing more is judged.
 use Rattle.osi_blameless.proofs.Vocabulary.{ap, false, Option, ℕ, ◌≡◌, Value, is_applied, reach_of, at_place, class_for, none_told, Outcome}
-use Rattle.osi_blameless.proofs.Vocabulary.{routed, Traffic as State, takes, Finding, TooMany, Route, Direction, Sessions, taken, unit_passes}
+use Rattle.osi_blameless.proofs.Vocabulary.{routed, Traffic as State, takes, Finding, TooMany, Route, Direction, Sessions, taken}
+use Rattle.osi_blameless.proofs.Vocabulary.{unit_passes}
 use Rattle.osi_blameless.proofs.Vocabulary.{way_of, set_same, arith, Course}
 use Rattle.osi_rules.specs.declared.findings.Reach.TheVariants as reach
 use Rattle.osi_blameless.proofs.sessions.connections_have_the_same_places.{unit_joins}

@@ -1,6 +1,5 @@
--- What is asked of what holds of an end and a judge at each step, by which nobody of the end is to blame as long as one class is not selected:
--- class 2, or class 0. And what units are while so much is judged.
--- For the laws that no session of an end is to blame.
+-- What is asked of what holds of an end and a judge at each step, by which nobody of the end is to blame as long as one class is not
+-- selected: class 2, or class 0. And what units are while so much is judged. For the laws that no session of an end is to blame.
 use Rattle.osi_blameless.proofs.Vocabulary.{◌≡◌, ◌≢◌, ◌∙◌, ◌⊎◌, refl, sym, ap, subst, ℕ, ◌^◌, ◌<◌, ◌≤◌, Bool, false, if◌then◌else◌, List}
 use Rattle.osi_blameless.proofs.Vocabulary.{[], ◌∷◌, ◌++◌, length, Some, is_some, arith, slice_get, length-append, Value, Class, Two, Zero}
 use Rattle.osi_blameless.proofs.Vocabulary.{Local, Capture, other, Direction, TooMany, class_for, is_stopped, takes, packet, unit, IsFirm}
@@ -50,8 +49,8 @@ abbrev pub IsOwn : (barred : Class) → Direction → Value → Passed → Type 
 IsOwn Two d v c = IsRight d v c × Sure c
 IsOwn Zero d v c = IsProper d v c
 
--- A unit of the other side, while class 2 is not selected: it breaks no rule, or its taker passes over that, or it comes after a DR; and it is
--- not one connection too many.
+-- A unit of the other side, while class 2 is not selected: it breaks no rule, or its taker passes over that, or it comes after a DR; and it
+-- is not one connection too many.
 pub record IsTakenEarly (d : Direction) (v : Value) (c : Passed) : Type 0 where
   pub taken : IsTolerable (other d) v c ⊎ IsAfterDr (other d) v c
   pub firm : IsFirm c.traffic.course

@@ -6,7 +6,8 @@ use Rattle.osi_blameless.proofs.Vocabulary.{[], ap, Bool, length, List, None, Op
 use Rattle.osi_blameless.proofs.Vocabulary.{eqb-true, AllByRecursion, confirm, Connect, data0, request, Value, Class, Two, Zero, Local}
 use Rattle.osi_blameless.proofs.Vocabulary.{has_given, Traffic as State, takes, Connection, Offer, early, past, stage_at, stage_is, IsOver}
 use Rattle.osi_blameless.proofs.Vocabulary.{one, answered, Calling, known, quiet, refused, begun_by, anyhow, zero_puts, PutsData}
-use Rattle.osi_blameless.proofs.Vocabulary.{calm_judge, done_takes, GoesOn, Waits, Whole, arith, ended, waits}
+use Rattle.osi_blameless.proofs.Vocabulary.{calm_judge}
+use Rattle.osi_blameless.proofs.Vocabulary.{done_takes, GoesOn, Waits, Whole, arith, ended, waits}
 use Rattle.osi_rules.specs.declared.directions.Direction.TheVariants.{Right}
 use Rattle.osi_fair.proofs.how_requests_go_on.{Stage, asks, zero}
 use Rattle.osi_blameless.proofs.small_facts_that_many_lemmas_use.{none_some}

@@ -1,6 +1,6 @@
 use Rattle.std.proofs.Common.{arith}
 use Rattle.osi_judge.specs.Connections.{numbered}
-use Rattle.osi_c.specs.Judges.{fed}
+use Rattle.osi_c.specs.Fed.{fed}
 use Rattle.osi_c.proofs.what_is_asked_of_a_judge.{found_some}
 use Rattle.osi_c.proofs.asking.is_numbered.Goals as goal
 

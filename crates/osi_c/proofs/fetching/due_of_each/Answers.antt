@@ -1,5 +1,6 @@
 use Rattle.std.proofs.Common.{◌∙◌, ◌≤◌, ◌<◌, sym, subst, length, arith}
 use Rattle.osi_c.specs.Fetching.{HasNoneBy}
+use Rattle.osi_c.specs.Subjects.{told_by}
 use Rattle.osi_c.proofs.each_connection_is_looked_at.{one_more_place, each_place}
 use Rattle.osi_c.proofs.what_is_fetched_of_a_judge.{some_is, none_is}
 use Rattle.osi_c.proofs.fetching.due_of_each.Goals as goal
@@ -10,16 +11,15 @@ returns-then-is_some-clause-none c = grind (arith, some_is)
 pub connections-preserved : goal.connections-preserved
 connections-preserved c =
     let lt : c.connections.place < length c.args.joints.now = omega arith in
-    one_more_place (HasNoneBy c.args.held.now c.args.held.now.told.items) c.args.joints.now c.connections.place
-    c.index-joints-place.result lt
+    one_more_place (HasNoneBy c.args.held.now (told_by c.args.held.now.told)) c.args.joints.now c.connections.place c.index-joints-place.result lt
     c.connections.invariant
-    (subst (HasNoneBy c.args.held.now c.args.held.now.told.items) c.index-joints-place.is
+    (subst (HasNoneBy c.args.held.now (told_by c.args.held.now.told)) c.index-joints-place.is
     (none_is c.due_by-due.result _ (sym c.is_some.ensures ∙ c.if-is_some.false) c.due_by-due.ensures.none))
 
 pub returns-clause-none : goal.returns-clause-none
 returns-clause-none c =
     let le : length c.args.joints.now ≤ c.connections.place = omega arith in
-    each_place (HasNoneBy c.args.held.now c.args.held.now.told.items) c.args.joints.now c.connections.place le c.connections.invariant
+    each_place (HasNoneBy c.args.held.now (told_by c.args.held.now.told)) c.args.joints.now c.connections.place le c.connections.invariant
 
 pub connections-init : goal.connections-init
 connections-init c = λ i x lt e. absurd (omega (arith, lt))

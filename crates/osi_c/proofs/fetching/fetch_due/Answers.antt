@@ -4,10 +4,7 @@ use Rattle.osi_c.proofs.fetching.fetch_due.Goals as goal
 
 pub returns-in-None : goal.returns-in-None
 returns-in-None c = λ settled decided. record {
-  settles = record {
-    keeps = same_kept c.args.held.now c.args.held.now (record { judge = refl; opening = refl; text = refl }) refl;
-    settled = settled;
-  };
+  settles = record { keeps = same_kept c.args.held.now c.args.held.now (record { judge = refl; opening = refl; text = refl }) refl refl; settled = settled };
   none = inr c.in-None.ensures.none;
 }
 

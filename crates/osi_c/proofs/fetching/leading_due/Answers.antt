@@ -1,7 +1,7 @@
 use Rattle.std.proofs.Common.{arith}
 use Rattle.std.proofs.Common.{◌≡◌, ◌∙◌, sym, ap, Some}
 use Rattle.osi_judge.specs.Standing.{first_in}
-use Rattle.osi_c.specs.Subjects.{leading}
+use Rattle.osi_c.specs.Subjects.{leading, told_by}
 use Rattle.osi_c.specs.Fetching.{IsDue}
 use Rattle.osi_c.specs.declared.subjects.Subject.{Subject}
 use Rattle.osi_c.specs.declared.fetching.Due.{Due}
@@ -15,7 +15,7 @@ pub returns-in-Some-clause-some : goal.returns-in-Some-clause-some
 returns-in-Some-clause-some c =
     let leads = sym (c.in-Some.ensures ∙ ap leading c.first.ensures.value) in
     both_some c.due_of.result (λ (d : Due). leading (first_in c.args.held.now.judge) ≡ Some d.subject)
-    (λ (d : Due). IsDue c.args.held.now c.args.held.now.told.items d.subject d.note)
+    (λ (d : Due). IsDue c.args.held.now (told_by c.args.held.now.told) d.subject d.note)
     (some_as c.due_of.result (λ (d : Due). d.subject ≡ c.in-Some.subject)
     (λ (d : Due). leading (first_in c.args.held.now.judge) ≡ Some d.subject)
     (λ d e. leads ∙ ap (λ (k : Subject). Some k) (sym e)) c.due_of.ensures.of_it)

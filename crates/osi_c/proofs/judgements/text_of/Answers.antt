@@ -2,7 +2,7 @@ use Rattle.osi_side.specs.Captures.{stream}
 use Rattle.osi_side.specs.declared.directions.Direction.TheVariants.{Left}
 use Rattle.osi_report.specs.Openings.{unjudged_in}
 use Rattle.osi_report.proofs.a_judgement_is_a_report_or_a_reason.{judges_as}
-use Rattle.osi_c.specs.Judges.{fed}
+use Rattle.osi_c.specs.Fed.{fed}
 use Rattle.osi_c.proofs.what_is_asked_of_a_judge.{fed_reached}
 use Rattle.osi_c.proofs.judgements.text_of.Goals as goal
 

@@ -9,7 +9,8 @@ pub returns-clause-passes : goal.returns-clause-passes
 returns-clause-passes c = record {
   knows = octets_known c.args.side (take c.in_ok-used.used c.args.octets.now) c.args.held.now _ c.in_ok-used.ensures.ok
       (subst (λ (z : List ℕ). (capture : Capture) → Opens c.args.held.now.opening (stream Left capture)
-      → Opens c.pass.new.self (stream Left (capture ++ piece c.args.side z))) c.split_at.ensures.front c.pass.ensures);
+      → Opens c.pass.new.self (stream Left (capture ++ piece c.args.side z))) c.split_at.ensures.front c.pass.ensures)
+      refl refl;
   told = refl;
   text = refl;
 }
@@ -17,4 +18,4 @@ returns-clause-passes c = record {
 pub returns-in_err-used-clause-err : goal.returns-in_err-used-clause-err
 returns-in_err-used-clause-err c =
     on_err c.from_residual.result _
-    (none_passes c.args.side c.args.held.now _ (still_known c.args.held.now _ c.in_err-used.ensures.err refl) refl refl)
+    (none_passes c.args.side c.args.held.now _ (still_known c.args.held.now _ c.in_err-used.ensures.err refl refl refl) refl refl)
