@@ -3,7 +3,7 @@
 # ladders, the programs and bindings, the packages, the pages (scripts/test_all). What needs something that isn't here is
 # named and counted as skipped.
 # make quick: runs tests and stored runs without a proof, and looks at layout and pages, in some minutes; it proves nothing.
-# make edits, or make edits CRATE=osi_spdu: tries the edits of crates/*/edits, which the prover must refuse, and the
+# make edits, or make edits CRATE=osi_spdu: tries the lists crates/*/edits.txt, which the prover must refuse, and the
 # functions of scripts/refused_borrows, which must not compile.
 # make lib: builds the library for C, into build/: libosi-session.a and libosi-session.so, with the number of its soname.
 # make install PREFIX=.. LIBDIR=.. DESTDIR=..: puts what was built, program or library or both, where the system finds it,
