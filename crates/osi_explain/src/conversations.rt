@@ -1,8 +1,13 @@
 //! One connection of a capture.
 
+ghost use Rattle.std.specs.Prelude.{◌≡◌, OnOk};
+ghost use Rattle.osi_explain.specs.Conversations.{stream_of, class_by, is_refused_by, limit_of};
+ghost use Rattle.osi_explain.specs.Told.{IsTraced};
+ghost use Rattle.osi_session.specs.Standing.{seen_calling, seen_called};
+
 use crate::places::{Place, Stop, earlier};
 use crate::streams::Stream;
-use crate::trails::run_of;
+use crate::trails::run_from;
 use osi_script::Side;
 use osi_session::Standing;
 use osi_side::Side as Judged;
@@ -119,7 +124,9 @@ impl Conversation {
     }
 
     /// What a side sent.
-    pub fn stream(&self, side: Side) -> &Stream {
+    pub fn stream(&self, side: Side) -> &Stream
+        ensures { result.now ≡ stream_of self.now side }
+    {
         match side {
             Side::Left => &self.left,
             Side::Right => &self.right,
@@ -127,7 +134,9 @@ impl Conversation {
     }
 
     /// The class that its CC selects; none if it was not accepted.
-    pub fn class(&self) -> Option<u8> {
+    pub fn class(&self) -> Option<u8>
+        ensures { result ≡ class_by self.now.answer }
+    {
         match self.answer {
             Some(answer) if !answer.is_refusal => Some(answer.class),
             _ => None,
@@ -135,7 +144,9 @@ impl Conversation {
     }
 
     /// Whether its CR was refused.
-    pub fn is_refused(&self) -> bool {
+    pub fn is_refused(&self) -> bool
+        ensures { result ≡ is_refused_by self.now.answer }
+    {
         match self.answer {
             Some(answer) => answer.is_refusal,
             None => false,
@@ -165,18 +176,24 @@ impl Conversation {
     }
 
     /// The run of each side is read off.
-    pub(crate) fn trace(&mut self, alloc: Global) -> Result<(), AllocError> {
+    #[tactic(auto, using(crate::proofs::a_run_explains_what_a_side_sent::traced_side))]
+    pub(crate) fn trace(&mut self, alloc: Global) -> Result<(), AllocError>
+        ensures left { OnOk result (IsTraced self.old.left self.new.left self.new.right seen_calling) }
+        ensures right { OnOk result (IsTraced self.old.right self.new.right self.new.left seen_called) }
+    {
         // In class 2 each end acknowledges what it takes, so the runs take what they can before they send.
         let is_late = self.class() == Some(2);
-        let left = run_of(alloc, &self.left, &self.right, is_late)?;
-        let right = run_of(alloc, &self.right, &self.left, is_late)?;
+        let left = run_from(alloc, &self.left, &self.right, Standing::calling(), is_late)?;
+        let right = run_from(alloc, &self.right, &self.left, Standing::called(), is_late)?;
         self.left.has_run(left);
         self.right.has_run(right);
         Ok(())
     }
 
     /// The first TSDU with which a side has no run.
-    pub fn limit(&self) -> Option<Stop> {
+    pub fn limit(&self) -> Option<Stop>
+        ensures { result ≡ limit_of self.now }
+    {
         earlier(self.left.limit, self.right.limit)
     }
 }

@@ -20,8 +20,9 @@
 //! So there is a run up to the TSDU with which the judge says that the side broke the protocol or left the profile, or that too many
 //! sessions explain it, and for all TSDUs otherwise.
 //!
-//! The contracts say what a line spells, and say nothing of a run: whoever tells one (`osi_witness`) plays the script before it is
-//! given to anybody.
+//! The contracts say what a line spells, and that the run of a side is one of a session: it is followed from its beginning before it is
+//! told. The law ([`mod@laws`]) says that such a run explains the units of the side. That a run is found is tested; whoever tells one
+//! (`osi_witness`) plays the script before it is given to anybody.
 //!
 //! What it leaves to others: the text of a capture (`osi_report`), the rules of transport (`osi_rules`), which sessions explain a
 //! side (`osi_side`), and playing (`osi_witness`).
@@ -31,8 +32,10 @@ mod calls;
 mod captures;
 mod conversations;
 mod halts;
+pub mod laws;
 mod lines;
 mod places;
+mod replays;
 mod streams;
 mod trails;
 mod units;

@@ -1,5 +1,8 @@
 //! One side of a connection: its TSDUs as they passed, and the sessions that the judge kept after each of their units.
 
+ghost use Rattle.std.specs.Prelude.{◌≡◌, get_or, [], IfSome, IfNone};
+ghost use Rattle.osi_explain.specs.Streams.{tsdus_of, Keeps};
+
 use crate::halts::Halt;
 use crate::places::{Place, Stop};
 use crate::units::acting_unit;
@@ -150,7 +153,9 @@ impl Stream {
     }
 
     /// The octets of the TSDU with this number, from 0 on.
-    pub fn tsdu(&self, number: usize) -> &[u8] {
+    pub fn tsdu(&self, number: usize) -> &[u8]
+        ensures { result.now ≡ get_or (tsdus_of self.now) number [] }
+    {
         match self.tsdus.get(number) {
             Some(tsdu) => self.octets.get(tsdu.start..tsdu.end).unwrap_or_default(),
             None => &[],
@@ -158,7 +163,9 @@ impl Stream {
     }
 
     /// The sessions that are kept after each unit, as far as there is a run.
-    pub(crate) fn kept(&self) -> &[Kept] {
+    pub(crate) fn kept(&self) -> &[Kept]
+        ensures { result.now ≡ self.now.kept.items }
+    {
         &self.kept
     }
 
@@ -183,14 +190,21 @@ impl Stream {
     }
 
     /// The run is this one. If none was found there is none at all.
-    pub(crate) fn has_run(&mut self, run: Option<Vec<Said>>) {
+    pub(crate) fn has_run(&mut self, run: Option<Vec<Said>>)
+        ensures keeps { Keeps self.old self.new }
+        ensures some { IfSome run (λ said. self.new.said.items ≡ said.items) }
+        ensures none { IfNone run (self.new.said ≡ self.old.said) }
+    {
         match run {
             Some(said) => self.said = said,
             None => self.stop_at_first(),
         }
     }
 
-    fn stop_at_first(&mut self) {
+    fn stop_at_first(&mut self)
+        ensures keeps { Keeps self.old self.new }
+        ensures said { self.new.said ≡ self.old.said }
+    {
         if let Some(tsdu) = self.tsdus.first() {
             self.limit = Some(Stop {
                 side: self.name,

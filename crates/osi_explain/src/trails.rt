@@ -3,9 +3,12 @@
 //! The judge keeps a session after a unit only if one that it kept before the unit goes on to it. So from the last unit on,
 //! each session has one before it, and only the TSDUs between the two are looked at.
 
-ghost use Rattle.std.specs.Prelude.{◌≡◌, IfOk};
+ghost use Rattle.std.specs.Prelude.{IfOk, IfSome};
 ghost use Rattle.osi_side.specs.Walking.{HearsTo};
+ghost use Rattle.osi_explain.specs.Streams.{tsdus_of};
+ghost use Rattle.osi_explain.specs.Trails.{Runs};
 
+use crate::replays::replays;
 use crate::streams::{Said, Stream};
 use crate::units::acting_unit;
 use osi_session::{Reply, Standing, is_restart_unit};
@@ -238,7 +241,7 @@ fn untold(alloc: Global, own: &Stream) -> Result<Vec<Said>, AllocError> {
 /// A run of a session that sends what a side sent, up to its limit: that of the first session that is kept at its end. If it is late,
 /// the session takes what it can before it sends a unit, and otherwise it takes as little as it can. None if a session has none before
 /// it, which doesn't happen.
-pub(crate) fn run_of(
+fn run_of(
     alloc: Global,
     own: &Stream,
     heard: &Stream,
@@ -265,4 +268,24 @@ pub(crate) fn run_of(
         }
     }
     Ok(Some(said))
+}
+
+/// The same run, if its session, followed from the state in which it begins, sends all that is told of it.
+pub(crate) fn run_from(
+    alloc: Global,
+    own: &Stream,
+    heard: &Stream,
+    begin: Standing,
+    is_late: bool,
+) -> Result<Option<Vec<Said>>, AllocError>
+    ensures { IfOk result (λ run. IfSome run (λ said.
+        Runs (tsdus_of own.now) (tsdus_of heard.now) own.now.kept.items said.items 0 begin)) }
+{
+    let Some(said) = run_of(alloc, own, heard, is_late)? else {
+        return Ok(None);
+    };
+    if replays(alloc, own, heard, begin, said.as_slice())? {
+        return Ok(Some(said));
+    }
+    Ok(None)
 }
