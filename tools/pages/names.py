@@ -82,7 +82,7 @@ def check_words():
              for path in glob.glob(f"{TOP}/{folder}/**/*", recursive=True) if not re.search(r"/(out|build|__pycache__)/", path)]
     known = set(re.findall(r"\w+", read("Makefile") + " ".join(map(os.path.basename, paths))))
     for path in paths:
-        if re.search(r"\.(rt|antt|h|hpp|c|py|rs|edit)$|/scripts/\w+$|/bench/ledger$", path) and os.path.isfile(path):
+        if re.search(r"\.(rt|antt|h|hpp|c|py|rs|edit)$|/edits\.txt$|/scripts/\w+$|/bench/ledger$", path) and os.path.isfile(path):
             known.update(re.findall(r"\w+", read(path)))
     for page in (page for page in pages() if page.startswith("docs/") and page not in ("docs/TOOL.md", "docs/PYTHON.md")):
         spans = " ".join(re.findall(r"`([^`\n]+)`", FENCE.sub("", read(page))))
