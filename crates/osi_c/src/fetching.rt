@@ -160,7 +160,8 @@ fn leading_due(held: &HeldJudge) -> Option<Due>
 /// What is to be told, but of the break that passed first.
 fn other_due(held: &HeldJudge) -> Option<Due>
     ensures some { IfSome result (λ d. IsDue held.now (told_by held.now.told) d.subject d.note) }
-    ensures none { IfNone result (HasNoneOfTransport held.now (told_by held.now.told) × HasNoneOfSessions held.now (told_by held.now.told)) }
+    ensures none { IfNone result (HasNoneOfTransport held.now (told_by held.now.told)
+        × HasNoneOfSessions held.now (told_by held.now.told)) }
 {
     match transport_due(held) {
         Some(due) => Some(due),
