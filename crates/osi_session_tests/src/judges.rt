@@ -40,6 +40,8 @@ const PART: &[u8] = &[
 ];
 /// The header of another one in the same TSDU.
 const NEXT_PART: &[u8] = &[0x03, 0x00, 0xFF, 0xFF, 0x02, 0xF0, 0x00];
+/// The last four octets of its user data.
+const REST: &[u8] = &[0x5A, 0x5A, 0x5A, 0x5A];
 /// A DT of four octets that ends it.
 const LAST_PART: &[u8] = &[
     0x03, 0x00, 0x00, 0x0B, 0x02, 0xF0, 0x80, 0x64, 0x61, 0x74, 0x61,
@@ -245,7 +247,7 @@ fn long_tsdus_and_pieces_pass(rt: HostRuntime) -> Result<(), Fail> {
     tsdu.extend_from_slice(octets.as_slice())?;
     tsdu.extend_from_slice(NEXT_PART)?;
     tsdu.extend_from_slice(octets.as_slice())?;
-    tsdu.extend_from_slice(&octets.as_slice()[..4])?;
+    tsdu.extend_from_slice(REST)?;
     tsdu.extend_from_slice(LAST_PART)?;
     let checks = Checks::new();
     as_judged(
