@@ -65,18 +65,19 @@ static void ends_kept(void)
     runs += 1;
 }
 
-/* Writes a DT of class 0 that begins with these octets and has so many in all. */
-static size_t dt(uint8_t *at, bool last, const uint8_t *units, size_t begun, size_t data)
+static const uint8_t data_begins[] = {1, 0, 1, 0};
+
+/* Writes a DT of class 0 with so many octets of a TSDU with data, from the first, the second and so on. */
+static size_t dt(uint8_t *at, bool last, size_t from, size_t data)
 {
     const size_t length = 7 + data;
     const uint8_t header[] = {3, 0, (uint8_t)(length >> 8), (uint8_t)length, 2, 0xF0, last ? 0x80 : 0};
     memcpy(at, header, sizeof header);
     memset(at + sizeof header, 0x41, data);
-    memcpy(at + sizeof header, units, begun);
+    for (size_t i = from; i < sizeof data_begins && i < from + data; ++i)
+        at[sizeof header + i - from] = data_begins[i];
     return length;
 }
-
-static const uint8_t data_begins[] = {1, 0, 1, 0};
 
 /* What is held while a TSDU of so many parts is not finished. */
 static void is_held(size_t kept, size_t before, const char *when)
@@ -96,12 +97,12 @@ static void in_parts(size_t part)
     const size_t before = memory_octets();
     size_t kept = 0;
     for (; kept + 2 * part <= LONGEST; kept += part) {
-        feeds(OSI_LEFT, packet, dt(packet, false, data_begins, kept == 0 ? 4 : 0, part));
+        feeds(OSI_LEFT, packet, dt(packet, false, kept, part));
         is_held(kept + part, before, "unfinished,");
     }
-    feeds(OSI_LEFT, packet, dt(packet, true, data_begins, 0, part));
+    feeds(OSI_LEFT, packet, dt(packet, true, kept, part));
     is_held(0, before, "ended,");
-    feeds(OSI_LEFT, packet, dt(packet, true, data_begins, 4, 8));
+    feeds(OSI_LEFT, packet, dt(packet, true, 0, 8));
     ends_kept();
 }
 
@@ -114,9 +115,9 @@ static void in_pieces(void)
     text_clear(&place);
     text_put(&place, "a long TSDU in pieces");
     opens();
-    size_t length = dt(packet, false, data_begins, 4, PACKET - 7);
-    length += dt(packet + length, false, data_begins, 0, PACKET - 7);
-    length += dt(packet + length, true, data_begins, 0, 1000);
+    size_t length = dt(packet, false, 0, PACKET - 7);
+    length += dt(packet + length, false, PACKET - 7, PACKET - 7);
+    length += dt(packet + length, true, 2 * (PACKET - 7), 1000);
     feeds(OSI_LEFT, packet, length);
     for (size_t i = 0; i < sizeof cuts / sizeof cuts[0]; i++) {
         feeds(OSI_LEFT, packet, cuts[i]);
