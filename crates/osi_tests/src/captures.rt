@@ -350,7 +350,7 @@ fn a_capture_is_judged_in_any_pieces(rt: HostRuntime) -> Result<(), Fail> {
     let checks = Checks::new();
     sessions_are_judged(&checks, rt.alloc());
     transports_are_judged(&checks, rt.alloc());
-    checks.result()
+    checks.end()
 }
 
 #[test]
@@ -358,5 +358,5 @@ fn a_long_capture_is_judged(rt: HostRuntime) -> Result<(), Fail> {
     let octets = vec![in rt.alloc(); 0x5A; 65_528]?;
     let checks = Checks::new();
     judged(&checks, rt.alloc(), Fed::Long(octets.as_slice()));
-    checks.result()
+    checks.end()
 }

@@ -386,7 +386,7 @@ fn who_says_what_no_session_could_is_found(rt: HostRuntime) -> Result<(), Fail> 
     restarts_are_judged(&checks, rt.alloc());
     aborts_are_judged(&checks, rt.alloc());
     others_are_judged(&checks, rt.alloc());
-    checks.result()
+    checks.end()
 }
 
 fn rows_are_judged(checks: &Checks, alloc: Global) {
@@ -399,5 +399,5 @@ fn rows_are_judged(checks: &Checks, alloc: Global) {
 fn what_differs_in_user_data_alone_is_kept_once(rt: HostRuntime) -> Result<(), Fail> {
     let checks = Checks::new();
     rows_are_judged(&checks, rt.alloc());
-    checks.result()
+    checks.end()
 }

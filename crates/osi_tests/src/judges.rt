@@ -237,7 +237,7 @@ fn a_bound_counts_what_is_kept(rt: HostRuntime) -> Result<(), Fail> {
     let checks = Checks::new();
     as_judged(&checks, rt.alloc(), 284, Fed::Data(true));
     as_judged(&checks, rt.alloc(), 283, Fed::Data(false));
-    checks.result()
+    checks.end()
 }
 
 #[test]
@@ -256,7 +256,7 @@ fn long_tsdus_and_pieces_pass(rt: HostRuntime) -> Result<(), Fail> {
         1_048_576,
         Fed::LongTsdu(tsdu.as_slice()),
     );
-    checks.result()
+    checks.end()
 }
 
 #[test]
@@ -273,5 +273,5 @@ fn many_units_and_connections_pass(rt: HostRuntime) -> Result<(), Fail> {
         Fed::ManyUnits(packet.as_slice()),
     );
     as_judged(&checks, rt.alloc(), 1_048_576, Fed::Connections);
-    checks.result()
+    checks.end()
 }

@@ -379,7 +379,7 @@ fn opens_and_does(checks: &Checks, alloc: Global, what: Calling) {
 fn caller_does(alloc: Global, what: Calling) -> Result<(), Fail> {
     let checks = Checks::new();
     opens_and_does(&checks, alloc, what);
-    checks.result()
+    checks.end()
 }
 
 #[test]
@@ -473,7 +473,7 @@ fn a_part_of_data_may_be_too_long(rt: HostRuntime) -> Result<(), Fail> {
     begin_part(part.as_mut_slice());
     let checks = Checks::new();
     called_does(&checks, rt.alloc(), Called::TakeTooLong(part.as_slice()));
-    checks.result()
+    checks.end()
 }
 
 /// A refusal, and the RF that it sends.
@@ -506,5 +506,5 @@ fn refusals_are_sent(checks: &Checks, alloc: Global) {
 fn a_refusal_says_why(rt: HostRuntime) -> Result<(), Fail> {
     let checks = Checks::new();
     refusals_are_sent(&checks, rt.alloc());
-    checks.result()
+    checks.end()
 }

@@ -274,7 +274,7 @@ fn are_done(checks: &Checks, ends: &mut Ends, steps: Steps) {
 fn two_ends_do(alloc: Global, steps: Steps) -> Result<(), Fail> {
     let checks = Checks::new();
     are_done(&checks, &mut two_ends(alloc), steps);
-    checks.result()
+    checks.end()
 }
 
 /// A selector of 17 octets is refused, and so is a request for a connection at a called end.
@@ -299,7 +299,7 @@ fn a_connection_is_asked_for_at_the_greatest_lengths(rt: HostRuntime) -> Result<
         &mut Stack::caller(rt.alloc(), local()),
         &[0x41; 10_240],
     );
-    checks.result()
+    checks.end()
 }
 
 /// Two connections are distinguished by their addresses, which the called end has once the CN arrived. The first is
