@@ -1,7 +1,7 @@
 -- The effect of `pair`, for a reader and a writer that give access to their octets.
 use Rattle.std.specs.Prelude.{ℕ, ◌≤◌, List, length, Option}
 use Rattle.std.specs.Io.KnownBytes.{Appends}
-use Rattle.osi_names.specs.Lines.{lines_of}
+use Rattle.osi_script.specs.Cutting.{lines_of}
 use Rattle.osi_tool.specs.Show.{BeginsToAppend}
 use Rattle.osi_transcript.specs.Numbered.{numbered}
 use Rattle.osi_transcript.specs.Playing.{Transcribes}

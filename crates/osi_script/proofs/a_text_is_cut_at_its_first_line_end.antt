@@ -1,8 +1,8 @@
 -- A text is cut at its first line end.
 use Rattle.std.proofs.Common.{◌≡◌, ℕ, ◌+◌, ◌≤◌, List, [], ◌∷◌, None, Some, length, take, drop}
 use Rattle.memchr.specs.Find.{IsFirstByte, is_byte}
-use Rattle.osi_names.specs.Lines.{is_line_feed, lines_of}
-use Rattle.osi_names.proofs.a_text_is_split_at_what_passes.{one_part, first_part, ends_within}
+use Rattle.osi_script.specs.Cutting.{is_line_feed, lines_of}
+use Rattle.osi_script.proofs.a_text_is_split_at_what_passes.{one_part, first_part, ends_within}
 
 -- no octet of a text ends a line
 pub no_end : (text : List ℕ) → IsFirstByte (is_byte 10) text None → lines_of text ≡ text ∷ []

@@ -2,7 +2,7 @@
 
 ghost use Rattle.std.specs.Prelude.{◌≡◌, ◌∷◌, []};
 ghost use Rattle.std.specs.Option.{option_map_or};
-ghost use Rattle.osi_names.specs.Lines.{lines_of};
+ghost use Rattle.osi_script.specs.Cutting.{lines_of};
 
 use memchr::memchr;
 

@@ -1,12 +1,12 @@
 //! The names of errors, faults and phases.
 
 ghost use Rattle.std.specs.Prelude.{◌≡◌, ◌≤◌, length};
-ghost use Rattle.osi_names.specs.Names.{call_error_name, unit_fault_name, phase_name};
+ghost use Rattle.osi_script.specs.Naming.{call_error_name, unit_fault_name, phase_name};
 
 use osi_session::{CallError, Phase, UnitFault};
 
 /// The name of the reason why a call was refused.
-#[tactic(auto, unfolding(crate::specs::Names::call_error_name))]
+#[tactic(auto, unfolding(crate::specs::Naming::call_error_name))]
 pub fn call_error(error: CallError) -> &'static str
     ensures value { result.now ≡ call_error_name error }
     ensures short { length result.now ≤ 16 }
@@ -44,7 +44,7 @@ pub fn unit_fault(fault: UnitFault) -> &'static str
 }
 
 /// The name of a phase.
-#[tactic(auto, unfolding(crate::specs::Names::phase_name))]
+#[tactic(auto, unfolding(crate::specs::Naming::phase_name))]
 pub fn phase(phase: Phase) -> &'static str
     ensures value { result.now ≡ phase_name phase }
     ensures short { length result.now ≤ 16 }
