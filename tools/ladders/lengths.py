@@ -1,4 +1,14 @@
-"""How many octets a message takes: as session units of X.225, in data units of X.224, in packets."""
+"""How many octets a message takes: as session units of X.225, in data units of X.224, in packets.
+
+A transcript says what users call and how many octets a carry moved. It doesn't say where a packet ends, so a picture needs the
+lengths of the packets, and this file knows them a second time. If one of these changes in the crates, change it here, too:
+
+- `osi_spdu`, `writing.rt`: the parameters of each unit and their lengths (WRITTEN, `coded`, `optional`, HEADER_OF_PART);
+- `osi_tpdu`: the headers of a CC, DR, DC, DT and AK (CONFIRMED, CLOSING, CLOSED, DATA_UNIT, ACKNOWLEDGED);
+- `osi_message`, `parts.rt`: where the user data of a TSDU that is too long is cut (`tsdu_lengths`), and which size is agreed (`smaller`).
+
+The tests draw the stored runs, and fail if a carry moved another number of octets than these lengths give.
+"""
 
 PACKET, DATA_UNIT, ACKNOWLEDGED = 4, {"0": 3, "2": 5}, 9
 CLOSING, CLOSED, CONFIRMED = 11, 10, {"0": 14, "2": 17}

@@ -30,10 +30,9 @@ GROUPS = [
                   ("osi_printed", "what is printed of an end")]),
     ("Given away", [("osi_c", "an end for C"), ("osi_tool", "the program osi"), ("osi_listing", "listings of captures"),
                     ("osi_script", "scripts, line by line"), ("osi_transcript", "plays a script on two ends"), ("osi_report", "judges a capture as text"),
-                    ("osi_names", "lines, and words for errors"), ("osi_explain", "a run for what was sent"),
-                    ("osi_witness", "a script of a capture"), ("osi_commands", "reads an input, writes a text"),
-                    ("osi_words", "words of the command line")]),
-    ("Checks the others", [("osi_runs", "stored runs"), ("osi_tests", "tests below a session"), ("osi_session_tests", "tests of sessions, ends, judges"),
+                    ("osi_explain", "a run for what was sent"),
+                    ("osi_witness", "a script of a capture")]),
+    ("Checks the others", [("osi_runs", "stored runs"), ("osi_tests", "tests"),
                            ("osi_example", "an example"), ("osi_bench", "for benchmarks"), ("osi_bench_transport", "for benchmarks"),
                            ("osi_trial", "for trials")]),
 ]

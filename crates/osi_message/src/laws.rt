@@ -29,7 +29,7 @@ pub fn what_is_sent_is_read()
 {
     laws::serial_digits();
     laws::few_octets_fit();
-    laws::again();
+    laws::a_written_form_reads_back();
 }
 
 /// The octets of a part of a Data read back as that part, after a GT with no token.
@@ -37,7 +37,7 @@ pub fn what_a_part_says()
     ensures { (place : Place) (octets : List ℕ) →
         said_at (part_octets place octets) ≡ Ok (says (GT no_token) ∷ part place octets ∷ []) }
 {
-    laws::again();
+    laws::a_written_form_reads_back();
     laws::few_octets_fit();
 }
 

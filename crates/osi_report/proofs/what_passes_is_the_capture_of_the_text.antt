@@ -9,7 +9,7 @@ use Rattle.hex.specs.Hex.{hex_digit_value}
 use Rattle.osi_listing.specs.Capture.{IsNoCapture, after_octets, digits_of, digits_of_lines, if_digit, is_line_feed}
 use Rattle.osi_listing.specs.Capture.{octets_from, with_digit}
 use Rattle.osi_listing.proofs.digits_give_octets.{all_are_digits, no_capture_here}
-use Rattle.osi_names.specs.Lines.{lines_of}
+use Rattle.osi_script.specs.Cutting.{lines_of}
 use Rattle.osi_report.proofs.Vocabulary.{◌≡◌, ◌∙◌, refl, sym, ap, subst, ℕ, ◌==◌, Bool, true, false, not, List, [], ◌∷◌, ◌++◌, length}
 use Rattle.osi_report.proofs.Vocabulary.{take, drop, filter, Option, Some, None, inl, inr, arith, eqb_tells, append_assoc, map-append}
 use Rattle.osi_report.proofs.Vocabulary.{flat_map, before_first, is_blank, is_comment_sign, Direction, Capture, of, piece, side_of}

@@ -7,7 +7,7 @@ use Rattle.osi_side.specs.declared.rules.Rule.{Rule}
 use Rattle.osi_side.specs.declared.rules.Rule.TheVariants as rule
 use Rattle.osi_listing.specs.Lines.{number_field}
 use Rattle.osi_listing.specs.SessionLines.{session_fault_name, session_fault_offset, session_fault_code}
-use Rattle.osi_names.specs.Names.{phase_name}
+use Rattle.osi_script.specs.Naming.{phase_name}
 use Rattle.osi_session.specs.declared.numbers.Numbers.{Numbers}
 use Rattle.osi_session.specs.declared.reactions.Reply.{Reply}
 use Rattle.osi_session.specs.Phases.{is_over}

@@ -6,7 +6,7 @@ use Rattle.osi_side.specs.declared.directions.Direction.TheVariants.{Left, Right
 use Rattle.osi_side.specs.declared.rules.Rule.{Rule}
 use Rattle.osi_side.specs.declared.rules.Rule.TheVariants as rule
 use Rattle.osi_listing.specs.SessionLines.{session_fault_name}
-use Rattle.osi_names.specs.Names.{call_error_name}
+use Rattle.osi_script.specs.Naming.{call_error_name}
 use Rattle.osi_session.specs.declared.breaches.Breach.{Breach}
 use Rattle.osi_session.specs.declared.breaches.Breach.TheVariants as breach
 use Rattle.osi_session.specs.declared.reactions.Reply.{Reply}

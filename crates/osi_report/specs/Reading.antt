@@ -1,6 +1,6 @@
 -- The rows of a text that are still to be read.
 use Rattle.std.specs.Prelude.{ℕ, List, [], Option, Some, None, option_map}
-use Rattle.osi_names.specs.Lines.{lines_of}
+use Rattle.osi_script.specs.Cutting.{lines_of}
 use Rattle.osi_report.specs.declared.pieces.Piece.{Piece}
 use Rattle.osi_report.specs.declared.pieces.Pieces.{Pieces}
 use Rattle.osi_report.specs.Rows.{Row, rows_from}

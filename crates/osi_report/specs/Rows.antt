@@ -5,7 +5,7 @@ use Rattle.osi_side.specs.declared.directions.Direction.{Direction}
 use Rattle.osi_side.specs.declared.directions.Direction.TheVariants.{Left, Right}
 use Rattle.osi_side.specs.Captures.{Capture, piece}
 use Rattle.osi_listing.specs.Capture.{is_comment_sign, is_blank, Captures}
-use Rattle.osi_names.specs.Lines.{lines_of}
+use Rattle.osi_script.specs.Cutting.{lines_of}
 
 -- the octets of one line, and whether it begins with a tab
 pub record Row : Type 0 where

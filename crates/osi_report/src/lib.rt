@@ -39,7 +39,7 @@
 //! A report says what the capture comes to (`specs/Reports`), and its last line names the earliest break of all. So the text
 //! is a function of the capture (`laws::a_text_has_one_judgement`). Nothing is judged of a capture that has no octets of
 //! one side, or that begins in the middle of a connection (`specs/Openings`). Numbers and offsets are those of the listing of that side
-//! (`osi_listing`), and names those of transcripts (`osi_names`).
+//! (`osi_listing`), and names those of transcripts (`osi_script`).
 //!
 //! [`push_judgement`] writes the text of a judge that somebody else fed, as the library for C does, beside an [`Opening`] that passed the
 //! same octets. Such a judge may have a bound for each connection. A side of a connection that reached it has a line that says so, and

@@ -13,7 +13,7 @@ use osi_listing::{
     push_decimal, push_number_field, push_octet, push_session_fault_code, push_words,
     session_fault_name, session_fault_offset,
 };
-use osi_names::phase_name;
+use osi_script::phase_name;
 use osi_session::{Numbers, Phase, Reply};
 use osi_side::{Direction, Reading, Rule};
 use std::alloc::AllocError;

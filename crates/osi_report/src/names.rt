@@ -5,7 +5,7 @@ ghost use Rattle.osi_report.specs.Names.{side_name, said_name, breach_name, rule
 ghost use Rattle.osi_listing.specs.Lines.{fault_name, unit_fault_name};
 
 use osi_listing::session_fault_name;
-use osi_names::call_error_name;
+use osi_script::call_error_name;
 use osi_session::{Breach, Reply};
 use osi_side::{Direction, Rule};
 use osi_spdu::Kind;

@@ -4,7 +4,7 @@ ghost use Rattle.std.specs.Prelude.{◌≡◌, ◌<◌, ◌≤◌, ◌+◌, ◌�
 ghost use Rattle.osi_listing.specs.Capture.{is_blank};
 ghost use Rattle.osi_report.specs.Rows.{is_tabbed, digits_on, digits_left, begun_on, ends_within};
 
-use osi_names::first_line;
+use osi_script::first_line;
 
 /// A piece: the octets whose first digit is on one line.
 #[derive(Clone, Copy)]

@@ -7,3 +7,5 @@ pub mod a_number_is_read_digit_by_digit
 pub mod a_text_is_split_at_its_last_element_that_passes
 pub mod texts_added_in_turn_are_added_whole
 pub mod each_verb_is_found_by_its_name
+pub mod a_text_is_cut_at_its_first_line_end
+pub mod a_text_is_split_at_what_passes

@@ -6,7 +6,7 @@ use Rattle.std.proofs.lemmas.List.{get_or-drop, length-drop, length-append}
 use Rattle.std.proofs.lemmas.List.Elements.{All-from_get_or}
 use Rattle.std.proofs.lemmas.List.Splits.{slice_split-cons_yes, slice_split-cons_no, slice_split_none, length-slice_split}
 use Rattle.memchr.specs.Find.{IsLastByte}
-use Rattle.osi_names.proofs.a_text_is_split_at_what_passes.{fails, one_part, cut_here}
+use Rattle.osi_script.proofs.a_text_is_split_at_what_passes.{fails, one_part, cut_here}
 
 none_behind : (p : ℕ → Bool) (text : List ℕ) (n : ℕ) → n ≤ length text
     → ((k : ℕ) → n ≤ k → k < length text → p (get_or text k 0) ≡ true → ⊥) →

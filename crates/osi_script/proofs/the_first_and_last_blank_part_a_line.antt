@@ -3,7 +3,7 @@ use Rattle.std.proofs.Common.{◌≡◌, ℕ, ◌+◌, ◌-◌, ◌≤◌, List,
 use Rattle.std.specs.List.{slice_get}
 use Rattle.memchr.specs.Find.{IsFirstByte, IsLastByte, is_byte}
 use Rattle.osi_script.specs.Words.{words_of}
-use Rattle.osi_names.proofs.a_text_is_split_at_what_passes.{one_part, first_part, ends_within}
+use Rattle.osi_script.proofs.a_text_is_split_at_what_passes.{one_part, first_part, ends_within}
 use Rattle.osi_script.proofs.a_text_is_split_at_its_last_element_that_passes.{all_is_last, last_part, stands_within}
 
 pub no_blank : (line : List ℕ) → IsFirstByte (is_byte 32) line None → words_of line ≡ line ∷ []

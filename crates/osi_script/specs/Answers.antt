@@ -11,7 +11,7 @@ use Rattle.osi_script.specs.declared.answers.LineFault.{LineFault}
 use Rattle.osi_script.specs.declared.answers.LineFault.TheVariants.{NotBroken, AlreadyBroken}
 use Rattle.osi_script.specs.declared.answers.Answer.{Answer}
 use Rattle.osi_script.specs.declared.answers.Answer.TheVariants.{Connecting, ConnectRefused, Called, CallRefused, Carried, Broken, Told, LineRefused, LineFailed}
-use Rattle.osi_names.specs.Names.{call_error_name}
+use Rattle.osi_script.specs.Naming.{call_error_name}
 use Rattle.osi_script.specs.Names.{side_name, verb_name}
 
 abbrev pub open_error_name : OpenError → List ℕ

@@ -7,7 +7,7 @@ use Rattle.osi_spdu.specs.declared.fields.TsduMaximumSize.{TsduMaximumSize}
 use Rattle.osi_tpdu.specs.Spelling.{two}
 use Rattle.osi_session.specs.Shown.{Shown, Connect, Connected, RefusedByTransport, RefusedBySession, Data, Given, Asked, Minor, MinorConfirmed, Major, MajorConfirmed, Restart, Restarted, Release, Released, ReleaseRefused, Aborted, Lost, PeerAbort, BadUnit}
 use Rattle.osi_script.specs.declared.sides.Side.{Side}
-use Rattle.osi_names.specs.Names.{unit_fault_name}
+use Rattle.osi_script.specs.Naming.{unit_fault_name}
 use Rattle.osi_script.specs.Names.{side_name}
 use Rattle.osi_script.specs.Texts.{data_text, wishes_text, sides_text}
 

@@ -4,7 +4,7 @@ use Rattle.std.specs.Fmt.{decimal}
 use Rattle.hex.specs.Hex.{encode_lower}
 use Rattle.osi_spdu.specs.Fields.{bits_of}
 use Rattle.osi_script.specs.declared.standing.Standing.{Standing}
-use Rattle.osi_names.specs.Names.{phase_name}
+use Rattle.osi_script.specs.Naming.{phase_name}
 use Rattle.osi_script.specs.Names.{side_name}
 
 -- a side and a connection, the phase, the tokens

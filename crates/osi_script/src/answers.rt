@@ -5,11 +5,11 @@ ghost use Rattle.std.specs.Fmt.{decimal};
 ghost use Rattle.osi_script.specs.Names.{verb_name};
 ghost use Rattle.osi_script.specs.Answers.{open_error_name, refusal_name, line_fault_name, call_text, answer_line};
 
+use crate::naming::call_error as call_error_name;
 use crate::sides::Side;
 use crate::texts::{LINE, put, put_decimal, put_side, put_word};
 use crate::verbs::Verb;
 use osi_carrier::OpenError;
-use osi_names::call_error_name;
 use osi_session::CallError;
 use std::alloc::{AllocError, Global};
 use std::mem;

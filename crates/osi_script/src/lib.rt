@@ -8,7 +8,10 @@
 //! ```
 //!
 //! [`Line::read`] reads the user data of a line, and [`Line::command`] gives its [`Command`]. [`push_answer`],
-//! [`push_indication`] and [`push_standing`] append lines of a transcript. `osi_names` cuts a text into lines.
+//! [`push_indication`] and [`push_standing`] append lines of a transcript.
+//!
+//! What captures and judgements have in common with scripts is here, too: [`first_line`] cuts a text into lines, and
+//! [`call_error_name`], [`unit_fault_name`] and [`phase_name`] are the words for errors, faults and phases.
 //!
 //! The laws ([`mod@laws`]) say that a line asks for at most one thing, and that each call is read by its name. Running a
 //! script is left to `osi_transcript`; docs/TOOL.md describes the language.
@@ -17,10 +20,12 @@
 mod answers;
 mod calls;
 mod commands;
+mod cutting;
 mod fronts;
 mod kept;
 pub mod laws;
 mod lines;
+mod naming;
 mod reading;
 mod scripts;
 mod shown;
@@ -33,8 +38,12 @@ mod words;
 
 pub use answers::{Answer, ConnectRefusal, LineFault, push_answer};
 pub use commands::{Classes, Command};
+pub use cutting::first_line;
 pub use fronts::read_carry;
 pub use lines::Line;
+pub use naming::{
+    call_error as call_error_name, phase as phase_name, unit_fault as unit_fault_name,
+};
 pub use scripts::is_skipped;
 pub use shown::push_indication;
 pub use sides::Side;

@@ -4,13 +4,14 @@ ghost use Rattle.std.specs.Prelude.{◌≡◌, ◌+◌, ◌*◌, ◌≤◌, ◌+
 ghost use Rattle.std.specs.Fmt.{decimal};
 ghost use Rattle.osi_spdu.specs.Fields.{unit_bits};
 ghost use Rattle.osi_session.specs.Shown.{shown_by, abort_shown};
-ghost use Rattle.osi_names.specs.Names.{unit_fault_name};
+ghost use Rattle.osi_script.specs.Naming.{unit_fault_name};
 ghost use Rattle.osi_script.specs.Names.{side_name};
 ghost use Rattle.osi_script.specs.Shown.{shown_name, shown_fields, shown_octets, shown_line, number_field, octet_field, confirm_word};
 ghost use Rattle.osi_script.specs.Shown.{minor_fields, sides_field, restart_fields, units_field, serial_field, opening_fields};
 ghost use Rattle.osi_script.specs.Shown.{opened_fields, data_word, sizes_field, shown_sizes, shown_end, data_field};
 ghost use Rattle.osi_script.specs.Texts.{data_text, digits_of};
 
+use crate::naming::unit_fault as unit_fault_name;
 use crate::sides::Side;
 use crate::texts::{
     LINE, letters_of_sides, letters_of_wishes, put, put_decimal, put_hex, put_letters, put_octet,
@@ -18,7 +19,6 @@ use crate::texts::{
 };
 use bitflags::Flags;
 use osi_message::Octets;
-use osi_names::unit_fault_name;
 use osi_session::{AbortCause, Indication, UnitFault};
 use osi_spdu::{Requirements, TsduMaximumSize};
 use std::alloc::{AllocError, Global};

@@ -3,10 +3,10 @@
 ghost use Rattle.std.specs.Prelude.{◌≡◌, ◌+◌, ◌≤◌, ◌++◌, vec_len, vec_capacity, OnOk, OnErr};
 ghost use Rattle.osi_script.specs.Standing.{standing_line, standing_numbers, standing_text};
 
+use crate::naming::phase as phase_name;
 use crate::sides::Side;
 use crate::texts::{LINE, put, put_decimal, put_octet, put_side, put_word};
 use bitflags::Flags;
-use osi_names::phase_name;
 use osi_session::Phase;
 use osi_spdu::TokenSet;
 use std::alloc::{AllocError, Global};

@@ -20,6 +20,7 @@ pub record AreLeft (room at : ℕ) (octets : List ℕ) : Type 0 where
   pub readable : is_ok (behind_at room at octets) ≡ true
   pub formed : AllByRecursion IsFormedUnit (left_at room at octets)
 
+-- A ghost field of `Behind` cites that this is a proposition, and a ghost field may cite specs/ alone.
 informed_prop : (kind : Kind) (information : List ℕ) → IsProp (HasInformation kind information)
 informed_prop DataTransfer information = hlevel props
 informed_prop _ information = hlevel props

@@ -17,26 +17,26 @@ use crate::sizes::{TsduSize, TsduSizes};
 
 /// Reading is sound: units that are read are spelled by the octets.
 #[tactic(auto, using(crate::proofs::tsdu::units_and_tsdus_are_read::tsdu_found))]
-pub fn found()
+pub fn what_is_read_is_spelled()
     ensures { (units : Units) (octets : List ℕ) → IsOctets octets →
         tsdu_at octets ≡ Ok units → SpellsTsdu units octets }
 {}
 
 /// Reading is complete: units that the octets spell are read.
 #[tactic(auto, using(crate::proofs::tsdu::units_and_tsdus_are_read::tsdu_only))]
-pub fn only()
+pub fn what_is_spelled_is_read()
     ensures { (units : Units) (octets : List ℕ) →
         SpellsTsdu units octets → tsdu_at octets ≡ Ok units }
 {}
 
 /// No octets spell two values.
-pub fn one_value()
+pub fn octets_spell_one_value()
     ensures { (units others : Units) (octets : List ℕ) →
         SpellsTsdu units octets → SpellsTsdu others octets → units ≡ others }
 {}
 
 /// The written form spells the value and reads back as it.
-pub fn again()
+pub fn a_written_form_reads_back()
     ensures spelled { (units : Units) → IsFormedTsdu units → TsduFits units →
         IsOctets (tsdu_octets units) → SpellsTsdu units (tsdu_octets units) }
     ensures read { (units : Units) → IsFormedTsdu units → TsduFits units →
@@ -45,7 +45,7 @@ pub fn again()
 
 /// Every value that has a spelling has a written form that fits.
 #[tactic(auto, using(crate::proofs::form::what_was_read_fits::tsdu_fits))]
-pub fn fits()
+pub fn what_was_read_fits()
     ensures { (units : Units) (octets : List ℕ) → SpellsTsdu units octets → TsduFits units }
 {}
 

@@ -58,13 +58,13 @@ pub(crate) enum Step {
 }
 
 /// The answer to a request for a connection is this one.
-fn connects(carrier: &mut Carrier, wanted: Result<Ref, OpenError>, checks: &mut Checks) {
+fn connects(carrier: &mut Carrier, wanted: Result<Ref, OpenError>, checks: &Checks) {
     let answer = carrier.connect(None, None);
     checks.that(answer != Err(OpenError::OutOfMemory), OUT_OF_MEMORY);
     checks.that(answer == wanted, "another answer to connecting");
 }
 
-fn refuses_to_connect(carrier: &mut Carrier, error: OpenError, checks: &mut Checks) {
+fn refuses_to_connect(carrier: &mut Carrier, error: OpenError, checks: &Checks) {
     let is_told = carrier.may_connect() == Err(error);
     checks.that(is_told, "another answer before connecting");
     connects(carrier, Err(error), checks);
@@ -75,33 +75,33 @@ fn all_is_taken(carrier: &mut Carrier) {
     carrier.taken(carrier.outgoing().len());
 }
 
-fn writes(carrier: &mut Carrier, octets: &[u8], checks: &mut Checks) {
+fn writes(carrier: &mut Carrier, octets: &[u8], checks: &Checks) {
     let is_written = carrier.outgoing() == octets;
     checks.that(is_written, "other octets are written");
     all_is_taken(carrier);
 }
 
-fn keeps_to_write(carrier: &Carrier, count: usize, last: &[u8], checks: &mut Checks) {
+fn keeps_to_write(carrier: &Carrier, count: usize, last: &[u8], checks: &Checks) {
     let octets = carrier.outgoing();
     checks.that(octets.len() >= count, "too few octets are written");
     checks.that(octets.ends_with(last), "other octets are written last");
 }
 
 /// All octets were used, which are so many.
-fn are_used(carrier: &Carrier, used: usize, count: usize, checks: &mut Checks) {
+fn are_used(carrier: &Carrier, used: usize, count: usize, checks: &Checks) {
     let reason = carrier.ended();
     checks.that(reason != Some(EndReason::NoMemory), OUT_OF_MEMORY);
     checks.that(reason.is_none(), "the carrier has ended");
     checks.that(used == count, "octets are left");
 }
 
-fn takes(carrier: &mut Carrier, octets: &[u8], checks: &mut Checks) {
+fn takes(carrier: &mut Carrier, octets: &[u8], checks: &Checks) {
     let fed = carrier.feed(octets);
     are_used(carrier, fed.used, octets.len(), checks);
 }
 
 /// All octets are used, and this TSDU is lent, or none.
-fn lends(carrier: &mut Carrier, octets: &[u8], wanted: Option<&[u8]>, checks: &mut Checks) {
+fn lends(carrier: &mut Carrier, octets: &[u8], wanted: Option<&[u8]>, checks: &Checks) {
     let told = carrier.feed_lent(octets);
     checks.that(is_lent(told.lent, wanted), "another TSDU is lent");
     are_used(carrier, told.fed.used, octets.len(), checks);
@@ -116,7 +116,7 @@ fn is_lent(lent: Option<Lent<'_>>, wanted: Option<&[u8]>) -> bool {
     }
 }
 
-fn takes_acks(carrier: &mut Carrier, acks: u8, checks: &mut Checks) {
+fn takes_acks(carrier: &mut Carrier, acks: u8, checks: &Checks) {
     for turn in 0..acks {
         let number = turn.wrapping_mul(15).wrapping_add(4) % 128;
         takes(carrier, &[3, 0, 0, 9, 4, 0x6F, 0, 1, number], checks);
@@ -135,14 +135,14 @@ fn is_told(event: &Option<Event>, told: Told) -> bool {
 }
 
 /// The next event is this one.
-fn tells(carrier: &mut Carrier, told: Told, checks: &mut Checks) {
+fn tells(carrier: &mut Carrier, told: Told, checks: &Checks) {
     let event = carrier.next_event();
     checks.that(is_told(&event, told), "another event");
     drop(event);
 }
 
 /// A connection is asked for and refused.
-fn is_refused(carrier: &mut Carrier, reference: u16, checks: &mut Checks) {
+fn is_refused(carrier: &mut Carrier, reference: u16, checks: &Checks) {
     let [high, low] = reference.to_be_bytes();
     connects(carrier, Ok(Ref(reference)), checks);
     all_is_taken(carrier);
@@ -155,13 +155,13 @@ fn is_refused(carrier: &mut Carrier, reference: u16, checks: &mut Checks) {
 }
 
 /// Each reference is given once.
-fn each_is_refused(carrier: &mut Carrier, checks: &mut Checks) {
+fn each_is_refused(carrier: &mut Carrier, checks: &Checks) {
     for reference in 1..=65_535u16 {
         is_refused(carrier, reference, checks);
     }
 }
 
-fn holds_back(carrier: &Carrier, octets: usize, live: usize, checks: &mut Checks) {
+fn holds_back(carrier: &Carrier, octets: usize, live: usize, checks: &Checks) {
     let counts = [
         carrier.unsent(Ref(1)),
         carrier.unsent(Ref(2)),
@@ -172,11 +172,11 @@ fn holds_back(carrier: &Carrier, octets: usize, live: usize, checks: &mut Checks
 }
 
 /// Closes connection 1.
-fn closes(carrier: &mut Carrier, checks: &mut Checks) {
+fn closes(carrier: &mut Carrier, checks: &Checks) {
     is_answered(carrier.close(Ref(1), 128), None, checks);
 }
 
-fn does(carrier: &mut Carrier, alloc: Global, step: Step, checks: &mut Checks) {
+fn does(carrier: &mut Carrier, alloc: Global, step: Step, checks: &Checks) {
     match step {
         Step::Connect(reference) => connects(carrier, Ok(Ref(reference)), checks),
         Step::NoConnect(error) => refuses_to_connect(carrier, error, checks),
@@ -194,7 +194,7 @@ fn does(carrier: &mut Carrier, alloc: Global, step: Step, checks: &mut Checks) {
     }
 }
 
-fn goes(carrier: &mut Carrier, alloc: Global, steps: &[Step], checks: &mut Checks) {
+fn goes(carrier: &mut Carrier, alloc: Global, steps: &[Step], checks: &Checks) {
     for step in steps {
         does(carrier, alloc, *step, checks);
     }
@@ -205,7 +205,7 @@ fn goes_on(
     alloc: Global,
     opening: &[Step],
     steps: &[Step],
-    checks: &mut Checks,
+    checks: &Checks,
 ) {
     goes(carrier, alloc, opening, checks);
     goes(carrier, alloc, steps, checks);
@@ -224,7 +224,7 @@ const CALLER: End = End {
 };
 
 /// What an end with size 0A and window 4 has, with both classes or neither; `None` is reported.
-fn local(classes: bool, checks: &mut Checks) -> Option<Local> {
+fn local(classes: bool, checks: &Checks) -> Option<Local> {
     match (SizeCode::new(10), Window::new(4)) {
         (Some(size), Some(window)) => Some(Local {
             class0: classes,
@@ -254,7 +254,7 @@ fn fresh_goes(
     local: Local,
     opening: &[Step],
     steps: &[Step],
-    checks: &mut Checks,
+    checks: &Checks,
 ) {
     let mut carrier = fresh(alloc, is_caller, local);
     goes_on(&mut carrier, alloc, opening, steps, checks);
@@ -262,16 +262,9 @@ fn fresh_goes(
 }
 
 fn end_does(rt: &HostRuntime, end: End, opening: &[Step], steps: &[Step]) -> Result<(), Fail> {
-    let mut checks = Checks::new();
-    if let Some(local) = local(end.classes, &mut checks) {
-        fresh_goes(
-            rt.alloc(),
-            end.is_caller,
-            local,
-            opening,
-            steps,
-            &mut checks,
-        );
+    let checks = Checks::new();
+    if let Some(local) = local(end.classes, &checks) {
+        fresh_goes(rt.alloc(), end.is_caller, local, opening, steps, &checks);
     }
     checks.end()
 }

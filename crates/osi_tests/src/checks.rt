@@ -1,6 +1,7 @@
 //! What a test finds, which all modules report, and TSDUs for them.
 
 use std::alloc::{AllocError, Global};
+use std::cell::Cell;
 use std::test::Fail;
 
 /// The report that an allocation failed.
@@ -11,31 +12,38 @@ pub(crate) const OUT_OF_MEMORY: &str = "out of memory";
 /// A test goes on after a report, since each call may follow any other, and its result is that report. A `Checks` is not
 /// `Drop`, so that no test forgets to end it.
 pub(crate) struct Checks {
-    failed: Option<&'static str>,
+    failed: Cell<Option<&'static str>>,
 }
 
 impl Checks {
     /// Nothing has failed yet.
     pub(crate) fn new() -> Checks {
-        Checks { failed: None }
-    }
-
-    /// Reports what is wrong, unless this is met.
-    pub(crate) fn that(&mut self, is_met: bool, what: &'static str) {
-        if !is_met && self.failed.is_none() {
-            self.failed = Some(what);
+        Checks {
+            failed: Cell::new(None),
         }
     }
 
+    /// Reports what is wrong, unless this is met.
+    pub(crate) fn that(&self, is_met: bool, wrong: &'static str) {
+        if !is_met && self.failed.get().is_none() {
+            self.failed.set(Some(wrong));
+        }
+    }
+
+    /// Reports what is wrong.
+    pub(crate) fn fail(&self, wrong: &'static str) {
+        self.that(false, wrong);
+    }
+
     /// Reports an allocation that failed.
-    pub(crate) fn memory(&mut self, answer: Result<(), AllocError>) {
+    pub(crate) fn memory(&self, answer: Result<(), AllocError>) {
         self.that(answer.is_ok(), OUT_OF_MEMORY);
     }
 
     /// Reports an allocation that failed, or what is wrong, unless this is met.
-    pub(crate) fn made(&mut self, is_met: Result<bool, AllocError>, what: &'static str) {
+    pub(crate) fn made(&self, is_met: Result<bool, AllocError>, wrong: &'static str) {
         match is_met {
-            Ok(is_met) => self.that(is_met, what),
+            Ok(is_met) => self.that(is_met, wrong),
             Err(error) => self.memory(Err(error)),
         }
     }
@@ -43,15 +51,15 @@ impl Checks {
     /// The result of the test: an error that says what was reported first, if anything was.
     pub(crate) fn end(self) -> Result<(), Fail> {
         let Checks { failed } = self;
-        match failed {
+        match failed.get() {
             None => Ok(()),
-            Some(what) => Err(Fail::new(what)),
+            Some(wrong) => Err(Fail::new(wrong)),
         }
     }
 }
 
 /// A TSDU of this many octets; an empty one if memory runs out.
-pub(crate) fn octets(alloc: Global, count: usize, checks: &mut Checks) -> Vec<u8> {
+pub(crate) fn octets(alloc: Global, count: usize, checks: &Checks) -> Vec<u8> {
     match vec![in alloc; 0x5A; count] {
         Ok(tsdu) => tsdu,
         Err(error) => {
@@ -62,6 +70,6 @@ pub(crate) fn octets(alloc: Global, count: usize, checks: &mut Checks) -> Vec<u8
 }
 
 /// Adds a TSDU to a list, if there is memory for it.
-pub(crate) fn add(tsdus: &mut Vec<Vec<u8>>, tsdu: Vec<u8>, checks: &mut Checks) {
+pub(crate) fn add(tsdus: &mut Vec<Vec<u8>>, tsdu: Vec<u8>, checks: &Checks) {
     checks.that(tsdus.push(tsdu).is_ok(), OUT_OF_MEMORY);
 }

@@ -58,23 +58,18 @@ enum Step {
     HandOutLongest,
 }
 
-fn sends(link: &mut impl Link, tsdu: &[u8], checks: &mut Checks) {
+fn sends(link: &mut impl Link, tsdu: &[u8], checks: &Checks) {
     checks.memory(link.send_tsdu(tsdu));
 }
 
 /// A unit is taken, or refused with this fault.
-fn takes(link: &mut impl Link, unit: &Tpdu<'_>, fault: Option<LinkFault>, checks: &mut Checks) {
+fn takes(link: &mut impl Link, unit: &Tpdu<'_>, fault: Option<LinkFault>, checks: &Checks) {
     let found = link.take(unit).err();
     checks.that(found != Some(LinkFault::OutOfMemory), OUT_OF_MEMORY);
     checks.that(found == fault, "another answer to a unit");
 }
 
-fn takes_octets(
-    link: &mut impl Link,
-    octets: &[u8],
-    fault: Option<LinkFault>,
-    checks: &mut Checks,
-) {
+fn takes_octets(link: &mut impl Link, octets: &[u8], fault: Option<LinkFault>, checks: &Checks) {
     if let Some(unit) = only_unit(octets, checks) {
         takes(link, &unit, fault, checks);
     }
@@ -110,7 +105,7 @@ fn is_given(out: &Option<Out<'_>>, wanted: Given) -> bool {
     }
 }
 
-fn gives(link: &mut impl Link, wanted: Given, checks: &mut Checks) {
+fn gives(link: &mut impl Link, wanted: Given, checks: &Checks) {
     checks.that(is_given(&link.next_out(), wanted), "another unit");
 }
 
@@ -122,18 +117,18 @@ fn is_handed(handed: &Option<Vec<u8>>, wanted: Option<&[u8]>) -> bool {
     }
 }
 
-fn hands_out(link: &mut impl Link, wanted: Option<&[u8]>, checks: &mut Checks) {
+fn hands_out(link: &mut impl Link, wanted: Option<&[u8]>, checks: &Checks) {
     checks.that(is_handed(&link.next_tsdu(), wanted), "another TSDU");
 }
 
 /// The longest TSDU is handed out.
-fn hands_out_longest(link: &mut impl Link, alloc: Global, checks: &mut Checks) {
+fn hands_out_longest(link: &mut impl Link, alloc: Global, checks: &Checks) {
     let longest = octets(alloc, LONGEST_TSDU, checks);
     hands_out(link, Some(longest.as_slice()), checks);
 }
 
 /// The answer to a unit is as wanted.
-fn is_received(answer: &Result<Handed, LinkFault>, wanted: Received, checks: &mut Checks) {
+fn is_received(answer: &Result<Handed, LinkFault>, wanted: Received, checks: &Checks) {
     let is_wanted = match (answer, wanted) {
         (Ok(Handed::Nothing), Received::Nothing) | (Ok(Handed::Whole), Received::Whole) => true,
         (Ok(Handed::Joined(tsdu)), Received::Joined(octets)) => tsdu.as_slice() == octets,
@@ -143,7 +138,7 @@ fn is_received(answer: &Result<Handed, LinkFault>, wanted: Received, checks: &mu
     checks.that(is_wanted, "another TSDU is received");
 }
 
-fn receives(link: &mut impl Link, octets: &[u8], wanted: Received, checks: &mut Checks) {
+fn receives(link: &mut impl Link, octets: &[u8], wanted: Received, checks: &Checks) {
     if let Some(unit) = only_unit(octets, checks) {
         let answer = link.receive(&unit);
         is_received(&answer, wanted, checks);
@@ -152,14 +147,14 @@ fn receives(link: &mut impl Link, octets: &[u8], wanted: Received, checks: &mut 
 }
 
 /// A TSDU of 126 octets and an empty one are handed in together.
-fn sends_two(link: &mut impl Link, alloc: Global, checks: &mut Checks) {
+fn sends_two(link: &mut impl Link, alloc: Global, checks: &Checks) {
     let mut tsdus = Vec::new(alloc);
     add(&mut tsdus, octets(alloc, 126, checks), checks);
     add(&mut tsdus, Vec::new(alloc), checks);
     checks.memory(link.send_tsdus(tsdus.as_slice()));
 }
 
-fn sends_each(link: &mut impl Link, count: u8, checks: &mut Checks) {
+fn sends_each(link: &mut impl Link, count: u8, checks: &Checks) {
     for number in 0..count {
         sends(link, b"A", checks);
         let data = Given::Data {
@@ -172,7 +167,7 @@ fn sends_each(link: &mut impl Link, count: u8, checks: &mut Checks) {
 }
 
 /// Takes a DT of class 0 that does not end its TSDU.
-fn takes_part(link: &mut impl Link, user: &[u8], checks: &mut Checks) {
+fn takes_part(link: &mut impl Link, user: &[u8], checks: &Checks) {
     takes(
         link,
         &Tpdu::Dt0(DataClass0 { end: false, user }),
@@ -187,14 +182,14 @@ static PART: [u8; 65_528] = [0x5a; 65_528];
 /// Those of one more, after which the longest TSDU is complete.
 static LAST_PART: [u8; 128] = [0x5a; 128];
 
-fn takes_long(link: &mut impl Link, checks: &mut Checks) {
+fn takes_long(link: &mut impl Link, checks: &Checks) {
     for _ in 0..16u8 {
         takes_part(link, &PART, checks);
     }
     takes_part(link, &LAST_PART, checks);
 }
 
-fn takes_each(link: &mut impl Link, count: u8, checks: &mut Checks) {
+fn takes_each(link: &mut impl Link, count: u8, checks: &Checks) {
     for before in 0..count {
         takes_octets(link, &[4, 0xF0, 0, 1, 0x80 | before, 0x41], None, checks);
         let ack = Given::Ack {
@@ -206,7 +201,7 @@ fn takes_each(link: &mut impl Link, count: u8, checks: &mut Checks) {
 }
 
 /// One unit is sent and no other, and it is acknowledged.
-fn a_unit_passes(link: &mut impl Link, number: u8, checks: &mut Checks) {
+fn a_unit_passes(link: &mut impl Link, number: u8, checks: &Checks) {
     let data = Given::Data {
         number,
         end: false,
@@ -218,13 +213,13 @@ fn a_unit_passes(link: &mut impl Link, number: u8, checks: &mut Checks) {
     takes_octets(link, &[4, 0x61, 0, 1, next], None, checks);
 }
 
-fn gives_each(link: &mut impl Link, count: u8, checks: &mut Checks) {
+fn gives_each(link: &mut impl Link, count: u8, checks: &Checks) {
     for unit in 0..count {
         a_unit_passes(link, unit % 128, checks);
     }
 }
 
-fn does(link: &mut impl Link, alloc: Global, step: Step, checks: &mut Checks) {
+fn does(link: &mut impl Link, alloc: Global, step: Step, checks: &Checks) {
     match step {
         Step::Send(tsdu) => sends(link, tsdu, checks),
         Step::SendTwo => sends_two(link, alloc, checks),
@@ -240,14 +235,14 @@ fn does(link: &mut impl Link, alloc: Global, step: Step, checks: &mut Checks) {
     }
 }
 
-fn goes(link: &mut impl Link, alloc: Global, steps: &[Step], checks: &mut Checks) {
+fn goes(link: &mut impl Link, alloc: Global, steps: &[Step], checks: &Checks) {
     for step in steps {
         does(link, alloc, *step, checks);
     }
 }
 
 /// The window and the credit of these numbers of units; `None` is reported.
-fn flow(window: u8, credit: u8, checks: &mut Checks) -> Option<(Window, Credit)> {
+fn flow(window: u8, credit: u8, checks: &Checks) -> Option<(Window, Credit)> {
     match (Window::new(window), Credit::new(credit)) {
         (Some(window), Some(credit)) => Some((window, credit)),
         _ => {
@@ -266,7 +261,7 @@ fn any(alloc: Global, size: Option<SizeCode>, flow: Option<(Window, Credit)>) ->
 }
 
 /// A link of class 0 takes these steps.
-fn zero_goes(alloc: Global, size: Option<SizeCode>, steps: &[Step], checks: &mut Checks) {
+fn zero_goes(alloc: Global, size: Option<SizeCode>, steps: &[Step], checks: &Checks) {
     let mut link = Class0::new(alloc, size);
     goes(&mut link, alloc, steps, checks);
     drop(link);
@@ -278,7 +273,7 @@ fn two_goes(
     size: Option<SizeCode>,
     flow: (Window, Credit),
     steps: &[Step],
-    checks: &mut Checks,
+    checks: &Checks,
 ) {
     let mut link = Class2::new(alloc, size, flow.0, flow.1);
     goes(&mut link, alloc, steps, checks);
@@ -286,15 +281,15 @@ fn two_goes(
 }
 
 /// A link of any class takes these steps.
-fn any_goes(alloc: Global, flow: Option<(Window, Credit)>, steps: &[Step], checks: &mut Checks) {
+fn any_goes(alloc: Global, flow: Option<(Window, Credit)>, steps: &[Step], checks: &Checks) {
     let mut link = any(alloc, None, flow);
     goes(&mut link, alloc, steps, checks);
     drop(link);
 }
 
 fn class_0_does(rt: &HostRuntime, size: Option<SizeCode>, steps: &[Step]) -> Result<(), Fail> {
-    let mut checks = Checks::new();
-    zero_goes(rt.alloc(), size, steps, &mut checks);
+    let checks = Checks::new();
+    zero_goes(rt.alloc(), size, steps, &checks);
     checks.end()
 }
 
@@ -305,22 +300,22 @@ fn class_2_does(
     credit: u8,
     steps: &[Step],
 ) -> Result<(), Fail> {
-    let mut checks = Checks::new();
-    if let Some(flow) = flow(window, credit, &mut checks) {
-        two_goes(rt.alloc(), size, flow, steps, &mut checks);
+    let checks = Checks::new();
+    if let Some(flow) = flow(window, credit, &checks) {
+        two_goes(rt.alloc(), size, flow, steps, &checks);
     }
     checks.end()
 }
 
 /// A link of class 0, or of class 2 with a window of 2, takes these steps.
 fn any_does(rt: &HostRuntime, is_class_2: bool, steps: &[Step]) -> Result<(), Fail> {
-    let mut checks = Checks::new();
+    let checks = Checks::new();
     let flow = if is_class_2 {
-        flow(2, 0, &mut checks)
+        flow(2, 0, &checks)
     } else {
         None
     };
-    any_goes(rt.alloc(), flow, steps, &mut checks);
+    any_goes(rt.alloc(), flow, steps, &checks);
     checks.end()
 }
 
@@ -516,7 +511,7 @@ fn unit_of(out: Out<'_>) -> Tpdu<'_>
 }
 
 /// Hands the next unit of one link to the other, for reference 1; false if there is none.
-fn passes(from: &mut AnyLink, to: &mut AnyLink, checks: &mut Checks) -> bool {
+fn passes(from: &mut AnyLink, to: &mut AnyLink, checks: &Checks) -> bool {
     match from.next_out() {
         None => false,
         Some(out) => {
@@ -527,7 +522,7 @@ fn passes(from: &mut AnyLink, to: &mut AnyLink, checks: &mut Checks) -> bool {
 }
 
 /// Hands each unit that one link gives to the other, until it gives none.
-fn pass_all(from: &mut AnyLink, to: &mut AnyLink, checks: &mut Checks) {
+fn pass_all(from: &mut AnyLink, to: &mut AnyLink, checks: &Checks) {
     for _ in 0..300u16 {
         if !passes(from, to, checks) {
             return;
@@ -536,7 +531,7 @@ fn pass_all(from: &mut AnyLink, to: &mut AnyLink, checks: &mut Checks) {
 }
 
 /// Moves two TSDUs of the greatest length.
-fn two_go_over(from: &mut AnyLink, to: &mut AnyLink, longest: &[u8], checks: &mut Checks) {
+fn two_go_over(from: &mut AnyLink, to: &mut AnyLink, longest: &[u8], checks: &Checks) {
     for _ in 0..18u8 {
         pass_all(from, to, checks);
         pass_all(to, from, checks);
@@ -546,13 +541,13 @@ fn two_go_over(from: &mut AnyLink, to: &mut AnyLink, longest: &[u8], checks: &mu
 }
 
 /// Sends the longest TSDU, which is given away.
-fn gives_away(link: &mut AnyLink, alloc: Global, checks: &mut Checks) {
+fn gives_away(link: &mut AnyLink, alloc: Global, checks: &Checks) {
     let longest = octets(alloc, LONGEST_TSDU, checks);
     checks.memory(link.send_owned(longest));
 }
 
 /// Moves the longest TSDU, once borrowed and once given away, in both orders.
-fn all_go_over(from: &mut AnyLink, to: &mut AnyLink, alloc: Global, checks: &mut Checks) {
+fn all_go_over(from: &mut AnyLink, to: &mut AnyLink, alloc: Global, checks: &Checks) {
     let longest = octets(alloc, LONGEST_TSDU, checks);
     sends(from, longest.as_slice(), checks);
     gives_away(from, alloc, checks);
@@ -572,7 +567,7 @@ fn all_go_over_from(
     from: &mut AnyLink,
     alloc: Global,
     flow: Option<(Window, Credit)>,
-    checks: &mut Checks,
+    checks: &Checks,
 ) {
     let mut to = wide(alloc, flow);
     all_go_over(from, &mut to, alloc, checks);
@@ -580,7 +575,7 @@ fn all_go_over_from(
 }
 
 /// All go over from one new link to another.
-fn all_go_over_wide(alloc: Global, flow: Option<(Window, Credit)>, checks: &mut Checks) {
+fn all_go_over_wide(alloc: Global, flow: Option<(Window, Credit)>, checks: &Checks) {
     let mut from = wide(alloc, flow);
     all_go_over_from(&mut from, alloc, flow, checks);
     drop(from);
@@ -588,15 +583,15 @@ fn all_go_over_wide(alloc: Global, flow: Option<(Window, Credit)>, checks: &mut 
 
 #[test]
 fn the_longest_tsdu_goes_over_class_0(rt: HostRuntime) -> Result<(), Fail> {
-    let mut checks = Checks::new();
-    all_go_over_wide(rt.alloc(), None, &mut checks);
+    let checks = Checks::new();
+    all_go_over_wide(rt.alloc(), None, &checks);
     checks.end()
 }
 
 #[test]
 fn the_longest_tsdu_goes_over_class_2(rt: HostRuntime) -> Result<(), Fail> {
-    let mut checks = Checks::new();
-    let flow = flow(15, 15, &mut checks);
-    all_go_over_wide(rt.alloc(), flow, &mut checks);
+    let checks = Checks::new();
+    let flow = flow(15, 15, &checks);
+    all_go_over_wide(rt.alloc(), flow, &checks);
     checks.end()
 }

@@ -49,7 +49,7 @@ rest 0
 };
 
 /// Adds 16 data units of 65,528 octets.
-fn push_long(out: &mut Vec<u8>, checks: &mut Checks) {
+fn push_long(out: &mut Vec<u8>, checks: &Checks) {
     for _ in 0..16u8 {
         checks.memory(out.extend_from_slice(&[3, 0, 255, 255, 2, 0xF0, 0]));
         checks.memory(out.extend_from_slice(&[0; 65_528]));
@@ -57,7 +57,7 @@ fn push_long(out: &mut Vec<u8>, checks: &mut Checks) {
 }
 
 /// Adds the last packets.
-fn push_last(out: &mut Vec<u8>, last: &Last, checks: &mut Checks) {
+fn push_last(out: &mut Vec<u8>, last: &Last, checks: &Checks) {
     for part in [last.header, last.octets, last.behind] {
         checks.memory(out.extend_from_slice(part));
     }
@@ -69,7 +69,7 @@ fn is_listed(
     octets: &mut Vec<u8>,
     text: &mut Vec<u8>,
     last: &Last,
-    checks: &mut Checks,
+    checks: &Checks,
 ) {
     push_long(octets, checks);
     push_last(octets, last, checks);
@@ -78,7 +78,7 @@ fn is_listed(
 }
 
 /// The listing of new octets into a new text ends with these lines.
-fn ends_so(alloc: Global, last: &Last, checks: &mut Checks) {
+fn ends_so(alloc: Global, last: &Last, checks: &Checks) {
     is_listed(
         alloc,
         &mut Vec::new(alloc),
@@ -90,16 +90,16 @@ fn ends_so(alloc: Global, last: &Last, checks: &mut Checks) {
 
 #[test]
 fn a_tsdu_has_at_most_1_048_576_octets(rt: HostRuntime) -> Result<(), Fail> {
-    let mut checks = Checks::new();
-    ends_so(rt.alloc(), &LONGEST, &mut checks);
-    ends_so(rt.alloc(), &TOO_LONG, &mut checks);
+    let checks = Checks::new();
+    ends_so(rt.alloc(), &LONGEST, &checks);
+    ends_so(rt.alloc(), &TOO_LONG, &checks);
     checks.end()
 }
 
 #[test]
 fn what_is_too_long_is_dropped_up_to_its_end(rt: HostRuntime) -> Result<(), Fail> {
-    let mut checks = Checks::new();
-    ends_so(rt.alloc(), &DROPPED, &mut checks);
+    let checks = Checks::new();
+    ends_so(rt.alloc(), &DROPPED, &checks);
     checks.end()
 }
 
@@ -114,7 +114,7 @@ fn feed_singly(
     lister: &mut Lister,
     text: &mut Vec<u8>,
     octets: &[u8],
-    checks: &mut Checks,
+    checks: &Checks,
 ) {
     for octet in octets {
         checks.memory(lister.feed(alloc, text, &[*octet]));
@@ -122,7 +122,7 @@ fn feed_singly(
 }
 
 /// What `MIXED` has is counted.
-fn is_counted(lister: &Lister, checks: &mut Checks) {
+fn is_counted(lister: &Lister, checks: &Checks) {
     let counts = Counts {
         packets: 2,
         units: 1,
@@ -136,7 +136,7 @@ fn is_counted(lister: &Lister, checks: &mut Checks) {
 }
 
 /// The status of a listing, if there is memory for it.
-fn status(answer: Result<u8, AllocError>, checks: &mut Checks) -> Option<u8> {
+fn status(answer: Result<u8, AllocError>, checks: &Checks) -> Option<u8> {
     let status = answer.ok();
     checks.that(status.is_some(), OUT_OF_MEMORY);
     status
@@ -147,7 +147,7 @@ fn listed_singly(
     alloc: Global,
     lister: &mut Lister,
     text: &mut Vec<u8>,
-    checks: &mut Checks,
+    checks: &Checks,
 ) -> Option<u8> {
     feed_singly(alloc, lister, text, &MIXED, checks);
     is_counted(lister, checks);
@@ -155,17 +155,12 @@ fn listed_singly(
 }
 
 /// The status of the listing of `MIXED` by a new lister.
-fn listed_anew(alloc: Global, text: &mut Vec<u8>, checks: &mut Checks) -> Option<u8> {
+fn listed_anew(alloc: Global, text: &mut Vec<u8>, checks: &Checks) -> Option<u8> {
     listed_singly(alloc, &mut Lister::new(alloc), text, checks)
 }
 
 /// `MIXED` is listed octet by octet as all at once.
-fn is_listed_alike(
-    alloc: Global,
-    singly: &mut Vec<u8>,
-    at_once: &mut Vec<u8>,
-    checks: &mut Checks,
-) {
+fn is_listed_alike(alloc: Global, singly: &mut Vec<u8>, at_once: &mut Vec<u8>, checks: &Checks) {
     let one = listed_anew(alloc, singly, checks);
     let other = status(list(alloc, at_once, &MIXED), checks);
     checks.that(one == Some(1), "another status");
@@ -176,13 +171,8 @@ fn is_listed_alike(
 #[test]
 fn octets_that_come_one_by_one_are_listed_as_all_at_once(rt: HostRuntime) -> Result<(), Fail> {
     let alloc = rt.alloc();
-    let mut checks = Checks::new();
-    is_listed_alike(
-        alloc,
-        &mut Vec::new(alloc),
-        &mut Vec::new(alloc),
-        &mut checks,
-    );
+    let checks = Checks::new();
+    is_listed_alike(alloc, &mut Vec::new(alloc), &mut Vec::new(alloc), &checks);
     checks.end()
 }
 
@@ -201,7 +191,7 @@ fn begin_streams(alloc: Global, trace: &mut Trace) {
 }
 
 /// A trace goes on with all of these.
-fn goes_on(alloc: Global, trace: &mut Trace, checks: &mut Checks) {
+fn goes_on(alloc: Global, trace: &mut Trace, checks: &Checks) {
     feed_packets(alloc, trace);
     begin_streams(alloc, trace);
     checks.that(!trace.is_stopped(), "it has stopped");
@@ -218,7 +208,7 @@ fn trace(alloc: Global, has_lines: bool) -> Trace {
     }
 }
 
-fn trace_goes_on(alloc: Global, has_lines: bool, checks: &mut Checks) {
+fn trace_goes_on(alloc: Global, has_lines: bool, checks: &Checks) {
     let mut trace = trace(alloc, has_lines);
     goes_on(alloc, &mut trace, checks);
     drop(trace);
@@ -226,8 +216,8 @@ fn trace_goes_on(alloc: Global, has_lines: bool, checks: &mut Checks) {
 
 #[test]
 fn a_trace_goes_on_within_its_bounds(rt: HostRuntime) -> Result<(), Fail> {
-    let mut checks = Checks::new();
-    trace_goes_on(rt.alloc(), true, &mut checks);
-    trace_goes_on(rt.alloc(), false, &mut checks);
+    let checks = Checks::new();
+    trace_goes_on(rt.alloc(), true, &checks);
+    trace_goes_on(rt.alloc(), false, &checks);
     checks.end()
 }

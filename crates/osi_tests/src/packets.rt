@@ -11,7 +11,7 @@ fn feed(cutter: &mut Cutter, piece: &[u8]) -> Result<Fed, TpktFault> {
 }
 
 /// The answer to a piece. If memory runs out, this must have changed nothing, and the piece is fed again.
-fn fed(cutter: &mut Cutter, piece: &[u8], checks: &mut Checks) -> Result<Fed, TpktFault> {
+fn fed(cutter: &mut Cutter, piece: &[u8], checks: &Checks) -> Result<Fed, TpktFault> {
     let before = cutter.rest_len();
     let answer = feed(cutter, piece);
     if answer != Err(TpktFault::OutOfMemory) {
@@ -25,7 +25,7 @@ fn fed(cutter: &mut Cutter, piece: &[u8], checks: &mut Checks) -> Result<Fed, Tp
 }
 
 /// A cutter uses this many octets of a piece, and then a packet is ready or not.
-fn uses(cutter: &mut Cutter, piece: &[u8], wanted: Fed, checks: &mut Checks) {
+fn uses(cutter: &mut Cutter, piece: &[u8], wanted: Fed, checks: &Checks) {
     let answer = fed(cutter, piece, checks);
     checks.that(answer != Err(TpktFault::OutOfMemory), OUT_OF_MEMORY);
     checks.that(answer == Ok(wanted), "another answer to a piece");
@@ -38,7 +38,7 @@ static CONNECT_REQUEST: [u8; 22] = [
 ];
 
 /// The packet is ready, header and transport unit.
-fn has_request(cutter: &Cutter, checks: &mut Checks) {
+fn has_request(cutter: &Cutter, checks: &Checks) {
     checks.that(
         cutter.rest_len() == CONNECT_REQUEST.len(),
         "a packet of another length",
@@ -50,7 +50,7 @@ fn has_request(cutter: &Cutter, checks: &mut Checks) {
 }
 
 /// The packet arrives octet by octet.
-fn comes_slowly(cutter: &mut Cutter, checks: &mut Checks) {
+fn comes_slowly(cutter: &mut Cutter, checks: &Checks) {
     for octet in &CONNECT_REQUEST[..21] {
         uses(
             cutter,
@@ -74,7 +74,7 @@ fn comes_slowly(cutter: &mut Cutter, checks: &mut Checks) {
     has_request(cutter, checks);
 }
 
-fn two_come_slowly(cutter: &mut Cutter, checks: &mut Checks) {
+fn two_come_slowly(cutter: &mut Cutter, checks: &Checks) {
     comes_slowly(cutter, checks);
     cutter.advance();
     comes_slowly(cutter, checks);
@@ -82,8 +82,8 @@ fn two_come_slowly(cutter: &mut Cutter, checks: &mut Checks) {
 
 #[test]
 fn octets_come_one_by_one(rt: HostRuntime) -> Result<(), Fail> {
-    let mut checks = Checks::new();
-    two_come_slowly(&mut Cutter::new(rt.alloc()), &mut checks);
+    let checks = Checks::new();
+    two_come_slowly(&mut Cutter::new(rt.alloc()), &checks);
     checks.end()
 }
 
@@ -108,7 +108,7 @@ pub(crate) fn is_appended<'a, U: Unit<'a>>(
 }
 
 /// The connect request is read and written.
-fn is_written_again(out: &mut BytesMut, checks: &mut Checks) {
+fn is_written_again(out: &mut BytesMut, checks: &Checks) {
     match Packet::read(&CONNECT_REQUEST) {
         Ok(Some((packet, _))) => checks.made(
             is_appended(&packet, &CONNECT_REQUEST, out),
@@ -120,12 +120,12 @@ fn is_written_again(out: &mut BytesMut, checks: &mut Checks) {
 
 #[test]
 fn a_packet_is_read_and_written(rt: HostRuntime) -> Result<(), Fail> {
-    let mut checks = Checks::new();
+    let checks = Checks::new();
     checks.that(
         octets_read::<Packet>(&CONNECT_REQUEST) == Some(22),
         "another length",
     );
-    is_written_again(&mut BytesMut::new(rt.alloc()), &mut checks);
+    is_written_again(&mut BytesMut::new(rt.alloc()), &checks);
     checks.end()
 }
 
@@ -151,7 +151,7 @@ fn a_packet_is_cut_or_has_a_fault(rt: HostRuntime) {
 }
 
 /// A unit of this size fits no packet, and nothing is written.
-fn has_a_bad_size(out: &mut BytesMut, unit: &[u8], checks: &mut Checks) {
+fn has_a_bad_size(out: &mut BytesMut, unit: &[u8], checks: &Checks) {
     checks.that(
         write_packet(out, unit) == Err(WriteError::BadSize),
         "the size is not bad",
@@ -159,7 +159,7 @@ fn has_a_bad_size(out: &mut BytesMut, unit: &[u8], checks: &mut Checks) {
     checks.that(out.is_empty(), "octets are written");
 }
 
-fn is_the_longest_packet(out: &mut BytesMut, unit: &[u8], checks: &mut Checks) {
+fn is_the_longest_packet(out: &mut BytesMut, unit: &[u8], checks: &Checks) {
     let answer = write_packet(out, unit);
     checks.that(answer != Err(WriteError::OutOfMemory), OUT_OF_MEMORY);
     checks.that(answer == Ok(()), "a packet is not written");
@@ -170,7 +170,7 @@ fn is_the_longest_packet(out: &mut BytesMut, unit: &[u8], checks: &mut Checks) {
     );
 }
 
-fn sizes_go_on(out: &mut BytesMut, checks: &mut Checks) {
+fn sizes_go_on(out: &mut BytesMut, checks: &Checks) {
     has_a_bad_size(out, &[7; 2], checks);
     has_a_bad_size(out, &[7; 65_532], checks);
     is_the_longest_packet(out, &[7; 65_531], checks);
@@ -178,7 +178,7 @@ fn sizes_go_on(out: &mut BytesMut, checks: &mut Checks) {
 
 #[test]
 fn a_packet_carries_3_to_65531_octets(rt: HostRuntime) -> Result<(), Fail> {
-    let mut checks = Checks::new();
-    sizes_go_on(&mut BytesMut::new(rt.alloc()), &mut checks);
+    let checks = Checks::new();
+    sizes_go_on(&mut BytesMut::new(rt.alloc()), &checks);
     checks.end()
 }

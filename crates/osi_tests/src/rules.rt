@@ -35,7 +35,7 @@ fn passes(
     direction: Direction,
     octets: &[u8],
     finding: Finding,
-    checks: &mut Checks,
+    checks: &Checks,
 ) {
     if let Some(unit) = only_unit(octets, checks) {
         match traffic.take(direction, &unit) {
@@ -45,7 +45,7 @@ fn passes(
     }
 }
 
-fn does(traffic: &mut Traffic, step: Step, checks: &mut Checks) {
+fn does(traffic: &mut Traffic, step: Step, checks: &Checks) {
     match step {
         Step::Begins(direction) => traffic.begin(direction),
         Step::Passes(direction, octets, finding) => {
@@ -58,7 +58,7 @@ fn does(traffic: &mut Traffic, step: Step, checks: &mut Checks) {
     }
 }
 
-fn goes(traffic: &mut Traffic, steps: &[Step], checks: &mut Checks) {
+fn goes(traffic: &mut Traffic, steps: &[Step], checks: &Checks) {
     for step in steps {
         does(traffic, *step, checks);
     }
@@ -392,26 +392,26 @@ const ROWS: [&[Step]; 28] = [
 ];
 
 /// What passes on a fresh byte connection, which this function owns.
-fn row_goes(alloc: Global, steps: &[Step], checks: &mut Checks) {
+fn row_goes(alloc: Global, steps: &[Step], checks: &Checks) {
     goes(&mut Traffic::new(alloc), steps, checks);
 }
 
 /// What passes on a fresh byte connection for each row.
-fn rows_go(alloc: Global, checks: &mut Checks) {
+fn rows_go(alloc: Global, checks: &Checks) {
     for steps in ROWS {
         row_goes(alloc, steps, checks);
     }
 }
 
 /// A CR with this reference passes in a packet of its own. It offers class 2.
-fn asks(traffic: &mut Traffic, reference: u8, finding: Finding, checks: &mut Checks) {
+fn asks(traffic: &mut Traffic, reference: u8, finding: Finding, checks: &Checks) {
     traffic.begin(LEFT);
     let request = [6, 0xe3, 0, 0, 0, reference, 0x20];
     passes(traffic, LEFT, &request, finding, checks);
 }
 
 /// After the first connection, 127 more are requested and kept. One more is too many.
-fn many_ask(traffic: &mut Traffic, checks: &mut Checks) {
+fn many_ask(traffic: &mut Traffic, checks: &Checks) {
     for reference in 2..129 {
         asks(traffic, reference, KEPT, checks);
     }
@@ -419,7 +419,7 @@ fn many_ask(traffic: &mut Traffic, checks: &mut Checks) {
 }
 
 /// What passes on a fresh byte connection with many connections, which this function owns.
-fn many_are_judged(alloc: Global, checks: &mut Checks) {
+fn many_are_judged(alloc: Global, checks: &Checks) {
     let mut traffic = Traffic::new(alloc);
     goes(
         &mut traffic,
@@ -434,14 +434,14 @@ fn many_are_judged(alloc: Global, checks: &mut Checks) {
 
 #[test]
 fn a_hundred_and_twenty_eight_connections_are_judged(rt: HostRuntime) -> Result<(), Fail> {
-    let mut checks = Checks::new();
-    many_are_judged(rt.alloc(), &mut checks);
+    let checks = Checks::new();
+    many_are_judged(rt.alloc(), &checks);
     checks.end()
 }
 
 #[test]
 fn units_are_found_right_or_broken(rt: HostRuntime) -> Result<(), Fail> {
-    let mut checks = Checks::new();
-    rows_go(rt.alloc(), &mut checks);
+    let checks = Checks::new();
+    rows_go(rt.alloc(), &checks);
     checks.end()
 }

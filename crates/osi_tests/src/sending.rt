@@ -29,7 +29,7 @@ pub(crate) enum Sending {
 pub(crate) fn is_answered(
     answer: Result<(), SendError>,
     error: Option<SendError>,
-    checks: &mut Checks,
+    checks: &Checks,
 ) {
     let found = answer.err();
     checks.that(found != Some(SendError::OutOfMemory), OUT_OF_MEMORY);
@@ -37,7 +37,7 @@ pub(crate) fn is_answered(
 }
 
 /// Sends a TSDU on connection 1.
-fn sends_one(carrier: &mut Carrier, tsdu: &[u8], error: Option<SendError>, checks: &mut Checks) {
+fn sends_one(carrier: &mut Carrier, tsdu: &[u8], error: Option<SendError>, checks: &Checks) {
     is_answered(carrier.send(Ref(1), tsdu), error, checks);
 }
 
@@ -46,7 +46,7 @@ fn sends_long(
     alloc: Global,
     count: usize,
     error: Option<SendError>,
-    checks: &mut Checks,
+    checks: &Checks,
 ) {
     sends_one(
         carrier,
@@ -57,7 +57,7 @@ fn sends_long(
 }
 
 /// Sends a TSDU on connection 1 that is given away.
-fn sends_owned(carrier: &mut Carrier, tsdu: Vec<u8>, checks: &mut Checks) {
+fn sends_owned(carrier: &mut Carrier, tsdu: Vec<u8>, checks: &Checks) {
     is_answered(carrier.send_owned(Ref(1), tsdu), None, checks);
 }
 
@@ -71,19 +71,19 @@ static PIECES: Pieces<'static> = Pieces {
 };
 
 /// Sends them on connection 1 in one call.
-fn sends_pieces(carrier: &mut Carrier, checks: &mut Checks) {
+fn sends_pieces(carrier: &mut Carrier, checks: &Checks) {
     is_answered(carrier.send_all_headed(Ref(1), &PIECES), None, checks);
 }
 
 /// A TSDU with these octets; an empty one if memory runs out.
-fn copy(alloc: Global, octets: &[u8], checks: &mut Checks) -> Vec<u8> {
+fn copy(alloc: Global, octets: &[u8], checks: &Checks) -> Vec<u8> {
     let mut tsdu = Vec::new(alloc);
     checks.memory(tsdu.extend_from_slice(octets));
     tsdu
 }
 
 /// This many TSDUs of so many octets.
-fn copies(alloc: Global, times: u16, count: usize, checks: &mut Checks) -> Vec<Vec<u8>> {
+fn copies(alloc: Global, times: u16, count: usize, checks: &Checks) -> Vec<Vec<u8>> {
     let mut tsdus = Vec::new(alloc);
     for _ in 0..times {
         add(&mut tsdus, octets(alloc, count, checks), checks);
@@ -92,7 +92,7 @@ fn copies(alloc: Global, times: u16, count: usize, checks: &mut Checks) -> Vec<V
 }
 
 /// Five TSDUs of one octet.
-fn five(alloc: Global, checks: &mut Checks) -> Vec<Vec<u8>> {
+fn five(alloc: Global, checks: &Checks) -> Vec<Vec<u8>> {
     let mut tsdus = Vec::new(alloc);
     for octet in b"ABCDE" {
         add(&mut tsdus, copy(alloc, &[*octet], checks), checks);
@@ -101,43 +101,32 @@ fn five(alloc: Global, checks: &mut Checks) -> Vec<Vec<u8>> {
 }
 
 /// Sends TSDUs in one call. If memory runs out, nothing is written, and they are sent again as if for the first time.
-fn sends_all(
-    carrier: &mut Carrier,
-    tsdus: &[Vec<u8>],
-    error: Option<SendError>,
-    checks: &mut Checks,
-) {
+fn sends_all(carrier: &mut Carrier, tsdus: &[Vec<u8>], error: Option<SendError>, checks: &Checks) {
     match carrier.send_all(Ref(1), tsdus) {
         Err(SendError::OutOfMemory) => sends_once_more(carrier, tsdus, checks),
         answer => is_answered(answer, error, checks),
     }
 }
 
-fn sends_once_more(carrier: &mut Carrier, tsdus: &[Vec<u8>], checks: &mut Checks) {
+fn sends_once_more(carrier: &mut Carrier, tsdus: &[Vec<u8>], checks: &Checks) {
     let is_unwritten = carrier.outgoing().is_empty();
     checks.that(is_unwritten, "want of memory has written octets");
     is_answered(carrier.send_all(Ref(1), tsdus), None, checks);
 }
 
-fn sends_five(carrier: &mut Carrier, alloc: Global, checks: &mut Checks) {
+fn sends_five(carrier: &mut Carrier, alloc: Global, checks: &Checks) {
     sends_all(carrier, five(alloc, checks).as_slice(), None, checks);
 }
 
 /// Sends copies of a TSDU in one call, and as many again that are given away.
-fn sends_together(
-    carrier: &mut Carrier,
-    alloc: Global,
-    times: u16,
-    count: usize,
-    checks: &mut Checks,
-) {
+fn sends_together(carrier: &mut Carrier, alloc: Global, times: u16, count: usize, checks: &Checks) {
     let lent = copies(alloc, times, count, checks);
     is_answered(carrier.send_all(Ref(1), lent.as_slice()), None, checks);
     is_answered(carrier.send_all_owned(Ref(1), lent), None, checks);
 }
 
 /// Sends TSDUs on connection 1.
-pub(crate) fn sends(carrier: &mut Carrier, alloc: Global, sending: Sending, checks: &mut Checks) {
+pub(crate) fn sends(carrier: &mut Carrier, alloc: Global, sending: Sending, checks: &Checks) {
     match sending {
         Sending::One(tsdu, error) => sends_one(carrier, tsdu, error, checks),
         Sending::Long(count, error) => sends_long(carrier, alloc, count, error, checks),

@@ -14,7 +14,7 @@ const CONNECT: [u8; 20] = [
 ];
 
 /// The units of a TSDU have this as their written form.
-fn is_written_again(out: &mut BytesMut, tsdu: &[u8], checks: &mut Checks) {
+fn is_written_again(out: &mut BytesMut, tsdu: &[u8], checks: &Checks) {
     let Ok(group) = read_tsdu(tsdu) else {
         return checks.that(false, "the TSDU is not read");
     };
@@ -25,8 +25,8 @@ fn is_written_again(out: &mut BytesMut, tsdu: &[u8], checks: &mut Checks) {
 
 #[test]
 fn a_connect_is_written_as_it_is_read(rt: HostRuntime) -> Result<(), Fail> {
-    let mut checks = Checks::new();
-    is_written_again(&mut BytesMut::new(rt.alloc()), &CONNECT, &mut checks);
+    let checks = Checks::new();
+    is_written_again(&mut BytesMut::new(rt.alloc()), &CONNECT, &checks);
     checks.end()
 }
 
@@ -98,7 +98,7 @@ static BITS: [(Requirements, u16, &str); 11] = [
 
 #[test]
 fn each_functional_unit_has_its_bit() -> Result<(), Fail> {
-    let mut checks = Checks::new();
+    let checks = Checks::new();
     for (units, bits, name) in &BITS {
         checks.that(units.bits() == *bits, name);
     }
@@ -117,7 +117,7 @@ fn selectors_are_bounded() -> bool {
 /// Numbers of octets, and whether they are the size of a TSDU.
 static SIZES: [(u16, bool); 4] = [(0, true), (63, false), (64, true), (65_535, true)];
 
-fn sizes_are_bounded(checks: &mut Checks) {
+fn sizes_are_bounded(checks: &Checks) {
     for (octets, is_size) in &SIZES {
         checks.that(TsduSize::new(*octets).is_some() == *is_size, "another size");
     }
@@ -125,10 +125,10 @@ fn sizes_are_bounded(checks: &mut Checks) {
 
 #[test]
 fn numbers_selectors_sizes_and_wishes() -> Result<(), Fail> {
-    let mut checks = Checks::new();
+    let checks = Checks::new();
     checks.that(serials_are_bounded(), "another serial number");
     checks.that(selectors_are_bounded(), "another selector");
-    sizes_are_bounded(&mut checks);
+    sizes_are_bounded(&checks);
     checks.that(Wish::from(Side::Answerer) == Wish::Answerer, "another wish");
     checks.end()
 }

@@ -39,7 +39,7 @@ static WRITTEN: [&[u8]; 16] = [
 ];
 
 /// The unit of a packet that has no other; `None` is reported.
-pub(crate) fn only_unit<'a>(packet: &'a [u8], checks: &mut Checks) -> Option<Tpdu<'a>>
+pub(crate) fn only_unit<'a>(packet: &'a [u8], checks: &Checks) -> Option<Tpdu<'a>>
     ensures fits { IfSome result (λ unit. Fits (value unit)) }
     ensures room { IfSome result (λ unit. HasRoom (value unit)) }
 {
@@ -64,7 +64,7 @@ fn single(packet: &[u8]) -> Option<Tpdu<'_>>
 }
 
 /// A unit has this written form.
-fn is_written(out: &mut BytesMut, unit: &Tpdu<'_>, octets: &[u8], checks: &mut Checks)
+fn is_written(out: &mut BytesMut, unit: &Tpdu<'_>, octets: &[u8], checks: &Checks)
     requires { HasRoom (value unit.now) }
 {
     checks.memory(write(unit, out));
@@ -72,14 +72,14 @@ fn is_written(out: &mut BytesMut, unit: &Tpdu<'_>, octets: &[u8], checks: &mut C
 }
 
 /// A packet has exactly this unit.
-fn has_unit(packet: &[u8], unit: &Tpdu<'_>, checks: &mut Checks) {
+fn has_unit(packet: &[u8], unit: &Tpdu<'_>, checks: &Checks) {
     if let Some(found) = only_unit(packet, checks) {
         checks.that(found == *unit, "another unit");
     }
 }
 
 /// Octets are one unit, and its written form.
-fn is_its_own(out: &mut BytesMut, octets: &[u8], checks: &mut Checks) {
+fn is_its_own(out: &mut BytesMut, octets: &[u8], checks: &Checks) {
     let Some(unit) = only_unit(octets, checks) else {
         return;
     };
@@ -88,18 +88,18 @@ fn is_its_own(out: &mut BytesMut, octets: &[u8], checks: &mut Checks) {
     has_unit(out.as_slice(), &unit, checks);
 }
 
-fn comes_back(alloc: Global, octets: &[u8], checks: &mut Checks) {
+fn comes_back(alloc: Global, octets: &[u8], checks: &Checks) {
     is_its_own(&mut BytesMut::new(alloc), octets, checks);
 }
 
-fn all_come_back(alloc: Global, checks: &mut Checks) {
+fn all_come_back(alloc: Global, checks: &Checks) {
     for octets in &WRITTEN {
         comes_back(alloc, octets, checks);
     }
 }
 
 /// A DT of class 0 of the greatest length comes back.
-fn the_longest_comes_back(alloc: Global, checks: &mut Checks) {
+fn the_longest_comes_back(alloc: Global, checks: &Checks) {
     let mut longest = Vec::new(alloc);
     checks.memory(longest.extend_from_slice(&[0x02, 0xF0, 0x80]));
     checks.memory(longest.extend_from_slice(&[0x5A; 65_528]));
@@ -108,9 +108,9 @@ fn the_longest_comes_back(alloc: Global, checks: &mut Checks) {
 
 #[test]
 fn written_units_come_back(rt: HostRuntime) -> Result<(), Fail> {
-    let mut checks = Checks::new();
-    all_come_back(rt.alloc(), &mut checks);
-    the_longest_comes_back(rt.alloc(), &mut checks);
+    let checks = Checks::new();
+    all_come_back(rt.alloc(), &checks);
+    the_longest_comes_back(rt.alloc(), &checks);
     checks.end()
 }
 
@@ -126,13 +126,13 @@ const REQUEST_WRITTEN: [u8; 19] = [
 ];
 
 /// The one unit of a packet has this written form.
-fn is_written_so(out: &mut BytesMut, packet: &[u8], octets: &[u8], checks: &mut Checks) {
+fn is_written_so(out: &mut BytesMut, packet: &[u8], octets: &[u8], checks: &Checks) {
     if let Some(unit) = only_unit(packet, checks) {
         is_written(out, &unit, octets, checks);
     }
 }
 
-fn has_the_spelling(alloc: Global, packet: &[u8], octets: &[u8], checks: &mut Checks) {
+fn has_the_spelling(alloc: Global, packet: &[u8], octets: &[u8], checks: &Checks) {
     is_written_so(&mut BytesMut::new(alloc), packet, octets, checks);
 }
 
@@ -152,7 +152,7 @@ static SPELLINGS: [(&[u8], &[u8]); 5] = [
     (&[0x02, 0xF0, 0x7F, 5], &[0x02, 0xF0, 0, 5]),
 ];
 
-fn all_have_one_spelling(alloc: Global, checks: &mut Checks) {
+fn all_have_one_spelling(alloc: Global, checks: &Checks) {
     for (octets, written) in &SPELLINGS {
         has_the_spelling(alloc, octets, written, checks);
     }
@@ -160,8 +160,8 @@ fn all_have_one_spelling(alloc: Global, checks: &mut Checks) {
 
 #[test]
 fn units_are_written_in_one_spelling(rt: HostRuntime) -> Result<(), Fail> {
-    let mut checks = Checks::new();
-    all_have_one_spelling(rt.alloc(), &mut checks);
+    let checks = Checks::new();
+    all_have_one_spelling(rt.alloc(), &checks);
     checks.end()
 }
 
@@ -174,7 +174,7 @@ fn front<'a, U: Unit<'a>>(octets: &'a [u8], count: usize) -> Option<U> {
 }
 
 /// A transport unit is at the front, has this many octets, and may be followed by another or not.
-fn is_at_the_front(octets: &[u8], count: usize, may_be_followed: bool, checks: &mut Checks) {
+fn is_at_the_front(octets: &[u8], count: usize, may_be_followed: bool, checks: &Checks) {
     let unit: Option<Tpdu> = front(octets, count);
     let is_such = match unit {
         Some(unit) => unit.may_be_followed() == may_be_followed,
@@ -184,7 +184,7 @@ fn is_at_the_front(octets: &[u8], count: usize, may_be_followed: bool, checks: &
 }
 
 /// The high bit of the number of an AK is ignored.
-fn is_an_ack(out: &mut BytesMut, checks: &mut Checks) {
+fn is_an_ack(out: &mut BytesMut, checks: &Checks) {
     if let Some(ack) = only_unit(&[0x04, 0x61, 0, 1, 0x85], checks) {
         checks.made(
             is_appended(&ack, &[0x04, 0x61, 0, 1, 5], out),
@@ -195,11 +195,11 @@ fn is_an_ack(out: &mut BytesMut, checks: &mut Checks) {
 
 #[test]
 fn a_unit_at_the_front(rt: HostRuntime) -> Result<(), Fail> {
-    let mut checks = Checks::new();
+    let checks = Checks::new();
     // Anything may follow an AK; a DT extends to the end.
-    is_at_the_front(&[0x04, 0x61, 0, 1, 0x85, 0xFF], 5, true, &mut checks);
-    is_at_the_front(&[0x02, 0xF0, 0x80, 0xFF], 4, false, &mut checks);
-    is_an_ack(&mut BytesMut::new(rt.alloc()), &mut checks);
+    is_at_the_front(&[0x04, 0x61, 0, 1, 0x85, 0xFF], 5, true, &checks);
+    is_at_the_front(&[0x02, 0xF0, 0x80, 0xFF], 4, false, &checks);
+    is_an_ack(&mut BytesMut::new(rt.alloc()), &checks);
     checks.end()
 }
 
@@ -214,7 +214,7 @@ fn is_size(code: u8, octets: Option<usize>) -> bool {
     }
 }
 
-fn sizes_have_bounds(checks: &mut Checks) {
+fn sizes_have_bounds(checks: &Checks) {
     for (code, octets) in &SIZES {
         checks.that(is_size(*code, *octets), "another size");
     }
@@ -234,8 +234,8 @@ fn windows_have_bounds() -> bool {
 
 #[test]
 fn sizes_and_windows_have_bounds() -> Result<(), Fail> {
-    let mut checks = Checks::new();
-    sizes_have_bounds(&mut checks);
+    let checks = Checks::new();
+    sizes_have_bounds(&checks);
     checks.that(windows_have_bounds(), "another window");
     checks.end()
 }

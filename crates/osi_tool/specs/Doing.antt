@@ -1,12 +1,12 @@
 -- What each job does with a text.
 use Rattle.std.specs.Prelude.{ℕ, Bool, true, false, List, Option, Some, None}
 use Rattle.osi_listing.specs.Capture.{IsNoCapture}
-use Rattle.osi_words.specs.declared.jobs.Job.{Job}
-use Rattle.osi_words.specs.declared.jobs.Job.TheVariants.{Show, Pair, Judge, Live, Witness}
-use Rattle.osi_commands.specs.Judging.{FailsToHear, Finds, FindsPart}
-use Rattle.osi_commands.specs.Live.{BeginsLive, FindsLive}
-use Rattle.osi_commands.specs.Pairing.{Pairs, PairsPart}
-use Rattle.osi_commands.specs.Show.{FailsToRead, Shows, ShowsPart}
+use Rattle.osi_tool.specs.declared.jobs.Job.{Job}
+use Rattle.osi_tool.specs.declared.jobs.Job.TheVariants.{Show, Pair, Judge, Live, Witness}
+use Rattle.osi_tool.specs.Judging.{FailsToHear, Finds, FindsPart}
+use Rattle.osi_tool.specs.Live.{BeginsLive, FindsLive}
+use Rattle.osi_tool.specs.Pairing.{Pairs, PairsPart}
+use Rattle.osi_tool.specs.Show.{FailsToRead, Shows, ShowsPart}
 use Rattle.osi_tool.specs.Witnessing.{Tells, TellsPart}
 
 -- all that the job prints of a text is written, and nothing else

@@ -1,7 +1,7 @@
 -- How the program ends: its status, and the line on standard error.
 use Rattle.std.specs.Prelude.{ℕ, List, codes, Option, Some, None, Result, Ok, Err}
-use Rattle.osi_commands.specs.declared.faults.ToolFault.TheVariants.{Input, BadHex, Write, OutOfMemory}
-use Rattle.osi_words.specs.declared.faults.WordsFault.TheVariants as words
+use Rattle.osi_tool.specs.declared.faults.ToolFault.TheVariants.{Input, BadHex, Write, OutOfMemory}
+use Rattle.osi_tool.specs.declared.faults.WordsFault.TheVariants as words
 use Rattle.osi_tool.specs.declared.faults.ProgramFault.{ProgramFault}
 use Rattle.osi_tool.specs.declared.faults.ProgramFault.TheVariants.{Words, Tool}
 

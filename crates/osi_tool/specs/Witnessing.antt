@@ -1,7 +1,7 @@
 -- What `judge --script` does, where the reader and the writer tell their octets.
 use Rattle.std.specs.Prelude.{ℕ, ◌≤◌, List, length, Option}
 use Rattle.std.specs.Io.KnownBytes.{Appends}
-use Rattle.osi_commands.specs.Show.{BeginsToAppend}
+use Rattle.osi_tool.specs.Show.{BeginsToAppend}
 use Rattle.osi_witness.specs.Witnesses.{Witnesses}
 
 -- a text of at most 16,777,216 octets is a capture of both sides, and this is its script

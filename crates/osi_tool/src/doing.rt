@@ -2,12 +2,16 @@
 
 ghost use Rattle.std.specs.Prelude.{◌≡◌, ◌+◌, ◌<◌, ◌⊎◌, true, false, length, IfOk, IfErr, IfSome, IsErrAnd};
 ghost use Rattle.osi_tool.specs.Doing.{Does, BeginsToDo, FailsToTake, IsUnreadable, is_live, longest};
-ghost use Rattle.osi_commands.specs.Live.{Announces};
-ghost use Rattle.osi_commands.specs.Show.{TakesAtMost};
+ghost use Rattle.osi_tool.specs.Live.{Announces};
+ghost use Rattle.osi_tool.specs.Show.{TakesAtMost};
 
+use crate::faults::{Failure, ToolFault};
+use crate::jobs::Job;
+use crate::judging::judge;
+use crate::live::judge_live;
+use crate::pairing::pair;
+use crate::showing::show;
 use crate::witnessing::witness;
-use osi_commands::{Failure, ToolFault, judge, judge_live, pair, show};
-use osi_words::Job;
 use std::alloc::Global;
 use std::io::{Read, Write};
 

@@ -1,10 +1,43 @@
-//! Why the program fails.
+//! Why the words of the command line give no job, why a job fails, and why the program does.
 
 ghost use Rattle.std.specs.Prelude.{◌≡◌};
 ghost use Rattle.osi_tool.specs.Endings.{fault_line};
 
-use osi_commands::ToolFault;
-use osi_words::WordsFault;
+use crate::calls::Calls;
+
+/// Why the words of the command line give no job, and no help.
+#[derive(Clone, Copy)]
+pub enum WordsFault {
+    /// They name no job, or they can't be read.
+    Words,
+    /// What they ask for can't be printed.
+    Write,
+    /// An allocation failed.
+    OutOfMemory,
+}
+
+/// Why a job failed.
+#[derive(Clone, Copy)]
+pub enum ToolFault {
+    /// A read failed, or the input has more than 16,777,216 octets. A capture that is judged may have more.
+    Input,
+    /// The input is not a capture: it has a character other than digits, blanks and comments, or an odd number of
+    /// digits.
+    BadHex,
+    /// A write failed.
+    Write,
+    /// An allocation failed.
+    OutOfMemory,
+}
+
+/// Why a job failed, and what became of its reader and its writer.
+#[derive(Clone, Copy)]
+pub struct Failure {
+    /// Why it failed.
+    pub fault: ToolFault,
+    /// Whether a read failed, and whether a write did.
+    pub calls: Calls,
+}
 
 /// Why the program ends with status 2.
 #[derive(Clone, Copy)]

@@ -12,15 +12,18 @@
 //! not judged; the text says which. It is 2 if the arguments, the input or its digits can't be read, a write failed,
 //! or memory ran out; then one line on standard error names the reason.
 //!
-//! The program only joins other crates: `osi_words` reads the arguments, `osi_commands` reads the input and writes a listing,
-//! a judgement or a transcript, and `osi_witness` finds the script of a capture. Its own part is small:
+//! `osi_listing` makes a listing, `osi_report` a judgement, `osi_transcript` a transcript, and `osi_witness` the script of a capture.
+//! This crate reads the words of the command line and joins the others to a reader and a writer:
 //!
-//! - `job` is the `Job` that the words name.
+//! - `job` is the `Job` that the words name (`words.rt`). `clap` reads them, and prints the help that they may ask for.
 //! - `show`, `judge`, `judge_live`, `pair` and `witness` each do one, with any reader and any writer: they read all of
 //!   the input, make the whole text, and then write it; `judge_live` writes each finding before, as soon as it is
 //!   certain. So nothing is written for an input that can't be read, and a write that fails leaves a prefix of the
 //!   text. The input has at most 16,777,216 octets; that of `judge` may have any length, and is judged while it is
 //!   read. `do_job` (`doing.rt`) does the one that a `Job` names.
+//! - `ToolFault` says why nothing, or not all, was done. It comes in a `Failure`, with the `Calls`, which say whether a read failed,
+//!   and whether a write did. So the contracts can say when a fault is reported. One `Calls` passes beside the reader and the writer
+//!   from call to call; each of the five functions makes its own. An interrupted call is repeated.
 //! - `Ending` (`endings.rt`) is the status and the line on standard error.
 //!
 //! The contract of `do_job` says that exactly the text of its job is written, and for each fault when it comes and
@@ -28,23 +31,38 @@
 //! is no part of this program.
 #![tactic(auto)]
 
+mod asking;
+mod calls;
 mod doing;
 mod endings;
 mod faults;
+mod jobs;
+mod judging;
+mod live;
+mod pairing;
+mod showing;
+mod texts;
 mod witnessing;
+mod words;
 
 ghost use Rattle.std.specs.Prelude.{◌<◌, IfOk};
 
+use asking::job_of_words;
+pub use calls::Calls;
 pub use doing::do_job;
 use endings::ending_of;
 use faults::ProgramFault;
-pub use osi_commands::{Calls, Failure, ToolFault, judge, judge_live, pair, show};
-use osi_words::job_of_words;
-pub use osi_words::{Job, job};
+pub use faults::{Failure, ToolFault};
+pub use jobs::Job;
+pub use judging::judge;
+pub use live::judge_live;
+pub use pairing::pair;
+pub use showing::show;
 use std::io;
 use std::process::ExitCode;
 use std::rt::Env;
 pub use witnessing::witness;
+pub use words::job;
 
 fn main(rt: HostRuntime) -> ExitCode {
     let ending = ending_of(run(&rt));

@@ -3,9 +3,12 @@
 ghost use Rattle.std.specs.Prelude.{◌≡◌, ◌<◌, ◌≤◌, ◌⊎◌, ◌↔◌, true, length, Err, IfOk, IfErr, IfSome, IsErrAnd};
 ghost use Rattle.osi_listing.specs.Capture.{IsNoCapture};
 ghost use Rattle.osi_tool.specs.Witnessing.{Scripts, Tells, TellsPart};
-ghost use Rattle.osi_commands.specs.Show.{FailsToRead, TakesAtMost};
+ghost use Rattle.osi_tool.specs.Show.{FailsToRead, TakesAtMost};
 
-use osi_commands::{Calls, Failure, LONGEST_INPUT, ToolFault, read_input};
+use crate::calls::Calls;
+use crate::faults::{Failure, ToolFault};
+use crate::showing::read_input;
+use crate::texts::LONGEST_INPUT;
 use osi_listing::CaptureFault;
 use osi_witness::{Witness, witness_of};
 use std::alloc::Global;

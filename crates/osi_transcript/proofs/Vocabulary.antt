@@ -43,7 +43,7 @@ pub use Rattle.osi_pair.specs.declared.events.Applied.{Applied}
 pub use Rattle.osi_pair.specs.declared.events.Event.{Event}
 pub use Rattle.osi_pair.specs.declared.sides.Side.{Side}
 pub use Rattle.osi_script.specs.Commands.{Break, Carry, Command, Connect, Ends, OfUser, Told, command_by, command_of}
-pub use Rattle.osi_names.specs.Lines.{lines_of}
+pub use Rattle.osi_script.specs.Cutting.{lines_of}
 pub use Rattle.osi_script.specs.Scripts.{is_skipped}
 pub use Rattle.osi_script.specs.Standing.{standing_line}
 pub use Rattle.osi_script.specs.declared.commands.Classes.{Classes}

@@ -3,7 +3,7 @@
 use Rattle.osi_transcript.proofs.Vocabulary.{◌≡◌, ◌∙◌, ℕ, ◌+◌, ◌<◌, ◌^◌, Bool, true, false, not, List, [], ◌∷◌, length, Option, option_map}
 use Rattle.osi_transcript.proofs.Vocabulary.{refl, sym, ap, arith, if◌then◌else◌, option_map_or, length-slice_split, count_by-le-length}
 use Rattle.osi_transcript.proofs.Vocabulary.{is_skipped, lines_left}
-use Rattle.osi_names.specs.Lines.{lines_of}
+use Rattle.osi_script.specs.Cutting.{lines_of}
 use Rattle.osi_transcript.specs.Numbered.{numbered}
 
 -- a text has at most one line more than octets

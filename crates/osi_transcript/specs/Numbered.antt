@@ -1,6 +1,6 @@
 -- The lines of a script that ask for something.
 use Rattle.std.specs.Prelude.{ℕ, ◌+◌, List, [], ◌∷◌, Option, Some, None, if◌then◌else◌}
-use Rattle.osi_names.specs.Lines.{lines_of}
+use Rattle.osi_script.specs.Cutting.{lines_of}
 use Rattle.osi_script.specs.Scripts.{is_skipped}
 
 -- those of these lines that ask for something, each with its number; the first line has number n

@@ -3,7 +3,7 @@
 ghost use Rattle.std.specs.Prelude.{◌≡◌, ◌<◌, ◌^◌, length, option_map, IfOk};
 ghost use Rattle.osi_pair.specs.Ends.{fresh_ends};
 ghost use Rattle.osi_script.specs.Commands.{command_of};
-ghost use Rattle.osi_names.specs.Lines.{lines_of};
+ghost use Rattle.osi_script.specs.Cutting.{lines_of};
 ghost use Rattle.osi_transcript.specs.Playing.{Transcribes};
 ghost use Rattle.osi_transcript.specs.Numbered.{numbered};
 ghost use Rattle.osi_transcript.specs.Starting.{StartsWith};

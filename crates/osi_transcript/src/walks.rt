@@ -1,11 +1,10 @@
 //! Reading a script line by line.
 
 ghost use Rattle.std.specs.Prelude.{◌≡◌, ◌+◌, ◌<◌, ◌^◌, ◌∷◌, [], length, option_map, IfSome, IfNone};
-ghost use Rattle.osi_names.specs.Lines.{lines_of};
+ghost use Rattle.osi_script.specs.Cutting.{lines_of};
 ghost use Rattle.osi_transcript.specs.Numbered.{numbered, lines_left};
 
-use osi_names::first_line;
-use osi_script::is_skipped;
+use osi_script::{first_line, is_skipped};
 
 /// The first line of a text that asks for something, with its number, and the text after it. `number` is that of the
 /// text's first line.
@@ -40,7 +39,7 @@ pub(crate) struct Walk<'s> {
 
 impl<'s> Walk<'s> {
     ghost use Rattle.std.specs.Prelude.{◌≡◌, ◌<◌, ◌^◌, ◌∷◌, [], length, IfSome, IfNone};
-    ghost use Rattle.osi_names.specs.Lines.{lines_of};
+    ghost use Rattle.osi_script.specs.Cutting.{lines_of};
     ghost use Rattle.osi_transcript.specs.Numbered.{numbered};
     ghost use Rattle.osi_transcript.specs.Walks.{lines_in, IsSmall};
 

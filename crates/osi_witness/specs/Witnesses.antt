@@ -1,7 +1,7 @@
 -- What the script of a capture is.
 use Rattle.std.specs.Prelude.{◌≡◌, ℕ, ◌≤◌, ◌⊎◌, List, [], length}
 use Rattle.osi_listing.specs.Capture.{Captures}
-use Rattle.osi_names.specs.Lines.{lines_of}
+use Rattle.osi_script.specs.Cutting.{lines_of}
 use Rattle.osi_transcript.specs.Numbered.{numbered}
 use Rattle.osi_transcript.specs.Playing.{Transcribes}
 

@@ -1,4 +1,0 @@
-pub mod reads_one_after_the_other_read_all
-pub mod writes_one_after_the_other_append
-pub mod what_is_read_is_heard
-pub mod what_is_certain_is_written

@@ -1,4 +1,0 @@
-pub mod Judging
-pub mod Live
-pub mod Pairing
-pub mod Show

@@ -1,2 +1,0 @@
-pub mod a_text_is_split_at_what_passes
-pub mod a_text_is_cut_at_its_first_line_end

@@ -1,0 +1,5 @@
+pub mod reads_one_after_the_other_read_all
+pub mod writes_one_after_the_other_append
+pub mod what_is_read_is_heard
+pub mod what_is_certain_is_written
+pub mod a_subcommand_is_met_by_its_rows

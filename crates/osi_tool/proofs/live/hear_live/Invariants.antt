@@ -1,0 +1,14 @@
+use Rattle.std.proofs.Common.{◌-◌, ◌^◌}
+use Rattle.osi_tool.proofs.what_is_certain_is_written.{HasTold}
+use Rattle.osi_tool.proofs.what_is_read_is_heard.{HasHeard, IsReading}
+use Rattle.osi_tool.proofs.live.hear_live.Given as goal
+
+abbrev pub invariant-pieces : goal.invariant-pieces
+invariant-pieces g l = record {
+  reading : IsReading (g.R.Read.remaining l.fn.reader) (g.R.Read.remaining l.reader) l.turns;
+  heard : HasHeard l.fn.hearing l.hearing (g.R.Read.remaining l.fn.reader) (g.R.Read.remaining l.reader);
+  told : HasTold l.fn.hearing (g.R.Read.remaining l.fn.reader) (g.W.Write.contents l.fn.writer) (g.W.Write.contents l.writer);
+}
+
+abbrev pub decreases-pieces : goal.decreases-pieces
+decreases-pieces g l = 2 ^ 64 - 1 - l.turns

@@ -1,1 +1,0 @@
-pub mod a_subcommand_is_met_by_its_rows
