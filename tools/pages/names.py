@@ -102,16 +102,20 @@ def check_claims():
         row = re.fullmatch(r"\| `(osi_\w+)` \| .* \| (.*) \|", line)
         if row:
             check_names("README.md", row.group(1), row.group(2), sources_of(row.group(1)))
-    crate, text = None, ""
-    for line in read("docs/PROVED.md").splitlines():
-        if line.startswith("## "):
-            named = re.match(r"## (osi_\w+)", line)
-            crate = named and named.group(1)
-            text = sources_of(crate) if crate else ""
-        row = re.fullmatch(r"\| (.*) \| ((?:[^|]|\\\|)*) \|", line)
-        if row and crate and "`" in row.group(2) and crate != "osi_runs":
-            check_names("docs/PROVED.md", crate, row.group(2), text)
-            check_named_clauses("docs/PROVED.md", row.group(2), [text])
+    for section in re.split(r"^(?=## )", read("docs/PROVED.md"), flags=re.M):
+        check_section(section)
+
+
+def check_section(section):
+    """The claims of a section of docs/PROVED.md. Their names are in the sources of the crate that is the heading, or else of the
+    crates that the cell names."""
+    named = re.match(r"## (osi_\w+)\n", section)
+    for cell in re.findall(r"^\| .* \| ((?:[^|]|\\\|)*) \|$", section, re.M) if "\n| Proved" in section else ():
+        crates = [named.group(1)] if named else re.findall(r"osi_\w+", cell)
+        text = "".join(map(sources_of, crates))
+        if crates:
+            check_names("docs/PROVED.md", " ".join(crates), cell, text)
+            check_named_clauses("docs/PROVED.md", cell, [text])
 
 
 def check_bodies():
