@@ -102,7 +102,8 @@ def check_section(section):
     """The claims of a section of docs/PROVED.md. Their names are in the sources of the crate that is the heading, or else of the
     crates that the cell names."""
     named = re.match(r"## (osi_\w+)\n", section)
-    for cell in re.findall(r"^\| .* \| ((?:[^|]|\\\|)*) \|$", section, re.M) if "\n| Proved" in section else ():
+    has_claims = named or "\n| Proved" in section
+    for cell in re.findall(r"^\| .* \| ((?:[^|]|\\\|)*) \|$", section, re.M) if has_claims else ():
         crates = [named.group(1)] if named else re.findall(r"osi_\w+", cell)
         text = "".join(map(sources_of, crates))
         if crates:
