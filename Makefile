@@ -24,7 +24,8 @@
 # make witnesses: builds the program and the library, and plays the scripts of osi judge --script (docs/JUDGING.md).
 # make ladders: draws the pictures of docs/ladders from examples/ladders (docs/LADDERS.md); make ladders-check runs the
 # tests of the programs in tools/ (these, and osi-capture), and compares.
-# make pages: checks the links, limits and commands of the pages; it proves and builds nothing (scripts/pages).
+# make pages: checks the links, limits and commands of the pages, and compiles the examples in the heads of the crates; it proves
+# nothing (scripts/pages).
 # make ledger: builds the same and the benchmarks, counts the instructions of each operation that a benchmark times, and
 # fails if one takes more than bench/ledger.txt says; it takes some minutes if everything is proved.
 .PHONY: all test quick edits bench ledger lib install uninstall dist check-dist release check-release gateways trials fuzz ladders

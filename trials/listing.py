@@ -1,4 +1,4 @@
-"""The listing of one packet, from docs/TOOL.md, docs/TRANSPORT_UNITS.md and docs/SESSION_UNITS.md, written for
+"""The listing of one packet, from docs/TOOL.md, docs/TRANSPORT.md and docs/SESSIONS.md, written for
 the trials without a look at the code that is proved: plain Python, which reads octets from left to right.
 
 `listing(octets)` is what `osi show` is to print of a capture of these octets, one packet or less.

@@ -57,8 +57,8 @@ def conditions(crate):
 
 
 def tabled():
-    """The functions of README's table, by crate."""
-    section = re.search(r"^## Conditions on a caller\n.*?(?=^## )", read(f"{TOP}/README.md"), re.M | re.S)
+    """The functions of the table in docs/PROVED.md, by crate."""
+    section = re.search(r"^## Conditions on a caller\n.*?(?=^## )", read(f"{TOP}/docs/PROVED.md"), re.M | re.S)
     rows = re.findall(r"^\| `(osi_\w+)` \| (.*?) \|", section.group() if section else "", re.M)
     table = {crate: set() for crate, _ in rows}
     for crate, cell in rows:
@@ -67,8 +67,8 @@ def tabled():
 
 
 def wrong():
-    """The functions that only the sources or only README's table has."""
+    """The functions that only the sources or only the table has."""
     libraries = sorted(os.path.basename(os.path.dirname(os.path.dirname(lib))) for lib in glob.glob(f"{TOP}/crates/*/src/lib.rt"))
     found, table = {crate: set(conditions(crate)) for crate in libraries}, tabled()
-    return "\n".join(f"{crate} {name}: {'not in the table of README' if name in found.get(crate, set()) else 'has no condition'}"
+    return "\n".join(f"{crate} {name}: {'not in the table of docs/PROVED.md' if name in found.get(crate, set()) else 'has no condition'}"
                      for crate in sorted({*found, *table}) for name in sorted(found.get(crate, set()) ^ table.get(crate, set())))

@@ -8,16 +8,8 @@ from checks import FENCE, TOP, check, pages, read, run, skip
 
 LINES, LONGEST = 200, 400
 LONGEST_ELSEWHERE = 600
-# Rows of README's figures, and the operations of the ledger that they are about.
-FIGURES = {
-    "cutting a packet of 12 octets out of pieces of 1,448 octets": ["cut, a packet of 12 octets, in pieces of 1448"],
-    "a TSDU of 1,000 octets over a pair of carriers, class 2, one connection": [
-        "carriers, a TSDU of 1000 octets, class 2, 1 connection, in pieces of 65536"],
-    "data of 100 octets over a pair of stacks, class 2, one connection; with 64 connections": [
-        "stacks, data of 100 octets, class 2, 1 connection", "stacks, data of 100 octets, class 2, 64 connections"],
-    "a call at a session: data, a point, a confirmation": [
-        f"sessions, call of {what}, 100 octets of data" for what in ("data", "a point", "a confirmation")],
-}
+# The operation of the ledger whose speed README says, and the groups that are not compared with C by hand.
+WHOLE, OTHERS = "stacks, data of 100 octets, class 2, 1 connection", ("pair", "ends", "transcript")
 
 
 def check_limits():
@@ -102,16 +94,21 @@ def check_claims():
         row = re.fullmatch(r"\| `(osi_\w+)` \| .* \| (.*) \|", line)
         if row:
             check_names("README.md", row.group(1), row.group(2), sources_of(row.group(1)))
-    crate, text = None, ""
-    for line in read("docs/PROVED.md").splitlines():
-        if line.startswith("## "):
-            named = re.match(r"## (osi_\w+)", line)
-            crate = named and named.group(1)
-            text = sources_of(crate) if crate else ""
-        row = re.fullmatch(r"\| (.*) \| ((?:[^|]|\\\|)*) \|", line)
-        if row and crate and "`" in row.group(2) and crate != "osi_runs":
-            check_names("docs/PROVED.md", crate, row.group(2), text)
-            check_named_clauses("docs/PROVED.md", row.group(2), [text])
+    for section in re.split(r"^(?=## )", read("docs/PROVED.md"), flags=re.M):
+        check_section(section)
+
+
+def check_section(section):
+    """The claims of a section of docs/PROVED.md. Their names are in the sources of the crate that is the heading, or else of the
+    crates that the cell names."""
+    named = re.match(r"## (osi_\w+)\n", section)
+    has_claims = named or "\n| Proved" in section
+    for cell in re.findall(r"^\| .* \| ((?:[^|]|\\\|)*) \|$", section, re.M) if has_claims else ():
+        crates = [named.group(1)] if named else re.findall(r"osi_\w+", cell)
+        text = "".join(map(sources_of, crates))
+        if crates:
+            check_names("docs/PROVED.md", " ".join(crates), cell, text)
+            check_named_clauses("docs/PROVED.md", cell, [text])
 
 
 def check_bodies():
@@ -197,16 +194,9 @@ def check_rt():
 
 
 def check_figures():
-    ledger = dict(re.findall(r"^(\S.*?) {2,}([\d.]+ +[\d.]+ +[\d.]+)", read("bench/ledger.txt"), re.M))
-    readme = read("README.md")
-    for row, operations in FIGURES.items():
-        found = re.search(rf"^\| {re.escape(row)} \| (.*) \| (.*) \|$", readme, re.M)
-        if not check(f"README has the figure: {row}", found) or not check(f"ledger has it: {row}", set(operations) <= set(ledger)):
-            continue
-        figures = [[float(text) for text in ledger[name].split()] for name in operations]
-        for cell, column, digits in ((found.group(1), 0, 0), (found.group(2), 2, 2)):
-            wanted = [figure[column] for figure in figures]
-            wanted = [min(wanted), max(wanted)]
-            told = [float(text.replace(",", "")) for text in re.findall(r"[\d.,]+", cell)]
-            near = all(min(abs(a - b) for a in told) <= 0.51 * 10 ** -digits for b in wanted)
-            check(f"README's figures of the ledger: {row}", near, f"{told} for {wanted}")
+    """README's line on speed says what the ledger has: of data between two ends, and of the slowest operation."""
+    said = re.search(r"^\*\*Speed\.\*\* .*? at ([\d.]+) of .*? slowest.*? at ([\d.]+)", read("README.md"), re.M)
+    speeds = dict(re.findall(r"^(\S.*?) {2,}[\d.]+ +[\d.]+ +([\d.]+)", read("bench/ledger.txt"), re.M))
+    slowest = min(float(speed) for name, speed in speeds.items() if not name.startswith(OTHERS))
+    wanted = (float(speeds.get(WHOLE, 0)), slowest)
+    check("README's figures are those of the ledger", said and tuple(map(float, said.groups())) == wanted, str(wanted))

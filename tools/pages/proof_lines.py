@@ -7,11 +7,8 @@ vocabulary of a crate, and files that only name the files of a folder are no fil
 import glob
 import os
 import re
-import sys
 
 TOP = os.path.dirname(os.path.dirname(os.path.dirname(os.path.abspath(__file__))))
-PAGE = f"{TOP}/CONTRIBUTING.md"
-PLACE = re.compile(r"(?<=<!-- proofs -->\n\n).*?(?=\n?<!-- end -->)", re.S)
 TITLES = ("Lines", "Long lines", "Files of lemmas", "Without a head", "Bare names")
 LONGEST = 140
 # These files have a name that the toolchain or the layout of a crate gives them.
@@ -58,43 +55,17 @@ def rows():
     return {**found, "all": tuple(map(sum, zip(*found.values())))}
 
 
-def drawn():
-    """The table."""
-    head = [f"| Crate | {' | '.join(TITLES)} |", "|---" * (len(TITLES) + 1) + "|"]
-    return "\n".join(head + [f"| {name if name == 'all' else f'`{name}`'} | {' | '.join(f'{number:,}' for number in numbers)} |"
-                             for name, numbers in rows().items()]) + "\n"
-
-
-def on_page():
-    """The text of the page, and the place of the table there."""
-    text = read(PAGE)
-    place = PLACE.search(text)
-    if not place:
-        sys.exit("CONTRIBUTING.md has no place for the table of proofs")
-    return text, place
-
-
-def write():
-    text, place = on_page()
-    with open(PAGE, "w", encoding="utf-8") as file:
-        file.write(text[:place.start()] + drawn() + text[place.end():])
-
-
-def is_near(now, there, is_lines):
-    """Whether a number of the page is right within ten percent, or within a few."""
-    return abs(now - there) <= max(now // 10, 300 if is_lines else 10)
-
-
 def wrong():
-    """The crates of which a number on the page is more than ten percent off."""
-    now, there = rows(), {name: tuple(int(cell.replace(",", "")) for cell in cells.split(" | "))
-                          for name, cells in re.findall(r"^\| `?(\w+)`? \| ([\d, |]+) \|$", on_page()[1][0], re.M)}
-    found = [name for name in now.keys() | there.keys() if len(now.get(name, ())) != len(there.get(name, ()))
-             or not all(is_near(*pair, place == 0) for place, pair in enumerate(zip(now[name], there[name])))]
-    return f"CONTRIBUTING.md has other numbers for {', '.join(sorted(found))}" if found else ""
+    """The files of lemmas that have no head, or a bare name."""
+    return ", ".join(os.path.relpath(file.path, TOP) for crate in crates() for file in proofs(crate)
+                     if file.has_no_head or file.has_bare_name)
 
 
-def name_files():
+def tell():
+    """Prints the numbers of each crate, and names the files that should be better."""
+    print(f"{'':16}" + "".join(f"{title:>18}" for title in TITLES))
+    for name, numbers in rows().items():
+        print(f"{name:16}" + "".join(f"{number:18,}" for number in numbers))
     for crate in crates():
         for file in proofs(crate):
             said = ([f"{file.long} long lines"] if file.long else []) + ["no head"] * file.has_no_head + ["a bare name"] * file.has_bare_name

@@ -18,7 +18,7 @@ if __name__ == "__main__":
 from gateway_peers import peers  # noqa: E402
 from gateway_peers.peers import CC, CN, DT, connect_request, data_in_class_0, data_in_class_2, minor_point  # noqa: E402
 
-# A CN that asks for duplex alone (docs/SESSION_UNITS.md).
+# A CN that asks for duplex alone (docs/SESSIONS.md).
 CN_OF_DUPLEX = bytes.fromhex("0d0f" + "0509" + "130100" + "160102" + "1a0100" + "14020002")
 # Data of one octet, with the GT before it.
 ONE_OCTET = b"\1\0\1\0x"

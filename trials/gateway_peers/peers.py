@@ -3,7 +3,7 @@ import re
 import socket
 import threading
 
-# Session units, as docs/SESSION_UNITS.md has them: half-duplex and minor synchronize, the first point 0, the asker holds all.
+# Session units, as docs/SESSIONS.md has them: half-duplex and minor synchronize, the first point 0, the asker holds all.
 GROUP = "050c" + "130100" + "160102" + "170130" + "1a0100"
 CN = bytes.fromhex("0d12" + GROUP + "14020009")
 AC = bytes.fromhex("0e12" + GROUP + "14020089")

@@ -12,9 +12,10 @@
 //! let mut capture = Capture::new(alloc);
 //! capture.pass(Side::Left, octets, 0)?;     // and so on, piece by piece
 //! capture.trace()?;
-//! let conversation = capture.conversations.get(0)?;
-//! conversation.left.said                    // each unit, and the state of the session after it
-//! conversation.left.limit                   // the TSDU that no session sends, if there is one
+//! if let Some(conversation) = capture.conversations.get(0) {
+//!     let said = &conversation.left.said;   // each unit, and the state of the session after it
+//!     let limit = &conversation.left.limit; // the TSDU that no session sends, if there is one
+//! }
 //! ```
 //!
 //! So there is a run up to the TSDU with which the judge says that the side broke the protocol or left the profile, or that too many

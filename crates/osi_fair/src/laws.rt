@@ -310,8 +310,8 @@ pub fn a_calling_end_is_fair()
 /// of the end that passes is right: a CC, a DR that refuses a CR, and what it puts on an open connection of either class; or it is not
 /// judged, since a DR has passed that closed nothing, or a connection has lost its judgement because the other side broke a rule. This
 /// holds as long as the other side is judged, however many connections have lost their judgement (`judged`). In class 0 each unit of the
-/// end is right as long as the end itself is judged: also after the other side has broken a rule, and isn't judged any more
-/// (`in_class_0`).
+/// end is right as long as the end itself is judged and no connection has lost its judgement: also after the other side has broken a
+/// rule, and isn't judged any more (`in_class_0`).
 pub fn a_called_end_is_fair()
     ensures judged { (local : Local) (events : List Event) (w : Whole) (unit : Value) (rest : List Value) →
         HappenAlong Direction.Right (begin false local) events w → w.begun ≡ true → w.put ≡ unit ∷ rest →

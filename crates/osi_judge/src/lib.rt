@@ -14,9 +14,10 @@
 //! }
 //! judge.settle()?;                                     // only if an allocation may have failed
 //! for number in 0..judge.count() {                     // the connections, in the order of their CRs
-//!     let outcome = match judge.connection(number)? {
-//!         Found::Placed(connection) => connection.outcome(Direction::Left)?,
-//!         Found::Replaced(past) => past.outcome(Direction::Left),
+//!     let outcome = match judge.connection(number) {
+//!         Some(Found::Placed(connection)) => connection.outcome(Direction::Left)?,
+//!         Some(Found::Replaced(past)) => past.outcome(Direction::Left),
+//!         None => break,                               // there is no connection of this number
 //!     };
 //! }
 //! let broke = judge.broke(Direction::Left);            // where left's transport first broke a rule
