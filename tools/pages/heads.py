@@ -40,18 +40,14 @@ EXAMPLES = {
     "osi_side": [("osi_side::{Finding,Side}", "alloc: Global, connect: &[u8], accept: &[u8]")],
     "osi_judge": [("osi_judge::{Direction,Found,Judge}", "alloc: Global, piece: &[u8]")],
     "osi_listing": [TEXT, ("osi_listing::Trace", "alloc: Global, piece: &[u8], used: usize")],
-    "osi_names": [("osi_names::{call_error_name,first_line,phase_name} osi_session::{CallError,Phase}", "")],
     "osi_script": [TEXT],
     "osi_transcript": [("osi_transcript::transcribe", "alloc: Global, script: &[u8]")],
     "osi_report": [("osi_report::judge_text", "alloc: Global"), ("osi_report::Hearing", "alloc: Global"), TEXT],
     "osi_explain": [("osi_explain::Capture osi_script::Side", "alloc: Global, octets: &[u8]")],
     "osi_witness": [("osi_witness::witness_of", "alloc: Global, text: &[u8]")],
-    "osi_words": [("osi_words::job_of_words", "rt: HostRuntime")],
-    "osi_commands": [("osi_commands::show std::io::{Read,Write}",
-                      "alloc: Global, mut reader: impl Read + Drop, mut writer: impl Write + Drop")],
     "osi_tool": [TEXT],
 }
-ERRORS = ["osi_carrier::OpenError", "osi_carrier::SendError", "osi_class::LinkFault", "osi_commands::Failure", "osi_listing::CaptureFault",
+ERRORS = ["osi_carrier::OpenError", "osi_carrier::SendError", "osi_class::LinkFault", "osi_listing::CaptureFault",
           "osi_pair::PairError", "osi_session::CallError", "osi_side::TellError", "osi_spdu::SpduFault", "osi_stack::ConnectError",
           "osi_tpdu::TpduFault", "osi_tpkt::TpktFault", "std::alloc::AllocError", "std::io::Error"]
 # What the crates above use in their own signatures.
