@@ -10,7 +10,7 @@ from ladders import verdicts
 from ladders.program import Progress
 
 from . import judging, listing
-from .asking import found_by, local
+from .asking import local
 from .tshark import BadInput
 
 MARK = "osi: "
@@ -80,7 +80,7 @@ def annotate(asked):
     asked.show = asked.pictures = asked.upper = False
     asked.files = [asked.file]
     progress, path = Progress(sys.stderr, "osi-capture"), local(asked.file)
-    found = found_by(path, asked.port, asked.stream, asked.host)
+    found = judging.streams_in(path, asked)
     try:
         reports = [judging.told(stream, asked, listing.program(asked.osi), progress, asked.file) for stream in found]
     finally:

@@ -6,7 +6,7 @@ import signal
 import subprocess
 import sys
 
-from . import damage, frames, tshark
+from . import frames, tshark
 from .records import CHUNK
 from .tshark import BadInput
 
@@ -37,7 +37,7 @@ class Source:
 
     def of_pipe(self, pipe):
         """The segments at the port of a capture that comes through a pipe."""
-        self.reader = frames.Reader(True, self.asked.port, True)
+        self.reader = frames.Reader(True, self.asked.port, not self.asked.ignore_checksums)
         for octets in self.chunks(pipe):
             try:
                 yield from self.reader.feed(octets) if octets else [None]
@@ -65,9 +65,9 @@ class Source:
         try:
             for _ in frames.segments(name, lambda: None):
                 pass
-            found = frames.segments(name, lambda: tshark.tell_cut(name), True)
+            found = frames.segments(name, lambda: tshark.tell_cut(name), not self.asked.ignore_checksums)
         except frames.Odd:
-            found = with_sums(name)
+            found = tshark.segments(name, name, not self.asked.ignore_checksums)
         for segment in found:
             if self.is_stopped:
                 return
@@ -91,11 +91,3 @@ class Source:
             self.program.wait()
         if self.reader is not None and self.reader.odd:
             print(f"osi-capture: not every frame was read: {self.reader.odd}", file=sys.stderr)
-
-
-def with_sums(name):
-    """The segments of a file that tshark reads, and of those with octets whether the checksum is right."""
-    hurt = damage.damaged(name)
-    for segment in tshark.segments(name):
-        segment.is_right = segment.frame not in hurt if segment.octets else None
-        yield segment

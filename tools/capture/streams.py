@@ -48,12 +48,17 @@ class Doubt(Gap):
 
 
 class Damage(Gap):
-    """A frame that was damaged on its way, so that its octets aren't those that arrived: its side, and the frame."""
+    """A frame that was damaged on its way, so that its octets aren't those that arrived: its side, and the frame; and how many checksums
+    of that side are wrong, if all are."""
 
-    def __init__(self, side, frame):
+    def __init__(self, side, frame, sums):
         super().__init__(side, None, frame, None)
+        self.wrong = sums.wrong if sums.are_all_wrong() else None
 
     def __str__(self):
+        if self.wrong:
+            return f"frame {self.frame}, since all {self.wrong:,} TCP checksums of {self.side} are wrong, as in a capture that was " \
+                   "changed (--ignore-checksums judges it all the same)"
         return f"frame {self.frame}, which was damaged on its way from {self.side} (its TCP checksum is wrong)"
 
 
@@ -93,6 +98,9 @@ class Stream:
     """A TCP connection: `pieces` in their order, each with the end that sent it. The first segments are looked at together, since those
     that begin the connection (SYN) may be late."""
 
+    # Whether checksums tell which frames were damaged.
+    has_sums = True
+
     def __init__(self, number, ends):
         self.number, self.ends, self.pieces, self.opener, self.requester = number, ends, [], None, None
         self.directions = {end: Direction() for end in ends}
@@ -117,6 +125,7 @@ class Stream:
             self.multipath |= {segment.source} if segment.is_multipath else set()
             self.note_opener(segment.target if segment.is_answer else segment.source)
             own.begin(segment)
+            far.sums.take_most(segment.most)
         is_refused = segment.is_reset and self.opener not in (None, segment.source)
         if is_refused or len(self.early) >= EARLY or (own.has_first and far.has_first):
             self.settle()
@@ -261,15 +270,11 @@ class Stream:
         """The frames of octets that may be those of keepalives."""
         return {frame for direction in self.directions.values() for frame in direction.alone.values()}
 
-    def hurt(self):
-        """The frames that were damaged on their way, of a stream whose checksums are looked at while it passes."""
-        return {frame for direction in self.directions.values() for frame in direction.hurt if direction.is_hurt(frame)}
-
     def unsure(self, source, piece):
         """Why a piece of an end isn't surely what was sent; or None."""
         side, direction = SIDES[source != self.left()], self.directions[source]
-        if direction.is_hurt(piece.frame):
-            return Damage(side, piece.frame)
+        if direction.sums.is_hurt(piece.frame):
+            return Damage(side, piece.frame, direction.sums)
         return Alone(side, piece.frame) if piece.start in direction.alone else None
 
     def lost(self, end):

@@ -394,9 +394,9 @@ class Damaged(Room):
                 stream = asking.found_in(path, 102)[0]
             except tshark.BadInput:
                 continue
-            numbers = damage.damaged(path) | stream.alone()
-            parts = itertools.takewhile(lambda part, numbers=numbers: part[1].frame not in numbers, stream.by_side())
-            found = in_turns((side, piece.octets) for side, piece in parts)
+            damage.look(stream)
+            parts = itertools.takewhile(lambda part, stream=stream: not stream.unsure(*part), stream.pieces)
+            found = in_turns((streams.SIDES[source != stream.left()], piece.octets) for source, piece in parts)
             self.assertTrue(asking.why_not(stream) or is_beginning(found, run.sent), (seed, hurt, at))
 
     def test_a_capture_that_only_tshark_reads(self):

@@ -140,7 +140,8 @@ class Watched:
             place = found.place()
             return (f"frame {place[0]}, {place[1]:.6f} seconds: " if place else "") + found.sentence()
         said = f"not judged: {unjudged}" if unjudged else found.verdict.rows[-1]
-        return f"{said}, {self.limit}" if self.limit else said
+        limit = found.limit or self.limit
+        return f"{said}, {limit}" if limit else said
 
     def ended(self):
         """How the stream ended, in a line; or None."""
@@ -184,7 +185,7 @@ class Fed(Watched):
         """Remembers octets that aren't surely what was sent: if a break depends on them, it isn't told."""
         self.fed += 1
         direction = self.stream.directions[source]
-        if piece.frame in direction.hurt or piece.start in direction.alone:
+        if direction.sums.is_hurt(piece.frame) or piece.start in direction.alone:
             self.unsure.append((self.fed, source, piece))
             if len(self.unsure) > MOST_UNSURE:
                 self.unsure = [each for each in self.unsure if self.stream.unsure(*each[1:])][:MOST_UNSURE]
