@@ -139,12 +139,13 @@ class Judged(Room):
     def test_all_frames_with_octets_of_a_direction_are_damaged(self):
         made, chance = talk(), random.Random(2)
         for side, first in (("left", 4), ("right", 5)):
-            hurt = [spoiled(frame, chance) if place >= first and place % 2 == first % 2 else frame for place, frame in enumerate(made[:-1], 1)]
+            hurt = [spoiled(frame, chance) if place >= first and (place - first) % 2 == 0 else frame
+                    for place, frame in enumerate(made[:-1], 1)]
+            said = f"nothing of {side} is known up to frame {first}, which was damaged on its way from {side} (its TCP checksum is wrong)"
             for content in self.ways(hurt):
                 with self.assertRaises(asking.BadInput) as caught:
                     self.of_file(content)
-                self.assertEqual(str(caught.exception), f"nothing of {side} is known up to frame {first}, which was damaged on its way from "
-                                                        f"{side} (its TCP checksum is wrong)")
+                self.assertEqual(str(caught.exception), said)
 
     def test_checksums_that_a_card_has_still_to_write(self):
         """Of one side or of both, of all frames or of some."""
