@@ -252,7 +252,8 @@ def told(stream, asked, osi, progress, name):
         title = f"{os.path.basename(name_shown(name))}, {name_of(stream)}"
         why = made.attempt(lambda: made.draw(title, osi, progress))
         made.rows += [f"not drawn: {why}"] if why else []
-    made.ended = outcome.all_of(stream, made.judged.parts if made.judged else list(view.by_side()) if is_of_session(made.why) else [])
+    pieces = made.judged.parts if made.judged else list(view.by_side()) if is_of_session(made.why) else []
+    made.ended = outcome.all_of(stream, pieces, made.judged and made.judged.limit)
     name_upper(made.ended, upper)
     return made
 

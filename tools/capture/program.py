@@ -112,7 +112,12 @@ def print_notes(stream):
     """Prints where a listing begins and ends, if that isn't where the stream does."""
     if isinstance(stream, middle.Middle):
         print(f"begins in the middle, at frame {stream.frame}")
-    gap = getattr(stream, "stream", stream).gap() if not isinstance(stream, texts.Text) else None
+    if isinstance(stream, texts.Text):
+        return
+    source = getattr(stream, "stream", stream)
+    gap = source.gap()
+    if source.is_alone():
+        print(asking.ALONE)
     if gap:
         print(f"listed up to {gap}")
 

@@ -164,7 +164,7 @@ class Stream:
         if own.waiting or far.waiting:
             self.pass_on()
         if own.held > MOST_WAITING:
-            self.finish()
+            self.stop()
 
     def look_again(self, segment, own):
         """Compares what is sent again with what passed, of a stream that is over."""
@@ -197,12 +197,21 @@ class Stream:
         self.pieces.append((end, direction.let_pass()))
         return True
 
-    def finish(self):
-        """After the last segment: nothing more passes."""
+    def stop(self):
+        """Nothing more passes, whatever comes."""
         if self.early is not None:
             self.settle()
         self.is_over = True
         self.leave_doubt()
+
+    def finish(self):
+        """After the last segment: if only one direction is here, it passes without the octets that it acknowledges."""
+        if self.early is not None:
+            self.settle()
+        for end in self.ends if self.is_alone() else ():
+            while self.directions[end].waiting and self.directions[end].head():
+                self.pieces.append((end, self.directions[end].let_pass()))
+        self.stop()
 
     def forget(self):
         """Forgets what passed and won't be sent again."""
@@ -261,7 +270,7 @@ class Stream:
         for side, end in self.by_end().items():
             if self.directions[end].after:
                 found.append(After(side, self.directions[end].after))
-            lost = self.lost(end)
+            lost = self.lost(end) if self.directions[end].is_here else 0
             if lost:
                 found.append(Gap(side, lost, self.directions[end].first_after(), self.directions[end].cut))
         return min(found, key=lambda gap: gap.frame, default=None)

@@ -76,7 +76,7 @@ class Watched:
         self.octets += len(segment.octets)
         self.is_fresh = True
         if self.is_late(segment.time) or any(direction.doubt for direction in self.stream.directions.values()):
-            self.stream.finish()
+            self.stream.stop()
         self.look_for_limit()
         self.follow()
 
@@ -145,7 +145,7 @@ class Watched:
 
     def ended(self):
         """How the stream ended, in a line; or None."""
-        found = outcome.together(self.follower.ended(), outcome.of_tcp(self.stream))
+        found = outcome.known(self.stream, self.limit, self.follower.ended(), outcome.of_tcp(self.stream))
         return outcome.line(found, self.begin or 0) if found else None
 
 
