@@ -32,7 +32,7 @@ def status_of(name, run):
         sys.stdout.flush()
         return status
     except BadInput as error:
-        print(f"{name}: {' '.join(str(error).split())}", file=sys.stderr)
+        print(f"{name}: {line_of(error)}", file=sys.stderr)
         return 2
     except OSError as error:
         # A reader that has enough closes the pipe, and need not be told.
@@ -44,12 +44,20 @@ def status_of(name, run):
         return 130
 
 
+def line_of(error):
+    """What is wrong as a line, in which the copy of what a pipe has is called by the name of the pipe."""
+    text = " ".join(str(error).split())
+    for copy, name in SPOOLED:
+        text = text.replace(copy.name, shown(name))
+    return text
+
+
 def local(name):
     """A file that can be read again: the named one, or a copy of what a pipe or standard input (`-`) has."""
     if name != "-" and not is_pipe(name):
         return name
     copy = tempfile.NamedTemporaryFile(prefix="osi-capture-")
-    SPOOLED.append(copy)
+    SPOOLED.append((copy, name))
     try:
         if name == "-":
             shutil.copyfileobj(sys.stdin.buffer, copy)

@@ -7,7 +7,7 @@ from ladders import drawing, judged, tapped, verdicts
 from ladders.program import Progress
 
 from . import damage, listing, middle, outcome, reports, streams, texts, tshark
-from .asking import PORT, Words, found_by, named, of_nothing, shown as name_shown, status_of, viewed, why_not, write_all, local
+from .asking import PORT, Words, found_by, line_of, named, of_nothing, shown as name_shown, status_of, viewed, why_not, write_all, local
 from .streams import SIDES
 from .tshark import BadInput
 
@@ -280,7 +280,7 @@ def run(asked, progress):
             if len(asked.files) == 1:
                 raise
             progress.end()
-            print(f"{os.path.basename(sys.argv[0])}: {error}", file=sys.stderr)
+            print(f"{os.path.basename(sys.argv[0])}: {line_of(error)}", file=sys.stderr)
             statuses.append(None)
     return status_of_all(statuses)
 

@@ -5,6 +5,7 @@ import io
 import os
 import shutil
 import struct
+import subprocess
 import tempfile
 import time
 import types
@@ -605,6 +606,16 @@ class Sources(unittest.TestCase):
         with open(self.path("osi"), "rb") as file, mock.patch.object(live.sys, "stdin", mock.Mock(buffer=file)):
             status, _, err = self.call("-")
         self.assertEqual((status, "isn't read from a pipe: no pcap and no pcapng" in err), (2, True), err)
+
+    def test_a_pipe_with_a_name(self):
+        os.mkfifo(self.path("pipe"))
+        with subprocess.Popen(["cp", self.path("run.pcap"), self.path("pipe")]):
+            self.assertEqual(self.call(self.path("pipe")), (0, 1, ""))
+
+    def test_if_nothing_passes_it_says_so(self):
+        status, _, err = self.call(self.path("run.pcap"), "--host", "192.0.2.9")
+        self.assertEqual((status, err.startswith("osi-capture: no TCP stream that was asked for passed at port 102"), err.count("\n")),
+                         (2, True, 1))
 
 
 @unittest.skipUnless(shutil.which("tshark"), "tshark is not installed")

@@ -137,4 +137,4 @@ def reason(said, path):
     """What tshark says of a file that it can't read, as one line: the one that names the file, if there is one."""
     lines = [line for line in said.splitlines() if line and not line.startswith("Running as user")]
     lines = [line for line in lines if f'"{path}"' in line] + lines
-    return lines[0].removeprefix("tshark: ") if lines else "tshark can't read it"
+    return lines[0].removeprefix("tshark: ").replace(f' "{path}"', "") if lines else "tshark can't read it"

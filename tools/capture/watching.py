@@ -583,4 +583,6 @@ def watch(asked):
         source.close()
         for process in list(programs.running) if programs else ():
             programs.end(process)
+    if not watching.statuses:
+        print(f"osi-capture: no TCP stream that was asked for passed at port {asked.port} (--port N names another one)", file=sys.stderr)
     return watching.status()
