@@ -1,5 +1,5 @@
-"""Finds frames of a file that were damaged on their way, by their TCP checksums. That takes time, so it is done only if a side would be
-blamed."""
+"""Finds what isn't surely what was sent: of a file also the frames that were damaged on their way, by their TCP checksums. That takes
+time, so it is done only if a side would be blamed."""
 import functools
 import os
 from collections import defaultdict
@@ -7,6 +7,14 @@ from collections import defaultdict
 from . import frames, tshark
 from .records import Odd
 from .sums import Sums
+
+
+def first_unsure(stream):
+    """The place of the first piece of a stream that isn't surely what was sent, and why; or None."""
+    if stream.has_sums and hasattr(stream, "path"):
+        look(stream)
+    found = ((place, stream.unsure(*each)) for place, each in enumerate(stream.pieces))
+    return next((each for each in found if each[1]), None)
 
 
 def look(stream):

@@ -114,12 +114,10 @@ class Judged:
 
     def leave_doubtful(self, judge):
         """Judges only what passed before the first frame that was damaged, or whose octet may be that of a keepalive, if there is one."""
-        if self.stream.has_sums and hasattr(self.stream, "path"):
-            damage.look(self.stream)
-        found = ((place, self.stream.unsure(*each)) for place, each in enumerate(self.stream.pieces))
-        place, gap = next((each for each in found if each[1]), (None, None))
-        if gap is None:
+        found = damage.first_unsure(self.stream)
+        if found is None:
             return
+        place, gap = found
         self.parts, self.gap, self.limit = self.parts[:place], gap, f"judged up to {gap}"
         if gap.side not in {side for side, _ in self.parts}:
             raise BadInput(of_nothing(gap))

@@ -8,9 +8,9 @@ import struct
 import unittest
 from unittest import mock
 
-from ladders import judged, script
+from ladders import judged, reading, script, tapped
 
-from . import asking, frames, judging, pcap, processes, program, reports, sums, test_judging, tshark, watching
+from . import asking, frames, judging, pcap, processes, program, reports, sums, test_honest, test_judging, test_unsure, tshark, watching
 from .test_frames import AC, ACK, CC, CN, CR, DT, IPV4, IPV6, SYN, Frames, Room, data, pcap_of
 from .test_unsure import blamed
 
@@ -276,6 +276,41 @@ class Changed(Room):
     def test_who_kept_the_protocol_did_so_whatever_the_checksums_are(self):
         status, out, _ = self.call("judge", self.write(pcap_of(self.made()[:19])))
         self.assertEqual((status, "both kept the protocol" in out), (0, True))
+
+
+class Ladders(Room):
+    """A ladder with a verdict blames nobody for what isn't surely what was sent, as the verdict itself."""
+
+    def drawn(self, made, has_sums=True):
+        """What is judged of frames, what is said of it, and the notes."""
+        source = reading.by_name(self.write(pcap_of(made)), 102, None)
+        source, judge = reading.surely(source, blamed, has_sums)
+        return len(source.pieces), judge(tapped.text_of(source.pieces)), source.notes
+
+    def test_what_surely_was_sent_is_judged(self):
+        self.assertEqual(self.drawn(talk())[1:], (blamed("77726f6e67"), []))
+
+    def test_a_frame_that_was_damaged(self):
+        hurt = [spoiled(frame, random.Random(7)) if place == 12 else frame for place, frame in enumerate(talk(), 1)]
+        self.assertEqual(self.drawn(hurt), (8, "both kept the protocol\n", ["Judged up to frame 12, which was damaged on its way from left "
+                                                                            "(its TCP checksum is wrong)."]))
+        self.assertEqual(self.drawn(hurt, False)[1:], (blamed("77726f6e67"), []))
+
+    def test_a_capture_that_was_changed(self):
+        chance = random.Random(8)
+        pieces, said, _ = self.drawn([with_sum(frame, chance.randrange(1, 0xFFFF)) for frame in talk()])
+        self.assertEqual((pieces, said), (18, ALL_WRONG.format("left", 4, 12, "left") + "\n"))
+
+    def test_an_octet_that_may_be_that_of_a_keepalive(self):
+        made, number = test_unsure.Keepalives().lost()
+        said, notes = self.drawn(made)[1:]
+        self.assertEqual((said, notes), ("both kept the protocol\n", [f"Judged up to frame {number}, whose one octet may be that of a "
+                                                                       "keepalive of left."]))
+
+    def test_what_is_not_judged(self):
+        for made, said in ((talk()[5:], "begins in the middle, at frame 1"), (test_honest.Honest.multipath(), asking.MULTIPATH),
+                           ([frame for frame in talk() if frame[12:16] == LEFT], asking.ALONE)):
+            self.assertEqual(self.drawn(made)[1], f"not judged: {said}\n")
 
 
 class Sums(unittest.TestCase):
