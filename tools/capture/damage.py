@@ -42,6 +42,6 @@ def noted(segments):
     found = defaultdict(Sums)
     for segment in segments:
         if segment.is_first:
-            found[segment.stream, segment.target].take_most(segment.most)
+            found[segment.stream, segment.target].take_most(segment)
         found[segment.stream, segment.source].note(segment.frame, segment.sum, len(segment.octets))
     return found

@@ -125,7 +125,7 @@ class Stream:
             self.multipath |= {segment.source} if segment.is_multipath else set()
             self.note_opener(segment.target if segment.is_answer else segment.source)
             own.begin(segment)
-            far.sums.take_most(segment.most)
+            far.sums.take_most(segment)
         is_refused = segment.is_reset and self.opener not in (None, segment.source)
         if is_refused or len(self.early) >= EARLY or (own.has_first and far.has_first):
             self.settle()

@@ -39,9 +39,10 @@ class Sums:
         # The most octets of a segment that the other end takes, if it says so.
         self.most = None
 
-    def take_most(self, octets):
-        """Takes how many octets of a segment the other end takes."""
-        self.most = max(octets, self.most or 0) or None
+    def take_most(self, segment):
+        """Takes how many octets of a segment the other end takes, from its first segment if that isn't damaged."""
+        if not (segment.sum and segment.sum[0]):
+            self.most = max(segment.most, self.most or 0) or None
 
     def note(self, frame, found, octets):
         """Notes what the checksum of a segment with so many octets says."""

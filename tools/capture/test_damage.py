@@ -172,13 +172,14 @@ class Judged(Room):
     def test_segments_that_a_card_has_joined(self):
         """They have more octets than their receiver takes, and the checksum of the first one."""
         most = b"\2\4" + struct.pack(">H", 60)
-        for asks, status in ((True, 1), (False, 3)):
+        for asks, is_hurt, status in ((True, False, 1), (True, True, 3), (False, False, 3)):
             made = Frames().put("left", flags=SYN).put("right", flags=SYN | ACK)
             if asks:
                 made.frames[:] = [frame[:3] + bytes([len(frame) + 4]) + frame[4:32] + b"\x60" + frame[33:] + most for frame in made.frames]
             made.put("left").send("left", CR).send("right", CC).send("left", CN).send("right", AC)
             whole = [right(frame) for frame in made.send("left", LATER).send("right", DT).send("left", WRONG).put("right").frames]
             whole[7] = with_sum(whole[7], 0x1234)
+            whole[1] = with_sum(whole[1], 0x1234) if is_hurt else whole[1]
             for content in self.ways(whole):
                 self.assertEqual(self.of_file(content).status(), status)
             self.assertEqual(self.of_tap(whole)[1], status)
