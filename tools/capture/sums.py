@@ -7,7 +7,7 @@ A wrong checksum needs no damage. Three kinds say nothing of a frame, or say tha
   drivers write with and without the length, and as it is or complemented.
 - A segment with more octets than its receiver takes was on no network: a card has still to cut it, or has joined it.
 - A program that changes the addresses of a capture may leave the checksums as they were. Then all of a direction, with those of segments
-  without octets, are wrong by the same number.
+  without octets, are wrong by the same number, or differ by it from what a card has still to complete.
 """
 PROTOCOL, ONES, FIELD = 6, 0xFFFF, slice(16, 18)
 # How many first checksums of a direction have to be wrong by the same number, and how many wrong ones it takes to say that all are wrong.
@@ -23,11 +23,11 @@ def of_segment(addresses, segment):
 
 
 def told(value, error, addresses, length):
-    """How far a checksum is from the right one, and how far from the sum of the pseudo header; None if it is a form that the card has still
-    to complete."""
+    """How far a checksum is from the right one, and how far from each form in which a card has still to complete it; None if it has such a
+    form, or is 0."""
     plain = int.from_bytes(addresses, "big") + PROTOCOL
-    unwritten = {each % ONES for each in (0, plain, -plain, plain + length, -plain - length)}
-    return None if error and value % ONES in unwritten else (error, (value - plain - length) % ONES)
+    from_forms = tuple((value + each) % ONES for each in (-plain - length, -plain, plain + length, plain))
+    return None if error and (value % ONES == 0 or 0 in from_forms) else (error, *from_forms)
 
 
 class Sums:
@@ -61,10 +61,10 @@ class Sums:
             self.later = frame
 
     def look_for_change(self):
-        """Looks whether the first checksums are wrong by the same number, or differ by it from the sum of the pseudo header."""
-        if len(self.first) < FEW or any(error == 0 for error, _ in self.first):
+        """Looks whether the first checksums are all wrong by the same number, or differ by it from a form that a card completes."""
+        if len(self.first) < FEW or any(found[0] == 0 for found in self.first):
             return
-        for place in (0, 1):
+        for place in range(len(self.first[0])):
             values = {found[place] for found in self.first}
             if len(values) == 1:
                 self.change = place, values.pop()

@@ -198,8 +198,7 @@ class Judged(Room):
             for form in FORMS.values():
                 own = [with_sum(frame, form(frame)) if frame[12:16] == LEFT or frame[8:24] == IPV6["left"] else frame for frame in made]
                 changed = [moved(frame, others) for frame in own]
-                if form in (pseudo, FORMS["none"]):
-                    self.is_blamed(changed)
+                self.is_blamed(changed, form is pseudo)
 
     def test_any_frame_that_is_damaged_among_many_forms(self):
         """Nothing but offload and a change of addresses excuses a wrong checksum: no damaged frame is taken for one of these."""
