@@ -115,8 +115,8 @@ def lines(stream, osi):
 
 
 def begin(stream):
-    """The time at which the first octets passed, as far as times are known."""
-    return next((piece.time for _, piece in stream.by_side() if piece.time is not None), 0)
+    """The time at which the first octets passed, or the first segment if none did, as far as times are known."""
+    return next((piece.time for _, piece in stream.by_side() if piece.time is not None), getattr(stream, "since", None) or 0)
 
 
 def by_packet(found):
