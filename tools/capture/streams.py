@@ -100,8 +100,8 @@ class Stream:
         self.directions = {end: Direction() for end in ends}
         # `is_fast`: octets passed with the first segment of the opener (TCP Fast Open).
         self.is_over = self.is_other = self.is_crossed = self.is_fast = False
-        # The ends that ask for Multipath TCP.
-        self.multipath = set()
+        # The end whose octets passed first, and the ends that ask for Multipath TCP.
+        self.first, self.multipath = None, set()
         # The frame and time of the last segment, and the time of the first one.
         self.last, self.since, self.early = None, None, []
 
@@ -176,8 +176,13 @@ class Stream:
             own.keep(segment)
             return
         piece = Piece(segment.frame, segment.time, own.count, segment.octets)
-        self.pieces.append((segment.source, piece))
+        self.note_piece(segment.source, piece)
         own.go_on(piece)
+
+    def note_piece(self, end, piece):
+        """Notes a piece that passes."""
+        self.first = self.first or end
+        self.pieces.append((end, piece))
 
     def pass_on(self):
         """Lets octets pass as long as there are some that may."""
@@ -191,7 +196,7 @@ class Stream:
         chunk = direction.head() if direction.waiting else None
         if chunk is None or not self.directions[far].has_passed(chunk.acknowledged):
             return False
-        self.pieces.append((end, direction.let_pass()))
+        self.note_piece(end, direction.let_pass())
         return True
 
     def finish(self):
@@ -316,13 +321,16 @@ class Stream:
     def begins(self, end, octets, request):
         """Whether a direction is here from its first packet on, as far as its first octets say; the caller's first ones are `request`. If
         the first segments aren't here, or had octets, the first packets may be among what isn't here."""
+        caller = self.left()
+        if not self.directions[caller].has_first and self.first not in (None, caller):
+            return False
         if self.directions[end].has_first:
             return True
-        if self.opener is not None and not self.is_fast:
-            return may_be_packet(octets)
         if self.opener is None and any(direction.has_more for direction in self.directions.values()):
             return False
-        return may_be_request(octets) if end == self.left() else may_be_answer(octets, request)
+        if end == caller:
+            return may_be_request(octets)
+        return may_be_packet(octets) if self.opener is not None and not self.is_fast else may_be_answer(octets, request)
 
     def by_side(self):
         """The pieces, each with its side: left is the caller."""
