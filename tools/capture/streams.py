@@ -102,7 +102,7 @@ class Stream:
         self.is_over = self.is_other = self.is_crossed = self.is_fast = False
         # The end whose octets passed first, and the ends that ask for Multipath TCP.
         self.first, self.multipath = None, set()
-        # The frame and time of the last segment, and the time of the first one.
+        # The frame and time of the last segment, and of the first one.
         self.last, self.since, self.early = None, None, []
 
     def take(self, segment):
@@ -113,7 +113,7 @@ class Stream:
         if len(segment.octets) == 1:
             segment.is_soon = self.last is not None and abs(segment.time - self.last[1]) < QUIET
         self.last = segment.frame, segment.time
-        self.since = segment.time if self.since is None else self.since
+        self.since = self.since or self.last
         if self.early is None:
             self.go_on(segment, own, far)
             return

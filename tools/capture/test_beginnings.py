@@ -5,7 +5,7 @@ import io
 import unittest
 from unittest import mock
 
-from . import asking, frames, streams, watching
+from . import annotating, asking, frames, streams, watching
 from .test_frames import AC, ACK, CC, CN, CR, DT, SYN, Frames, Room, packet, pcap_of, stream_of, whole
 from .test_honest import Judge as Strict
 from .test_passing import call, needs_osi
@@ -100,6 +100,8 @@ class Silent(Room):
             self.assertRegex(out, f"^stream 0 .* not judged: .*{said}\nended: .* [0-9.]+ seconds")
             self.assertIn(said, watched(kept))
             self.assertIn(said, call(kept, "list")[1])
+            report = mock.Mock(ended=[], why=said, stream=stream_of(kept))
+            self.assertEqual(annotating.comments_of(report), [(1, f"not judged: {said}")])
 
     def test_what_waits_at_the_port_has_to_be_packets(self):
         made = Frames().begin().send("left", CR).send("right", b"HTTP/1.1 400\r\n").frames

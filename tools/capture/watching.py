@@ -145,7 +145,7 @@ class Watched:
     def ended(self):
         """How the stream ended, in a line; or None."""
         found = outcome.together(self.follower.ended(), outcome.of_tcp(self.stream))
-        return outcome.line(found, self.begin or self.stream.since or 0) if found else None
+        return outcome.line(found, self.begin or self.stream.since[1]) if found else None
 
 
 class Fed(Watched):
