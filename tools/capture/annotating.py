@@ -28,8 +28,8 @@ def comments_of(report):
     """The comments on a stream: the number of a frame and a text, in rising order of frames."""
     found = [(each.place[0], each.text) for each in report.ended if each.how != "open" and each.place and each.place[0]]
     if report.why:
-        first = next((piece.frame for _, piece in report.stream.by_side()), None)
-        return sorted(found + ([(first, f"not judged: {report.why}")] if first else []))
+        first = next((piece.frame for _, piece in report.stream.by_side()), report.stream.since[0])
+        return sorted([*found, (first, f"not judged: {report.why}")])
     judged = report.judged
     for side in ("left", "right"):
         place = judged.verdict.break_of(side) and judged.place(side)

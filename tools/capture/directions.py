@@ -175,9 +175,10 @@ class Direction:
         return len(segment.octets) == 1 and place + 1 == self.heard and segment.time - self.heard_at > QUIET
 
     def compare(self, place, octets, frame):
-        """Compares octets that are sent again with those that passed. A keepalive sends the last octet again, as any other."""
+        """Compares octets that are sent again with those that passed. A keepalive sends the last octet again, as any other; nothing else
+        sends it alone, if it didn't come alone, but what acknowledges it may be captured later."""
         last = min(place + len(octets), self.count)
-        if place >= last or len(octets) == 1 and last == self.count <= self.heard:
+        if place >= last or len(octets) == 1 and last == self.count and (last <= self.heard or len(self.passed[-1].octets) > 1):
             return
         if place < self.forgotten:
             self.doubt = self.doubt or (self.count, None, frame)

@@ -148,9 +148,11 @@ class Judged:
         return self.verdict.rows[-1] == "both kept the protocol"
 
     def status(self):
-        """The status that the stream alone would give."""
+        """The status that the stream alone would give; None if there is no verdict on it."""
         if any(map(verdicts.is_broken, filter(None, map(self.verdict.break_of, SIDES)))):
             return BROKE
+        if self.verdict.last["why"]:
+            return None
         return PARTLY if self.limit or not self.is_kept() else KEPT
 
     def sentence(self):

@@ -324,7 +324,7 @@ class Innocents(unittest.TestCase):
     def test_nobody_is_blamed_for_disorder_copies_and_losses(self):
         for seed in range(16):
             chance = random.Random(seed)
-            for disorder, loss, wanted in ((0, 0, (0,)), (6, 0, (0,)), (6, 0.1, (0, 3))):
+            for disorder, loss, wanted in ((0, 0, (0,)), (6, 0, (0,)), (6, 0.1, (None, 0, 3))):
                 frames = Turns(chance).captured(disorder, loss)
                 found = judged(frames)
                 self.assertIn(found.status, wanted, (seed, disorder, loss, found.lines()))

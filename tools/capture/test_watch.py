@@ -153,7 +153,7 @@ class Watching(unittest.TestCase):
                              ("left 1 unanswered\n", "osi judge names no verdict")):
             self.watching = watch.Watching(102, lambda text, printed=printed: printed)
             self.assertEqual(self.printed(*Rows().of("restart"), is_end=True), f"{NAME}: not judged: {why}\n")
-            self.assertEqual(self.watching.status(), 3)
+            self.assertEqual(self.watching.status(), 2)
 
     def test_a_stream_of_another_protocol_is_named(self):
         rows = Rows()

@@ -146,7 +146,7 @@ class Watched:
     def ended(self):
         """How the stream ended, in a line; or None."""
         found = outcome.known(self.stream, self.limit, self.follower.ended(), outcome.of_tcp(self.stream))
-        return outcome.line(found, self.begin or 0) if found else None
+        return outcome.line(found, self.begin or self.stream.since[1]) if found else None
 
 
 class Fed(Watched):
@@ -156,6 +156,8 @@ class Fed(Watched):
     def __init__(self, stream):
         super().__init__(stream)
         self.judge, self.heard, self.found, self.lines, self.statuses = None, set(), None, [], []
+        # The ends of which it is known that their first packets are here.
+        self.begun = set()
         # What is found of octets that nobody acknowledged yet: the side, the place after them, the status, the frame, the line, and how
         # many pieces had been fed by then.
         self.waiting = []
@@ -190,9 +192,18 @@ class Fed(Watched):
             if len(self.unsure) > MOST_UNSURE:
                 self.unsure = [each for each in self.unsure if self.stream.unsure(*each[1:])][:MOST_UNSURE]
 
-    def why_unsure(self, fed):
-        """Why it isn't sure what was found once so many pieces had been fed; or None."""
-        return next(filter(None, (self.stream.unsure(source, piece) for place, source, piece in self.unsure if place <= fed)), None)
+    def first_unsure(self, fed):
+        """The first of so many pieces that isn't surely what was sent, and why; or None."""
+        found = ((piece, self.stream.unsure(source, piece)) for place, source, piece in self.unsure if place <= fed)
+        return next((each for each in found if each[1]), None)
+
+    def limit_to(self, piece, why):
+        """Judges the stream only up to a piece that isn't surely what was sent; not at all if nothing of its side is known then."""
+        self.waiting = []
+        if piece.start == 0:
+            self.found = f"not judged: {asking.of_nothing(why)}", None
+        else:
+            self.limit = f"judged up to {why}"
 
     @staticmethod
     def made():
@@ -205,35 +216,33 @@ class Fed(Watched):
             for piece in pieces:
                 yield side, piece
 
-    def is_begun(self, source, piece):
-        """Whether a direction begins with its first octets."""
-        if source not in self.heard:
-            self.heard.add(source)
-            direction = self.stream.directions[source]
-            if self.stream.is_multipath():
-                self.found = f"not judged: {asking.MULTIPATH}", None
-                return False
-            if not (direction.has_first or self.may_begin(source, piece.octets)):
+    def is_begun(self, source):
+        """Whether a direction begins with its first octets, as far as they have passed."""
+        if self.stream.is_multipath():
+            self.found = f"not judged: {asking.MULTIPATH}", None
+        elif source not in self.begun:
+            octets = self.front(source)
+            if not self.stream.begins(source, octets, self.front(self.left)):
                 self.found = "not judged: begins in the middle", None
-                return False
-        return True
+            elif len(octets) >= streams.FRONT:
+                self.begun.add(source)
+        self.heard.add(source)
+        return self.found is None
+
+    def front(self, source):
+        """The first octets that an end sent."""
+        return b"".join(piece.octets for piece in self.head[streams.SIDES[source != self.left]])[:streams.FRONT]
 
     def feed(self, source, piece):
         """Feeds octets that have passed."""
-        if not self.is_begun(source, piece):
+        if not self.is_begun(source):
             return
         for told in self.judge.feed(int(source != self.left), piece.octets):
-            kind = kinds.of(self)
-            if kind:
-                self.found = f"not judged: {kind}, not a session", None
+            why = kinds.why_not(self)
+            if why:
+                self.found = f"not judged: {why}", None
                 return
             self.certain(told, source, piece)
-
-    def may_begin(self, source, octets):
-        """Whether the first octets of a side without its first segment may be those of a connection."""
-        if self.stream.opener is not None or len(octets) < 11:
-            return streams.is_packet(octets)
-        return streams.is_connect_request(octets) if source == self.left else streams.is_packet(octets) and streams.is_answer(octets)
 
     def certain(self, told, source, piece):
         """Notes a verdict that became certain with these octets, if they are those that arrived."""
@@ -257,9 +266,9 @@ class Fed(Watched):
             if not (is_end or doubt or directions[source].heard >= end):
                 return
             self.waiting.pop(0)
-            why = line and self.why_unsure(fed)
-            if why:
-                self.limit, self.waiting = f"judged up to {why}", []
+            unsure = line and self.first_unsure(fed)
+            if unsure:
+                self.limit_to(*unsure)
                 return
             if doubt is None or frame < doubt.frame:
                 self.statuses.append((status, frame))
@@ -280,13 +289,10 @@ class Fed(Watched):
 
     def at_the_end(self):
         """The verdict on a stream that is over, or of which no more is captured; the line is None if breaks were told."""
-        if self.left is None:
-            begun = "nothing passed" if self.stream.opener is not None else "begins in the middle"
-            return f"not judged: {asking.ALONE if self.stream.is_alone() else begun}", None
         if self.stream.is_alone():
             return f"not judged: {asking.ALONE}", None
         if len(self.heard) < 2:
-            return f"not judged: {streams.SIDES[self.left in self.heard]} sent nothing", None
+            return f"not judged: {self.why_silent()}", None
         if self.statuses:
             return self.after_verdicts()
         said = verdicts.printed(self.judge.text()) if hasattr(self.judge, "text") else None
@@ -294,6 +300,14 @@ class Fed(Watched):
             return f"not judged: {said.last['why']}" + (f", {self.limit}" if self.limit else ""), None
         limit, status = (f", {self.limit}", judging.PARTLY) if self.limit else ("", judging.KEPT)
         return "both kept the protocol" + limit, status
+
+    def why_silent(self):
+        """Why a stream isn't judged of which no octets of a side passed."""
+        gap = self.stream.gap()
+        if self.left is None and not gap:
+            return "nothing passed" if self.stream.opener is not None else "begins in the middle"
+        heard = {streams.SIDES[end != self.left] for end in self.heard}
+        return asking.why_silent(gap, heard) or f"{asking.ALONE}, judged up to {gap}"
 
     def look_for_news(self, is_end):
         """Nothing is said later than the octets that it is about."""
@@ -318,10 +332,10 @@ class Fed(Watched):
         self.look_for_news(is_end or self.limit is not None)
         self.tell(is_end or self.limit is not None)
         found = self.found or (self.at_the_end() if is_end or self.limit else None)
-        kind = kinds.of(self) if found and found is not self.found else None
-        if kind:
+        why = kinds.why_not(self) if found and found is not self.found else None
+        if why:
             self.lines.clear()
-            found = f"not judged: {kind}, not a session", None
+            found = f"not judged: {why}", None
         if found and self.judge is not None:
             self.close()
         # What passes after its verdict says only how the stream ends.
@@ -346,7 +360,7 @@ class Piped(Fed):
         """Writes octets that have passed to the program."""
         side = streams.SIDES[source != self.left]
         self.places[side].take(piece)
-        if self.is_begun(source, piece):
+        if self.is_begun(source):
             self.process.write(source != self.left, piece.octets)
 
     def look_for_news(self, is_end):
@@ -378,9 +392,9 @@ class Piped(Fed):
 
     def note_break(self, said, fields, source, row=None):
         """Notes a break, or that a side left the profile: the first one in a sentence, others in the words of the program."""
-        kind = kinds.of(self)
-        if kind:
-            self.found = f"not judged: {kind}, not a session", None
+        why = kinds.why_not(self)
+        if why:
+            self.found = f"not judged: {why}", None
             return
         side = streams.SIDES[source != self.left]
         end, frame, when = self.places[side].of(int(fields["offset"])) or (0, 0, None)
