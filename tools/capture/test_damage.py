@@ -200,6 +200,15 @@ class Judged(Room):
                 changed = [moved(frame, others) for frame in own]
                 self.is_blamed(changed, form is pseudo)
 
+    def test_a_frame_whose_header_was_damaged(self):
+        """It says that the header is shorter than any, so that its octets aren't known."""
+        if not tshark.is_there():
+            self.skipTest("tshark is not installed")
+        made = talk()
+        made[11] = made[11][:32] + b"\x20" + made[11][33:]
+        found = self.of_file(pcap_of(made))
+        self.assertEqual((found.status(), found.limit), (3, f"judged up to frame 13, where left lost {len(LATER)} octets"))
+
     def test_any_frame_that_is_damaged_among_many_forms(self):
         """Nothing but offload and a change of addresses excuses a wrong checksum: no damaged frame is taken for one of these."""
         for seed in range(40):

@@ -119,9 +119,9 @@ def read(lines):
 
 
 def of_line(line):
-    """The segment of a line, or None."""
+    """The segment of a line; None if it has none, or one whose header was damaged."""
     values = line.rstrip("\n").split("\t")
-    return Segment(values) if len(values) in (len(FIELDS), len(FIELDS + CHECKED)) and values[9] and values[2] else None
+    return Segment(values) if len(values) in (len(FIELDS), len(FIELDS + CHECKED)) and values[9] and values[2] and values[11] else None
 
 
 def upper(path, stream):
