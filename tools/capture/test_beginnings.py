@@ -101,7 +101,7 @@ class Silent(Room):
             self.assertIn(said, watched(kept))
             self.assertIn(said, call(kept, "list")[1])
             report = mock.Mock(ended=[], why=said, stream=stream_of(kept))
-            self.assertEqual(annotating.comments_of(report), [(1, f"not judged: {said}")])
+            self.assertEqual(annotating.comments_of(report), [(1 if "left" in said else 3, f"not judged: {said}")])
 
     def test_what_waits_at_the_port_has_to_be_packets(self):
         made = Frames().begin().send("left", CR).send("right", b"HTTP/1.1 400\r\n").frames

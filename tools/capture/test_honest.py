@@ -637,9 +637,9 @@ class Watched(unittest.TestCase):
     def test_a_side_that_sends_nothing(self):
         """A break of the other one is none that anybody can be sure of."""
         made = Frames().begin().send("left", data(b"\1\0\1\0wrong")).put("right").put("right", flags=RESET | ACK)
-        self.assertIn("not judged: a protocol whose data", self.fed(made.frames))
+        self.assertIn("not judged: a protocol whose data", self.fed(made.frames, is_end=True))
         made = Frames(ports={"left": 41_000, "right": 102}).begin().send("left", CR, data(CN[7:] + b"wrong")).put("right")
-        self.assertIn("not judged: right sent nothing", self.fed(made.put("right", flags=RESET | ACK).frames))
+        self.assertIn("not judged: right sent nothing", self.fed(made.put("right", flags=RESET | ACK).frames, is_end=True))
 
     def test_a_connection_with_the_numbers_of_the_one_before(self):
         self.assertEqual(self.fed(whole()[0]).count("both kept"), 1)

@@ -45,6 +45,8 @@ except ImportError:
 LONGEST = 8_000_000
 # How many octets wait for a missing segment before it counts as lost, and for how many seconds.
 MOST_WAITING, PATIENCE = 262_144, 30
+# For how many seconds after a reset of TCP octets may be captured that passed before it.
+MOMENT = 1.0
 # How many octets of a side show which protocol it is; how many streams that are over are remembered, to leave out what is late; how
 # many streams are watched at once.
 ENOUGH, REMEMBERED, MOST_STREAMS = 4_096, 10_000, 10_000
@@ -107,7 +109,11 @@ class Watched:
 
     def is_over(self):
         """Whether nothing more will pass."""
-        return any(each.reset for each in self.stream.directions.values()) or self.is_closed() and not self.stream.is_stuck()
+        return self.is_reset() or self.is_closed() and not self.stream.is_stuck()
+
+    def is_reset(self):
+        """Whether TCP was reset, though octets that passed before may still be captured."""
+        return any(each.reset for each in self.stream.directions.values())
 
     def is_closed(self):
         """Whether both directions were ended, though octets of them may still be missing."""
@@ -423,8 +429,8 @@ class Watching:
         self.port, self.judge, self.hosts, self.numbers, self.is_json, self.idle = port, judge, hosts, numbers, is_json, idle
         # Those that are watched, and those whose verdict is printed while TCP is open: by the time of their last segment.
         self.watched, self.ending = OrderedDict(), OrderedDict()
-        # Those of which TCP is closed while octets are missing, with the time since then.
-        self.closing = OrderedDict()
+        # Those of which TCP is closed while octets are missing, and those that are reset, with the time since then.
+        self.closing, self.resets = OrderedDict(), OrderedDict()
         self.over, self.statuses, self.forget = OrderedDict(), set(), forget
         self.kind, self.programs = Watched if judge else Fed, programs
 
@@ -470,13 +476,22 @@ class Watching:
         if watched.is_over():
             self.tell_end(self.ending.pop(segment.stream))
 
+    def end_closed(self, now):
+        """Ends the streams that are reset since a moment, and those that are closed and of which octets are missing for long."""
+        for found, patience in ((self.resets, MOMENT), (self.closing, PATIENCE)):
+            while found and now - next(iter(found.values())) > patience:
+                number, _ = found.popitem(last=False)
+                if number in self.watched:
+                    self.look_at(number, self.watched[number], True)
+
+    def end_resets(self):
+        """Ends the streams that are reset, since nothing came for a moment."""
+        for number in list(self.resets):
+            self.look_at(number, self.watched[number], True)
+
     def drop_idle(self, now):
-        """Forgets the streams that are idle, or the one that was idle longest if there are too many; and ends those that are closed, and
-        of which octets are missing for long."""
-        while self.closing and now - next(iter(self.closing.values())) > PATIENCE:
-            number, _ = self.closing.popitem(last=False)
-            if number in self.watched:
-                self.look_at(number, self.watched[number], True)
+        """Forgets the streams that are idle, or the one that was idle longest if there are too many."""
+        self.end_closed(now)
         for found in (self.watched, self.ending):
             while found and (len(found) > MOST_STREAMS or now - next(iter(found.values())).stream.last[1] > self.idle):
                 self.drop(next(iter(found)), now)
@@ -503,19 +518,20 @@ class Watching:
     def look_at(self, number, watched, is_end):
         """Judges a stream, and prints what is certain."""
         watched.is_fresh = False
-        is_over = is_end or watched.is_over()
+        is_over = is_end or watched.is_over() and not watched.is_reset()
         found = watched.verdict(self.judge, is_over)
         for line in watched.news():
             self.say(watched, line)
         if not found:
-            if watched.is_closed():
-                self.closing.setdefault(number, watched.stream.last[1])
+            if watched.is_reset() or watched.is_closed():
+                (self.resets if watched.is_reset() else self.closing).setdefault(number, watched.stream.last[1])
             return
         if found[0]:
             self.say(watched, found[0])
         self.statuses.add(found[1])
         del self.watched[number]
         self.closing.pop(number, None)
+        self.resets.pop(number, None)
         self.over[number] = watched.key
         if len(self.over) > REMEMBERED:
             oldest, key = self.over.popitem(last=False)
@@ -545,7 +561,9 @@ def follow(watching, segments, seconds):
     """Takes segments. The stream of each is looked at, and all streams each time that so many seconds are over, also if nothing passes."""
     looked = time.monotonic()
     for segment in segments:
-        if segment is not None:
+        if segment is None:
+            watching.end_resets()
+        else:
             watching.take(segment)
             if segment.stream in watching.watched:
                 watching.look_at(segment.stream, watching.watched[segment.stream], False)
