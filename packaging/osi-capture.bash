@@ -4,9 +4,9 @@ _osi_capture() {
     case ${COMP_WORDS[1]-} in
         list) options='--port --help' ;;
         show) options='--stream --port --json --columns --width --data --upper --osi --help' ;;
-        judge) options='--stream --host --port --show --upper --json --pictures --osi --help' ;;
-        annotate) options='--stream --host --port --output --osi --help' ;;
-        watch) options='--interface --file --stream --host --port --json --by --every --idle --osi --help' ;;
+        judge) options='--stream --host --ignore-checksums --port --show --upper --json --pictures --osi --help' ;;
+        annotate) options='--stream --host --ignore-checksums --port --output --osi --help' ;;
+        watch) options='--interface --file --stream --host --ignore-checksums --port --json --by --every --idle --osi --help' ;;
         split) options='--stream --port --output --help' ;;
         join) options='--output --help' ;;
     esac

@@ -16,6 +16,7 @@ complete -c osi-capture -n '__fish_seen_subcommand_from judge' -l show -d 'list 
 complete -c osi-capture -n '__fish_seen_subcommand_from judge' -l pictures -r -d 'the folder for a ladder of each stream'
 complete -c osi-capture -l upper -d 'what tshark calls the layers above'
 complete -c osi-capture -l host -x -d 'the address of a host'
+complete -c osi-capture -l ignore-checksums -d 'judge frames with wrong TCP checksums'
 complete -c osi-capture -n '__fish_seen_subcommand_from watch' -s i -l interface -x -d 'the interface to capture on'
 complete -c osi-capture -n '__fish_seen_subcommand_from watch' -s r -l file -r -d 'the capture to read'
 complete -c osi-capture -n '__fish_seen_subcommand_from watch' -l by -x -a 'library program' -d 'who judges'

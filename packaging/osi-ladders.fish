@@ -7,6 +7,7 @@ complete -c osi-ladders -l verdicts -r -d 'what --states printed of that capture
 complete -c osi-ladders -l states -d 'print what osi judge says after each packet'
 complete -c osi-ladders -l stream -x -d 'the number of the stream of a pcap'
 complete -c osi-ladders -l port -x -d 'the port of TPKT'
+complete -c osi-ladders -l ignore-checksums -d 'judge frames with wrong TCP checksums'
 complete -c osi-ladders -l connection -x -d 'the number of a connection to show'
 complete -c osi-ladders -l from -x -d 'the first line or packet'
 complete -c osi-ladders -l to -x -d 'the last line or packet'

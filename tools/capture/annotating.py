@@ -10,7 +10,7 @@ from ladders import verdicts
 from ladders.program import Progress
 
 from . import judging, listing
-from .asking import found_by, local
+from .asking import local
 from .tshark import BadInput
 
 MARK = "osi: "
@@ -28,8 +28,8 @@ def comments_of(report):
     """The comments on a stream: the number of a frame and a text, in rising order of frames."""
     found = [(each.place[0], each.text) for each in report.ended if each.how != "open" and each.place and each.place[0]]
     if report.why:
-        first = next((piece.frame for _, piece in report.stream.by_side()), None)
-        return sorted(found + ([(first, f"not judged: {report.why}")] if first else []))
+        first = next((piece.frame for _, piece in report.stream.by_side()), report.stream.since[0])
+        return sorted([*found, (first, f"not judged: {report.why}")])
     judged = report.judged
     for side in ("left", "right"):
         place = judged.verdict.break_of(side) and judged.place(side)
@@ -80,7 +80,7 @@ def annotate(asked):
     asked.show = asked.pictures = asked.upper = False
     asked.files = [asked.file]
     progress, path = Progress(sys.stderr, "osi-capture"), local(asked.file)
-    found = found_by(path, asked.port, asked.stream, asked.host)
+    found = judging.streams_in(path, asked)
     try:
         reports = [judging.told(stream, asked, listing.program(asked.osi), progress, asked.file) for stream in found]
     finally:

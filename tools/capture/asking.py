@@ -32,7 +32,7 @@ def status_of(name, run):
         sys.stdout.flush()
         return status
     except BadInput as error:
-        print(f"{name}: {' '.join(str(error).split())}", file=sys.stderr)
+        print(f"{name}: {line_of(error)}", file=sys.stderr)
         return 2
     except OSError as error:
         # A reader that has enough closes the pipe, and need not be told.
@@ -44,12 +44,20 @@ def status_of(name, run):
         return 130
 
 
+def line_of(error):
+    """What is wrong as a line, in which the copy of what a pipe has is called by the name of the pipe."""
+    text = " ".join(str(error).split())
+    for copy, name in SPOOLED:
+        text = text.replace(copy.name, shown(name))
+    return text
+
+
 def local(name):
     """A file that can be read again: the named one, or a copy of what a pipe or standard input (`-`) has."""
     if name != "-" and not is_pipe(name):
         return name
     copy = tempfile.NamedTemporaryFile(prefix="osi-capture-")
-    SPOOLED.append(copy)
+    SPOOLED.append((copy, name))
     try:
         if name == "-":
             shutil.copyfileobj(sys.stdin.buffer, copy)
@@ -97,12 +105,13 @@ def joined(path, name, port):
 
 def carries_packets(stream):
     """Whether a stream carries TPKT: a side begins with a CR, or it is at the port, and has packets or its beginning looks so."""
-    if stream.is_other or not stream.pieces:
+    if stream.is_other or not (stream.pieces or stream.has_waiting_packets()):
         return False
     fronts = [stream.front(end) for end in stream.ends]
     if any(map(streams.is_connect_request, fronts)):
         return True
-    return getattr(stream, "is_asked", True) and (any(front[:1] == b"\3" for front in fronts) or Middle(stream).frame is not None)
+    return getattr(stream, "is_asked", True) and \
+        (not stream.pieces or any(front[:1] == b"\3" for front in fronts) or Middle(stream).frame is not None)
 
 
 def named(end):
@@ -155,13 +164,17 @@ def why_not(stream):
     if not stream.is_whole():
         begun = Middle(stream).frame
         return f"begins in the middle, at frame {begun}" if begun is not None else "begins in the middle"
-    kind = kinds.of(stream)
-    if kind:
-        return f"{kind}, not a session"
-    gap = stream.gap()
-    if gap and gap.side not in {side for side, _ in stream.by_side()}:
+    why = kinds.why_not(stream)
+    if why:
+        return why
+    return why_silent(stream.gap(), {side for side, _ in stream.by_side()})
+
+
+def why_silent(gap, heard):
+    """Why a stream can't be judged of which octets of these sides are known, up to a gap if there is one; or None."""
+    if gap and gap.side not in heard:
         return of_nothing(gap)
-    silent = set(streams.SIDES) - {side for side, _ in stream.by_side()}
+    silent = set(streams.SIDES) - heard
     return f"{silent.pop()} sent nothing" if len(silent) == 1 and not gap else None
 
 

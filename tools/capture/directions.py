@@ -1,7 +1,8 @@
 """One direction of a TCP connection: its octets in the order of their sequence numbers, and what of them is missing."""
 import heapq
 from bisect import bisect_right
-from collections import OrderedDict
+
+from .sums import Sums
 
 SPACE = 2 ** 32
 # How many octets wait for one that is missing, before it counts as lost.
@@ -16,8 +17,6 @@ QUIET = 1.0
 SIGNS, KNOWN = 2, -9
 # How far ahead of the octets that passed the number of an empty segment may be.
 NEAR = 16_777_216
-# How many frames with wrong checksums are remembered of a direction, and how many of the first ones count as damaged.
-MOST_HURT, FEW = 4_096, 2
 
 
 class Piece:
@@ -72,8 +71,8 @@ class Direction:
         self.passed, self.starts, self.forgotten, self.doubt = [], [], 0, None
         # The frames of octets that may be those of keepalives, by their places; and if the last octet came alone, the signs of its segment.
         self.alone, self.signs = {}, None
-        # How many checksums are right and how many wrong, and the last frames with wrong ones; of a watch alone.
-        self.right, self.wrong, self.hurt = 0, 0, OrderedDict()
+        # The checksums, as far as they are read.
+        self.sums = Sums()
         # The frames and times at which it was ended or reset, and how many octets of a frame were captured, if not all.
         self.ended = self.reset = self.cut = None
 
@@ -106,25 +105,11 @@ class Direction:
         if segment.is_last:
             self.ended = self.ended or (segment.frame, segment.time)
             self.end_at(self.place(segment.sequence + segment.is_first + len(segment.octets) + segment.missing))
-        if segment.is_right is not None:
-            self.note_sum(segment)
+        if segment.sum is not None:
+            self.sums.note(segment.frame, segment.sum, len(segment.octets))
         if segment.missing:
             self.cut = self.cut or segment.captured
             self.hear(segment.sequence + len(segment.octets) + segment.missing, segment.frame)
-
-    def note_sum(self, segment):
-        """Notes whether the checksum of a segment is right."""
-        self.right += segment.is_right
-        self.wrong += not segment.is_right
-        if not segment.is_right:
-            self.hurt[segment.frame] = True
-            if len(self.hurt) > MOST_HURT:
-                self.hurt.popitem(last=False)
-
-    def is_hurt(self, frame):
-        """Whether a frame was damaged on its way: its checksum is wrong, and not more of the direction are wrong than right (or two, as long
-        as few have passed)."""
-        return frame in self.hurt and self.wrong <= max(self.right, FEW)
 
     def end_at(self, place):
         """Notes where the direction ends. (An end before what passed is one of another connection.)"""
@@ -190,9 +175,10 @@ class Direction:
         return len(segment.octets) == 1 and place + 1 == self.heard and segment.time - self.heard_at > QUIET
 
     def compare(self, place, octets, frame):
-        """Compares octets that are sent again with those that passed. A keepalive sends the last octet again, as any other."""
+        """Compares octets that are sent again with those that passed. A keepalive sends the last octet again, as any other; nothing else
+        sends it alone, if it didn't come alone, but what acknowledges it may be captured later."""
         last = min(place + len(octets), self.count)
-        if place >= last or len(octets) == 1 and last == self.count <= self.heard:
+        if place >= last or len(octets) == 1 and last == self.count and (last <= self.heard or len(self.passed[-1].octets) > 1):
             return
         if place < self.forgotten:
             self.doubt = self.doubt or (self.count, None, frame)

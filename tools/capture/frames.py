@@ -8,6 +8,7 @@ import socket
 import struct
 import zlib
 
+from . import sums
 from .records import CHUNK, Odd, Records
 from .tshark import ACK, FIN, PUSH, RESET, SYN, Segment
 
@@ -30,9 +31,9 @@ EXTENSIONS = (0, 43, 60)
 PLAIN_PORTS = {53, 67, 68, 69, 123, 137, 138, 161, 162, 319, 320, 514, 546, 547, 1900, 5353, 5355}
 # The errors of ICMP that quote a packet.
 QUOTES = {ICMP: (3, 4, 5, 11, 12), ICMP_6: (1, 2, 3, 4)}
-# The option of a first segment that asks for Multipath TCP (RFC 8684).
-MULTIPATH = 30
-HEAD, SUM = struct.Struct(">IIBB"), slice(16, 18)
+# The options of a first segment: the most octets of a segment, and Multipath TCP (RFC 8684).
+MOST, MULTIPATH = 2, 30
+HEAD = struct.Struct(">IIBB")
 
 
 class Way:
@@ -47,7 +48,7 @@ class Way:
 
 
 class Reader:
-    """Reads segments. With `port` only those at this port, and only these have streams; with `has_sums` their checksums are checked."""
+    """Reads segments. With `port` only those at this port, and only these have streams; with `has_sums` their checksums are read."""
 
     def __init__(self, is_live=False, port=None, has_sums=False):
         self.ways, self.count, self.is_live, self.port, self.has_sums, self.odd = {}, 0, is_live, port, has_sums, None
@@ -97,9 +98,10 @@ class Reader:
             way.is_ended = True
         made = made_of(number, time, way, sequence, acknowledged, flags, frame[begin:end], end - begin)
         if flags & SYN:
-            made.is_multipath = MULTIPATH in options(frame[at + 20:begin])
-        if self.has_sums and begin < end <= len(frame):
-            made.is_right = is_right(addresses, frame[at:end])
+            found = dict(options(frame[at + 20:begin]))
+            made.is_multipath, made.most = MULTIPATH in found, int.from_bytes(found.get(MOST, b""), "big")
+        if self.has_sums and end <= len(frame):
+            made.sum = sums.of_segment(addresses, frame[at:end])
         return made
 
     def way(self, key):
@@ -153,19 +155,12 @@ def made_of(number, time, way, sequence, acknowledged, flags, octets, length):
 
 
 def options(octets):
-    """The kinds of the options of a header of TCP."""
+    """The options of a header of TCP: for each its kind and its value."""
     at = 0
     while at < len(octets) and octets[at]:
-        yield octets[at]
-        at += 1 if octets[at] == 1 else max(2, int.from_bytes(octets[at + 1:at + 2], "big"))
-
-
-def is_right(addresses, segment):
-    """Whether the checksum of a segment is right. None if it is 0 or the sum of the addresses alone: the card has still to write it."""
-    before = int.from_bytes(addresses, "big") + TCP + len(segment)
-    if (before + int.from_bytes(segment + b"\0" * (len(segment) % 2), "big")) % 0xFFFF == 0:
-        return True
-    return None if int.from_bytes(segment[SUM], "big") % 0xFFFF in (0, before % 0xFFFF) else False
+        length = 1 if octets[at] == 1 else max(2, int.from_bytes(octets[at + 1:at + 2], "big"))
+        yield octets[at], octets[at + 2:at + length]
+        at += length
 
 
 def address_of(octets):

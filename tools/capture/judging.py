@@ -7,7 +7,7 @@ from ladders import drawing, judged, tapped, verdicts
 from ladders.program import Progress
 
 from . import damage, listing, middle, outcome, reports, streams, texts, tshark
-from .asking import PORT, Words, found_by, named, shown as name_shown, status_of, viewed, why_not, write_all, local
+from .asking import PORT, Words, found_by, line_of, named, of_nothing, shown as name_shown, status_of, viewed, why_not, write_all, local
 from .streams import SIDES
 from .tshark import BadInput
 
@@ -47,6 +47,8 @@ def add_streams(made):
                       help="judge this stream, by its number in tshark; and others so named")
     made.add_argument("--host", metavar="ADDRESS", action="append", default=[],
                       help="judge the streams of this address; and of others so named")
+    made.add_argument("--ignore-checksums", action="store_true",
+                      help="judge frames with wrong TCP checksums as the others: for a capture that was changed after it was taken")
 
 
 def streams_of(name, asked):
@@ -58,7 +60,15 @@ def streams_of(name, asked):
     if text is not None:
         text.number = 0
         return [text]
-    return found_by(name if path == name else path, asked.port, asked.stream, asked.host)
+    return streams_in(path, asked)
+
+
+def streams_in(path, asked):
+    """The streams of a capture that were asked for."""
+    found = found_by(path, asked.port, asked.stream, asked.host)
+    for stream in found:
+        stream.has_sums = not asked.ignore_checksums
+    return found
 
 
 def name_of(stream):
@@ -104,14 +114,14 @@ class Judged:
 
     def leave_doubtful(self, judge):
         """Judges only what passed before the first frame that was damaged, or whose octet may be that of a keepalive, if there is one."""
-        hurt = damage.damaged(self.stream.path) if hasattr(self.stream, "path") else self.stream.hurt()
-        alone = self.stream.alone()
-        place = next((place for place, (_, piece) in enumerate(self.parts) if piece.frame in hurt or piece.frame in alone), None)
-        if place is not None:
-            side, piece = self.parts[place]
-            self.parts, self.gap = self.parts[:place], (streams.Damage if piece.frame in hurt else streams.Alone)(side, piece.frame)
-            self.limit = f"judged up to {self.gap}"
-            self.verdict = verdicts.printed(judge(Parts(self.parts)))
+        found = damage.first_unsure(self.stream)
+        if found is None:
+            return
+        place, gap = found
+        self.parts, self.gap, self.limit = self.parts[:place], gap, f"judged up to {gap}"
+        if gap.side not in {side for side, _ in self.parts}:
+            raise BadInput(of_nothing(gap))
+        self.verdict = verdicts.printed(judge(Parts(self.parts)))
 
     @property
     def pieces(self):
@@ -138,9 +148,11 @@ class Judged:
         return self.verdict.rows[-1] == "both kept the protocol"
 
     def status(self):
-        """The status that the stream alone would give."""
+        """The status that the stream alone would give; None if there is no verdict on it."""
         if any(map(verdicts.is_broken, filter(None, map(self.verdict.break_of, SIDES)))):
             return BROKE
+        if self.verdict.last["why"]:
+            return None
         return PARTLY if self.limit or not self.is_kept() else KEPT
 
     def sentence(self):
@@ -240,7 +252,8 @@ def told(stream, asked, osi, progress, name):
         title = f"{os.path.basename(name_shown(name))}, {name_of(stream)}"
         why = made.attempt(lambda: made.draw(title, osi, progress))
         made.rows += [f"not drawn: {why}"] if why else []
-    made.ended = outcome.all_of(stream, made.judged.parts if made.judged else list(view.by_side()) if is_of_session(made.why) else [])
+    pieces = made.judged.parts if made.judged else list(view.by_side()) if is_of_session(made.why) else []
+    made.ended = outcome.all_of(stream, pieces, made.judged and made.judged.limit)
     name_upper(made.ended, upper)
     return made
 
@@ -267,7 +280,7 @@ def run(asked, progress):
             if len(asked.files) == 1:
                 raise
             progress.end()
-            print(f"{os.path.basename(sys.argv[0])}: {error}", file=sys.stderr)
+            print(f"{os.path.basename(sys.argv[0])}: {line_of(error)}", file=sys.stderr)
             statuses.append(None)
     return status_of_all(statuses)
 

@@ -115,8 +115,9 @@ def lines(stream, osi):
 
 
 def begin(stream):
-    """The time at which the first octets passed, as far as times are known."""
-    return next((piece.time for _, piece in stream.by_side() if piece.time is not None), 0)
+    """The time at which the first octets passed, or the first segment if none did, as far as times are known."""
+    since = getattr(stream, "since", None)
+    return next((piece.time for _, piece in stream.by_side() if piece.time is not None), since[1] if since else 0)
 
 
 def by_packet(found):

@@ -6,7 +6,8 @@ import signal
 import subprocess
 import sys
 
-from . import damage, frames, tshark
+from . import frames, tshark
+from .asking import is_pipe, shown
 from .records import CHUNK
 from .tshark import BadInput
 
@@ -25,7 +26,12 @@ class Source:
             return self.of_interface(self.asked.interface)
         if name == "-":
             return self.of_pipe(sys.stdin.buffer.fileno())
-        return self.of_file(name)
+        return self.of_named_pipe(name) if is_pipe(name) else self.of_file(name)
+
+    def of_named_pipe(self, name):
+        """The segments of a pipe with a name."""
+        with open(name, "rb", buffering=0) as pipe:
+            yield from self.of_pipe(pipe.fileno())
 
     def of_interface(self, interface):
         """The segments at the port on an interface; dumpcap captures into a pipe, so that no file grows."""
@@ -37,14 +43,14 @@ class Source:
 
     def of_pipe(self, pipe):
         """The segments at the port of a capture that comes through a pipe."""
-        self.reader = frames.Reader(True, self.asked.port, True)
+        self.reader, name = frames.Reader(True, self.asked.port, not self.asked.ignore_checksums), shown(self.asked.file or "the interface")
         for octets in self.chunks(pipe):
             try:
                 yield from self.reader.feed(octets) if octets else [None]
             except frames.Odd as odd:
-                raise BadInput(f"this isn't read from a pipe: {odd}") from None
+                raise BadInput(f"{name}: this isn't read from a pipe: {odd}") from None
         if self.program is None and not self.reader.records.is_known():
-            raise BadInput("standard input has no pcap and no pcapng")
+            raise BadInput(f"{name}: there is no pcap and no pcapng in it")
 
     def chunks(self, pipe):
         """The octets of a pipe as they come; None each time that none came for a while."""
@@ -65,9 +71,9 @@ class Source:
         try:
             for _ in frames.segments(name, lambda: None):
                 pass
-            found = frames.segments(name, lambda: tshark.tell_cut(name), True)
+            found = frames.segments(name, lambda: tshark.tell_cut(name), not self.asked.ignore_checksums)
         except frames.Odd:
-            found = with_sums(name)
+            found = tshark.segments(name, name, not self.asked.ignore_checksums)
         for segment in found:
             if self.is_stopped:
                 return
@@ -91,11 +97,3 @@ class Source:
             self.program.wait()
         if self.reader is not None and self.reader.odd:
             print(f"osi-capture: not every frame was read: {self.reader.odd}", file=sys.stderr)
-
-
-def with_sums(name):
-    """The segments of a file that tshark reads, and of those with octets whether the checksum is right."""
-    hurt = damage.damaged(name)
-    for segment in tshark.segments(name):
-        segment.is_right = segment.frame not in hurt if segment.octets else None
-        yield segment

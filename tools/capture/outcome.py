@@ -13,6 +13,7 @@ OF_SESSION = {0: "by the called user", 1: "by the called user: congestion", 2: "
               129: "the session selector is unknown", 130: "nobody is attached to the session selector", 131: "congestion",
               132: "no common version of the protocol", 133: "no reason is given", 134: "a restriction of the implementation"}
 OF_ERRORS = {0: "no reason is given", 1: "invalid parameter code", 2: "invalid TPDU type", 3: "invalid parameter value"}
+UNANSWERED = ", and there is no answer"
 USER, PROTOCOL_ERROR, NO_REASON, RESTRICTION = 2, 4, 8, 16
 
 
@@ -109,7 +110,7 @@ def released(names):
         return Ended("released", f"released: {asked[1]} asked for it (FN), {agreed[1]} agreed (DN)", agreed[1], agreed[2], None, agreed[0])
     if kept and kept[0] > asked[0]:
         return None
-    return Ended("unanswered", f"{asked[1]} asked for the release (FN), and there is no answer", asked[1], asked[2], None, asked[0])
+    return Ended("unanswered", f"{asked[1]} asked for the release (FN){UNANSWERED}", asked[1], asked[2], None, asked[0])
 
 
 def closed(names):
@@ -136,9 +137,18 @@ def of_tcp(stream):
     return Ended("open", text, None, None, None, stream.last)
 
 
-def all_of(stream, pieces):
-    """Everything that is known of how a stream ended."""
-    return together(of(pieces), of_tcp(stream))
+def all_of(stream, pieces, limit=None):
+    """Everything that is known of how a stream ended. If it is known only up to a limit, or of one direction, an answer may be in the
+    rest."""
+    return known(stream, limit, of(pieces), of_tcp(stream))
+
+
+def known(stream, limit, *found):
+    """What is known of these."""
+    found = together(*found)
+    for each in found if limit or hasattr(stream, "directions") and stream.is_alone() else ():
+        each.text = each.text.removesuffix(UNANSWERED)
+    return found
 
 
 def together(*found):

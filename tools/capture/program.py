@@ -2,6 +2,7 @@
 the protocol, and writes a pcap again."""
 import argparse
 import json
+import os
 import shutil
 
 from . import annotating, asking, columns, judging, listing, middle, pcap, streams, texts, tshark, watching
@@ -112,7 +113,12 @@ def print_notes(stream):
     """Prints where a listing begins and ends, if that isn't where the stream does."""
     if isinstance(stream, middle.Middle):
         print(f"begins in the middle, at frame {stream.frame}")
-    gap = getattr(stream, "stream", stream).gap() if not isinstance(stream, texts.Text) else None
+    if isinstance(stream, texts.Text):
+        return
+    source = getattr(stream, "stream", stream)
+    gap = source.gap()
+    if source.is_alone():
+        print(asking.ALONE)
     if gap:
         print(f"listed up to {gap}")
 
@@ -162,9 +168,18 @@ def split(asked):
     write_all({f"{asked.output}.{name}": "\n".join([*rows, ""]) for name, rows in made.items()})
 
 
+def joined_text(name):
+    """The text of NAME.follow, or of NAME.left and NAME.right; or of a file or standard input with both sides."""
+    path = asking.local(name)
+    found = texts.read(path) if os.path.isfile(path) and not os.path.exists(f"{name}.follow") else texts.of_sides(name)
+    if found is None:
+        raise BadInput(f"{path}: it is no text")
+    return found
+
+
 def join(asked):
-    """Writes a pcap of NAME.follow, or of NAME.left and NAME.right if there is none."""
-    pieces = [(time or 0.0, side, octets) for _, time, side, octets in texts.of_sides(asked.file).parts]
+    """Writes a pcap of a text with both sides: of NAME.follow, of NAME.left and NAME.right if there is none, or of a file."""
+    pieces = [(time or 0.0, side, octets) for _, time, side, octets in joined_text(asked.file).parts]
     if not any(streams.is_packet(octets) for _, _, octets in pieces):
         raise BadInput(f"{asked.file}: there is no TPKT packet in it")
     write_all({asked.output: pcap.written(pieces)})

@@ -11,10 +11,12 @@ SIDES = ("left", "right")
 CONNECT_REQUEST, CONNECT_CONFIRM, DISCONNECT_REQUEST, ERROR = 0xE0, 0xD0, 0x80, 0x70
 # The codes of X.224 of all classes, without their low half (section 13.7 and others).
 CODES = (0x10, 0x20, 0x50, 0x60, 0x70, 0x80, 0xC0, 0xD0, 0xE0, 0xF0)
+# The parameter of a CR that names alternative classes (X.224 section 13.3.4).
+ALTERNATIVES = 0xC7
 # How many segments are looked at together, if those that begin the connection aren't among them.
 EARLY = 32
-# A direction in which nothing was sent counts as one that begins with a packet.
-FRONT = b"\3\0\0\7"
+# How many octets of a direction are looked at to see how it begins: as many as the longest CR has.
+FRONT = 260
 
 
 class Gap:
@@ -48,12 +50,17 @@ class Doubt(Gap):
 
 
 class Damage(Gap):
-    """A frame that was damaged on its way, so that its octets aren't those that arrived: its side, and the frame."""
+    """A frame that was damaged on its way, so that its octets aren't those that arrived: its side, and the frame; and how many checksums
+    of that side are wrong, if all are."""
 
-    def __init__(self, side, frame):
+    def __init__(self, side, frame, sums):
         super().__init__(side, None, frame, None)
+        self.wrong = sums.wrong if sums.are_all_wrong() else None
 
     def __str__(self):
+        if self.wrong:
+            return f"frame {self.frame}, since all {self.wrong:,} TCP checksums of {self.side} are wrong, as in a capture that was " \
+                   "changed (--ignore-checksums judges it all the same)"
         return f"frame {self.frame}, which was damaged on its way from {self.side} (its TCP checksum is wrong)"
 
 
@@ -93,13 +100,18 @@ class Stream:
     """A TCP connection: `pieces` in their order, each with the end that sent it. The first segments are looked at together, since those
     that begin the connection (SYN) may be late."""
 
+    # Whether checksums tell which frames were damaged.
+    has_sums = True
+
     def __init__(self, number, ends):
         self.number, self.ends, self.pieces, self.opener, self.requester = number, ends, [], None, None
         self.directions = {end: Direction() for end in ends}
-        self.is_over = self.is_other = self.is_crossed = False
-        # The ends that ask for Multipath TCP.
-        self.multipath = set()
-        self.last, self.early = None, []
+        # `is_fast`: octets passed with the first segment of the opener (TCP Fast Open).
+        self.is_over = self.is_other = self.is_crossed = self.is_fast = False
+        # The end whose octets passed first, and the ends that ask for Multipath TCP.
+        self.first, self.multipath = None, set()
+        # The frame and time of the last segment, and of the first one.
+        self.last, self.since, self.early = None, None, []
 
     def take(self, segment):
         """Takes the next segment of the capture."""
@@ -109,6 +121,7 @@ class Stream:
         if len(segment.octets) == 1:
             segment.is_soon = self.last is not None and abs(segment.time - self.last[1]) < QUIET
         self.last = segment.frame, segment.time
+        self.since = self.since or self.last
         if self.early is None:
             self.go_on(segment, own, far)
             return
@@ -116,7 +129,9 @@ class Stream:
         if segment.is_first:
             self.multipath |= {segment.source} if segment.is_multipath else set()
             self.note_opener(segment.target if segment.is_answer else segment.source)
+            self.is_fast = self.is_fast or bool(segment.octets)
             own.begin(segment)
+            far.sums.take_most(segment)
         is_refused = segment.is_reset and self.opener not in (None, segment.source)
         if is_refused or len(self.early) >= EARLY or (own.has_first and far.has_first):
             self.settle()
@@ -155,7 +170,7 @@ class Stream:
         if own.waiting or far.waiting:
             self.pass_on()
         if own.held > MOST_WAITING:
-            self.finish()
+            self.stop()
 
     def look_again(self, segment, own):
         """Compares what is sent again with what passed, of a stream that is over."""
@@ -170,8 +185,13 @@ class Stream:
             own.keep(segment)
             return
         piece = Piece(segment.frame, segment.time, own.count, segment.octets)
-        self.pieces.append((segment.source, piece))
+        self.note_piece(segment.source, piece)
         own.go_on(piece)
+
+    def note_piece(self, end, piece):
+        """Notes a piece that passes."""
+        self.first = self.first or end
+        self.pieces.append((end, piece))
 
     def pass_on(self):
         """Lets octets pass as long as there are some that may."""
@@ -185,15 +205,24 @@ class Stream:
         chunk = direction.head() if direction.waiting else None
         if chunk is None or not self.directions[far].has_passed(chunk.acknowledged):
             return False
-        self.pieces.append((end, direction.let_pass()))
+        self.note_piece(end, direction.let_pass())
         return True
 
-    def finish(self):
-        """After the last segment: nothing more passes."""
+    def stop(self):
+        """Nothing more passes, whatever comes."""
         if self.early is not None:
             self.settle()
         self.is_over = True
         self.leave_doubt()
+
+    def finish(self):
+        """After the last segment: if only one direction is here, it passes without the octets that it acknowledges."""
+        if self.early is not None:
+            self.settle()
+        for end in self.ends if self.is_alone() else ():
+            while self.directions[end].waiting and self.directions[end].head():
+                self.note_piece(end, self.directions[end].let_pass())
+        self.stop()
 
     def forget(self):
         """Forgets what passed and won't be sent again."""
@@ -224,7 +253,7 @@ class Stream:
         for source, piece in self.pieces:
             if source == end:
                 found += piece.octets
-                if len(found) > 64:
+                if len(found) >= FRONT:
                     break
         return found
 
@@ -252,7 +281,7 @@ class Stream:
         for side, end in self.by_end().items():
             if self.directions[end].after:
                 found.append(After(side, self.directions[end].after))
-            lost = self.lost(end)
+            lost = self.lost(end) if self.directions[end].is_here else 0
             if lost:
                 found.append(Gap(side, lost, self.directions[end].first_after(), self.directions[end].cut))
         return min(found, key=lambda gap: gap.frame, default=None)
@@ -261,15 +290,11 @@ class Stream:
         """The frames of octets that may be those of keepalives."""
         return {frame for direction in self.directions.values() for frame in direction.alone.values()}
 
-    def hurt(self):
-        """The frames that were damaged on their way, of a stream whose checksums are looked at while it passes."""
-        return {frame for direction in self.directions.values() for frame in direction.hurt if direction.is_hurt(frame)}
-
     def unsure(self, source, piece):
         """Why a piece of an end isn't surely what was sent; or None."""
         side, direction = SIDES[source != self.left()], self.directions[source]
-        if direction.is_hurt(piece.frame):
-            return Damage(side, piece.frame)
+        if direction.sums.is_hurt(piece.frame):
+            return Damage(side, piece.frame, direction.sums)
         return Alone(side, piece.frame) if piece.start in direction.alone else None
 
     def lost(self, end):
@@ -290,6 +315,10 @@ class Stream:
         """Whether octets are missing, or some wait for others."""
         return any(map(self.lost, self.ends)) or any(direction.waiting for direction in self.directions.values())
 
+    def has_waiting_packets(self):
+        """Whether packets wait for octets that are missing."""
+        return any(is_packet(chunk.octets) for direction in self.directions.values() for chunk in direction.waiting)
+
     def is_alone(self):
         """Whether only one direction is here: of the other one there is no segment."""
         return not all(direction.is_here for direction in self.directions.values())
@@ -300,13 +329,22 @@ class Stream:
 
     def is_whole(self):
         """Whether the stream is here from its beginning."""
-        if self.opener is not None:
-            return all(self.directions[end].has_first or is_packet(self.front(end) or FRONT) for end in self.ends)
         caller = self.caller()
-        if any(direction.has_more for direction in self.directions.values()):
+        return caller is not None and all(self.begins(end, self.front(end), self.front(caller)) for end in self.ends)
+
+    def begins(self, end, octets, request):
+        """Whether a direction is here from its first packet on, as far as its first octets say; the caller's first ones are `request`. If
+        the first segments aren't here, or had octets, the first packets may be among what isn't here."""
+        caller = self.left()
+        if not self.directions[caller].has_first and self.first not in (None, caller):
             return False
-        return caller is not None and all(is_packet(self.front(end) or FRONT) for end in self.ends) and \
-            all(is_answer(self.front(end)) for end in self.ends if end != caller)
+        if self.directions[end].has_first:
+            return True
+        if self.opener is None and any(direction.has_more for direction in self.directions.values()):
+            return False
+        if end == caller:
+            return may_be_request(octets)
+        return may_be_packet(octets) if self.opener is not None and not self.is_fast else may_be_answer(octets, request)
 
     def by_side(self):
         """The pieces, each with its side: left is the caller."""
@@ -325,11 +363,31 @@ def is_connect_request(octets, code=CONNECT_REQUEST):
     return len(octets) > 5 and is_packet(octets) and octets[5] & 0xF0 == code
 
 
-def is_answer(octets):
-    """Whether octets begin with what answers the first CR of a TCP connection, or are none. A CC of another class than 0 may answer a
-    later CR."""
-    return not octets or len(octets) > 10 and is_connect_confirm(octets) and octets[10] & 0xF0 == 0 or \
-        any(is_connect_request(octets, code) for code in (DISCONNECT_REQUEST, ERROR)) or not is_known(octets)
+def may_be_packet(octets):
+    """Whether a packet may begin with octets, which may be few."""
+    return is_packet(octets) if len(octets) > 3 else b"\3".startswith(octets[:1])
+
+
+def may_be_answer(octets, request):
+    """Whether what answers the first CR of a TCP connection may begin with octets. A CC of class 2 may answer a later CR; and if the CR
+    offers class 2, a DR or ER may be of an earlier connection."""
+    if len(octets) < 6 or not is_packet(octets):
+        return may_be_packet(octets)
+    if is_connect_confirm(octets):
+        return len(octets) < 11 or octets[10] & 0xF0 == 0
+    is_refusal = any(is_connect_request(octets, code) for code in (DISCONNECT_REQUEST, ERROR))
+    return (is_refusal or not is_known(octets)) and offers_class_0_alone(request)
+
+
+def offers_class_0_alone(request):
+    """Whether a CR offers no class but 0; `request` begins with it."""
+    end = 5 + request[4] if len(request) > 10 else 11
+    if len(request) < end or request[10] & 0xF0:
+        return False
+    at = 11
+    while at + 1 < end and request[at] != ALTERNATIVES:
+        at += 2 + request[at + 1]
+    return not any(request[at + 2:end][:request[at + 1]]) if at + 1 < end else True
 
 
 def is_known(octets):
@@ -381,7 +439,7 @@ class Joining:
 
 def may_be_request(octets):
     """Whether a CR in a TPKT packet may begin with octets."""
-    return is_connect_request(octets) if len(octets) > 5 else octets[:1] == b"\3"
+    return is_connect_request(octets) if len(octets) > 5 else may_be_packet(octets)
 
 
 def joined(segments, port=102):

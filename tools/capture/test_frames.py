@@ -276,8 +276,12 @@ class Forms(Room):
         label = [bytes(12) + b"\x88\x47" + bytes.fromhex("00010140") + frame for frame in whole()[0]]
         split = [part for frame in whole()[0] for part in fragments(frame)]
         late = [*whole()[0][3:], *Frames(first={"left": 900_000, "right": 700_000}).open().close().frames]
+        outer = bytes(32)
+        in_6 = [struct.pack(">IHBB", 6 << 28, len(frame), 4, 64) + outer + frame for frame in whole()[0]]
+        in_4 = [struct.pack(">BBHHHBBH8s", 0x45, 0, 20 + len(frame), 0, 0, 64, 41, 0, outer[:8]) + frame
+                for frame in Frames(addresses=IPV6).open().talk().close().frames]
         for content, wanted in ((pcap_of(gre), whole()[1]), (pcap_of(label, ETHERNET), whole()[1]), (pcap_of(split), whole()[1]),
-                                (pcap_of(late), None)):
+                                (pcap_of(in_6), whole()[1]), (pcap_of(in_4), whole()[1]), (pcap_of(late), None)):
             path = self.write(content)
             with self.assertRaises(frames.Odd):
                 list(frames.segments(path, lambda: None))

@@ -10,7 +10,7 @@ import unittest
 from unittest import mock
 
 from . import asking, damage, directions, frames, judging, kinds, pcap, reports, streams, test_unsure, tshark, watching
-from .test_frames import (AC, ACK, CC, CN, CR, DT, ETHERNET, FIN, FIRST, IPV4, PUSH, RESET, SPACE, SYN, TOKENS, Frames, Room, data,
+from .test_frames import (AB, AC, ACK, CC, CN, CR, DT, ETHERNET, FIN, FIRST, IPV4, PUSH, RESET, SPACE, SYN, TOKENS, Frames, Room, data,
                           fragments, linked, packet, pcap_of, segment_of, stream_of, whole)
 from .test_unsure import blamed, flagged, in_turns, is_beginning, sure
 
@@ -394,9 +394,9 @@ class Damaged(Room):
                 stream = asking.found_in(path, 102)[0]
             except tshark.BadInput:
                 continue
-            numbers = damage.damaged(path) | stream.alone()
-            parts = itertools.takewhile(lambda part, numbers=numbers: part[1].frame not in numbers, stream.by_side())
-            found = in_turns((side, piece.octets) for side, piece in parts)
+            damage.look(stream)
+            parts = itertools.takewhile(lambda part, stream=stream: not stream.unsure(*part), stream.pieces)
+            found = in_turns((streams.SIDES[source != stream.left()], piece.octets) for source, piece in parts)
             self.assertTrue(asking.why_not(stream) or is_beginning(found, run.sent), (seed, hurt, at))
 
     def test_a_capture_that_only_tshark_reads(self):
@@ -449,9 +449,52 @@ class Foreign(unittest.TestCase):
         for octets in (b"\r\nGET 1\r\n", b"\r\nGET /status 1\r\n", b"\x19\0\1\2\3"):
             said = f"a protocol whose data begins with {octets[:2].hex()}"
             self.assertEqual(self.kind(*opened, ("left", data(octets)), ("right", data(b"OK\r\n"))), said)
+            self.assertEqual(self.kind(*opened, ("left", data(octets))), said)
             self.assertIsNone(self.kind(*opened, ("left", data(octets)), ("right", AC)))
-            self.assertIsNone(self.kind(*opened, ("left", data(octets))))
         self.assertIsNone(self.kind(*opened, ("left", CN), ("right", data(b"OK\r\n"))))
+        for octets in (b"\x10\2\0\1\2", b"\x0e\7\1", b"\x19\0\0", b"\x0c\3\0\0"):
+            self.assertEqual(self.kind(*opened, ("left", data(bytes(9))), ("right", data(octets))), "a protocol whose data begins with 0000")
+            self.assertEqual(self.kind(*opened, ("right", data(octets)), ("right", data(octets))),
+                             f"a protocol whose data begins with {octets[:2].hex()}")
+
+    def test_a_connect_of_a_wrong_length_is_one(self):
+        """Also if nobody answers it, or if something else does."""
+        opened = ("left", CR), ("right", CC)
+        for wrong in (data(CN[7:] + b"\0"), data(CN[7:8] + b"\x0d" + CN[9:]), data(CN[7:8] + b"\xff\0\x0c" + CN[9:] + b"\0")):
+            self.assertIsNone(self.kind(*opened, ("left", wrong)))
+            self.assertIsNone(self.kind(*opened, ("left", wrong), ("right", AB)))
+
+    def test_empty_data_before_anything_else(self):
+        """Some controllers answer the CC with an empty data unit."""
+        opened, empty = (("left", CR), ("right", CC)), data(b"")
+        self.assertEqual(self.kind(*opened, ("left", empty), ("right", empty)), "a protocol whose data begins with an empty TSDU")
+        self.assertEqual(self.kind(*opened, ("left", empty), ("left", data(bytes.fromhex("32010000")))), "S7comm")
+        self.assertIsNone(self.kind(*opened, ("left", empty), ("left", CN)))
+        self.assertIsNone(self.kind(*opened, ("left", empty), ("right", AB)))
+        self.assertIsNone(self.kind(*opened, ("left", CN), ("right", empty)))
+
+    def test_a_side_that_has_no_packets(self):
+        """The other one begins with a packet, so somebody has the wrong port, or there is TLS on one side alone."""
+        for octets, said in ((b"\x15\3\3\0\2\2\x28", "TLS"), (b"\x16\3\1\0\x20", "TLS"), (b"SSH-2.0-OpenSSH_9.2\r\n", "SSH"),
+                             (b"HTTP/1.1 400 Bad Request\r\n", "HTTP"), (b"\xff\xfd\x18", "Telnet"), (b"220 ready\r\n", "text")):
+            self.assertEqual(self.kind(("left", CR), ("right", octets)), said)
+            self.assertEqual(self.kind(("right", octets), ("left", CR)), said)
+            self.assertEqual(self.kind(("left", octets), ("right", packet(bytes.fromhex("06800000000080")))), said)
+        for octets in (b"\0\0\0\7ready", CC[4:]):
+            self.assertIsNone(self.kind(("left", CR), ("right", octets)))
+        self.assertEqual(self.kind(("left", b"\3\0\0\1"), ("right", b"\1\2")), "no TPKT")
+
+    def test_sessions_of_version_1(self):
+        """X.400 of 1984 and old FTAM; if version 2 is offered, or the session is refused, there is something to judge."""
+        opened = ("left", CR), ("right", CC)
+        old, oldest = (lambda unit: unit.replace(bytes.fromhex("160102"), bytes.fromhex("160101"))), \
+            (lambda unit: data(unit[7:8] + bytes.fromhex("0905031301001402") + b"\0\2"))
+        for sent, wanted in (((old(CN), old(AC)), True), ((oldest(CN), oldest(AC)), True), ((oldest(CN), old(AC)), True),
+                             ((old(CN), AC), False), ((CN, old(AC)), False), ((old(CN), AB), False), ((old(CN), b""), False)):
+            made = Frames().begin().send("left", CR).send("right", CC).send("left", sent[0]).send("right", sent[1])
+            said = kinds.VERSION_1 if wanted else None
+            self.assertEqual(asking.why_not(stream_of(made.frames)), said, sent)
+            self.assertIsNone(self.kind(*opened, ("left", sent[0]), ("right", sent[1])))
 
     def test_what_a_load_balancer_writes_first(self):
         for octets in (b"PROXY TCP4 192.0.2.1 192.0.2.2 40000 102\r\n", b"\r\n\r\n\0\r\nQUIT\n\x21\x11\0\x0c" + bytes(12)):
@@ -556,7 +599,8 @@ class Watched(unittest.TestCase):
         right = [summed(frame) for frame in made]
         with self.finding(b"wrong"):
             out = self.fed(right[:3] + [made[3][:36] + b"\x12\x34" + made[3][38:]] + right[4:], True)
-        self.assertNotIn("broke", out)
+        self.assertIn("not judged: nothing of left is known up to frame 4, which was damaged on its way from left", out)
+        self.assertEqual(self.watching.status(), 2)
 
     @staticmethod
     def moved(made, port=42_000):
@@ -593,9 +637,9 @@ class Watched(unittest.TestCase):
     def test_a_side_that_sends_nothing(self):
         """A break of the other one is none that anybody can be sure of."""
         made = Frames().begin().send("left", data(b"\1\0\1\0wrong")).put("right").put("right", flags=RESET | ACK)
-        self.assertIn("not judged: a protocol whose data", self.fed(made.frames))
-        made = Frames(ports={"left": 41_000, "right": 102}).begin().send("left", CR, data(b"\x0d\0wrong")).put("right")
-        self.assertIn("not judged: right sent nothing", self.fed(made.put("right", flags=RESET | ACK).frames))
+        self.assertIn("not judged: a protocol whose data", self.fed(made.frames, is_end=True))
+        made = Frames(ports={"left": 41_000, "right": 102}).begin().send("left", CR, data(CN[7:] + b"wrong")).put("right")
+        self.assertIn("not judged: right sent nothing", self.fed(made.put("right", flags=RESET | ACK).frames, is_end=True))
 
     def test_a_connection_with_the_numbers_of_the_one_before(self):
         self.assertEqual(self.fed(whole()[0]).count("both kept"), 1)

@@ -147,7 +147,7 @@ class Texts(Room):
         said = "left packets 1 octets 14 rest 0\nright packets 0 octets 0 rest 0\nleft 1 unanswered\n" \
                "not judged: only one direction is here\n"
         found = judging.Judged(texts.read(self.follow()), lambda parts: said)
-        self.assertEqual((found.status(), found.sentence(), found.lines()), (judging.PARTLY, None, said.splitlines()))
+        self.assertEqual((found.status(), found.sentence(), found.lines()), (None, None, said.splitlines()))
         self.assertEqual((reports.verdict_of(found), reports.breaks_of(found)), ("none", []))
         self.assertEqual(verdicts.sentence(found.verdict), "Not judged: only one direction is here.")
 
@@ -261,7 +261,7 @@ class Streams(Room):
         self.assertIn("stream 6 carries no TPKT", self.refused("run.pcap", "--stream", "6"))
 
     def test_answers_that_are_no_packets_are_judged_if_the_beginning_is_there(self):
-        pieces = [tapped.Piece("left", self.found[0].octets), tapped.Piece("right", b"220 ready\r\n")]
+        pieces = [tapped.Piece("left", self.found[0].octets), tapped.Piece("right", b"\0\0\0\7ready")]
         self.sequences.clear()
         self.found = [self.segment(place, piece, 7) for place, piece in enumerate(pieces)]
         stream = streams.joined(iter(self.found))[7]

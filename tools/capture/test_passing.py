@@ -164,6 +164,18 @@ class Gaps(unittest.TestCase):
             report = judged(frames)
             self.assertEqual(report.why, "only one direction is here")
 
+    def test_a_file_of_one_direction_is_listed_whole(self):
+        """However many octets of the other side are acknowledged in it; with the first segments and without."""
+        for side, address in (("left", bytes((192, 0, 2, 1))), ("right", bytes((192, 0, 2, 2)))):
+            frames = [frame for frame in whole()[0] if frame[12:16] == address]
+            wanted = [(each, octets) for each, octets in whole()[1] if each == side]
+            for made in (frames, frames[1:]):
+                stream = stream_of(made)
+                self.assertEqual([(each, piece.octets) for each, piece in stream.by_side()], wanted)
+                self.assertEqual((asking.why_not(stream), stream.gap()), ("only one direction is here", None))
+            lost = stream_of(frames[:4] + frames[5:])
+            self.assertRegex(str(lost.gap()), f"where {side} lost [0-9]+ octets")
+
     def test_a_side_that_sent_nothing_is_named(self):
         """Both directions are here, so it isn't said that only one is."""
         for made, side in ((Frames().begin().send("left", CR).put("right", flags=RESET | ACK), "right"),
@@ -312,7 +324,7 @@ class Innocents(unittest.TestCase):
     def test_nobody_is_blamed_for_disorder_copies_and_losses(self):
         for seed in range(16):
             chance = random.Random(seed)
-            for disorder, loss, wanted in ((0, 0, (0,)), (6, 0, (0,)), (6, 0.1, (0, 3))):
+            for disorder, loss, wanted in ((0, 0, (0,)), (6, 0, (0,)), (6, 0.1, (None, 0, 3))):
                 frames = Turns(chance).captured(disorder, loss)
                 found = judged(frames)
                 self.assertIn(found.status, wanted, (seed, disorder, loss, found.lines()))
@@ -466,6 +478,15 @@ class Outcomes(unittest.TestCase):
                  ("closed", "left closed the transport connection: DR reason 128, by the session layer")),
                 (Frames().open().talk().close(), ("released", "released: left asked for it (FN), right agreed (DN)"))):
             self.assertEqual(self.ended(made)[0], wanted)
+
+    def test_an_answer_that_need_not_be_here(self):
+        """It may be what the capture lost, or of the direction that isn't here."""
+        frames = whole()[0]
+        alone = stream_of([frame for frame in frames if frame[12:16] == bytes((192, 0, 2, 1))])
+        lost = stream_of([frame for place, frame in enumerate(frames) if place != 10])
+        for stream, limit in ((alone, None), (lost, "judged up to frame 12")):
+            found = outcome.all_of(stream, list(stream.by_side()), limit)
+            self.assertEqual((found[0].how, found[0].text), ("unanswered", "left asked for the release (FN)"))
 
     def test_how_tcp_ended_is_named(self):
         self.assertEqual(self.ended(Frames().open().talk().close())[-1], ("tcp closed", "left closed TCP"))

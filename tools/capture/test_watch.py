@@ -5,6 +5,7 @@ import io
 import os
 import shutil
 import struct
+import subprocess
 import tempfile
 import time
 import types
@@ -77,12 +78,15 @@ class Watching(unittest.TestCase):
         self.watching = watch.Watching(102, lambda text: test_judged.answer(None, "judge", text))
         without_beginnings(self)
 
-    def printed(self, *rows, is_end=False):
-        """What is printed of some more segments, each followed by a look at the streams; not how a stream ended."""
+    def printed(self, *rows, is_end=False, is_quiet=False):
+        """What is printed of some more segments, each followed by a look at the streams, and if nothing comes for a moment; not how a
+        stream ended."""
         with contextlib.redirect_stdout(io.StringIO()) as out:
             for row in rows:
                 self.watching.take(row)
                 self.watching.look()
+            if is_quiet:
+                self.watching.end_resets()
             if is_end:
                 self.watching.look(is_end=True)
         rows = out.getvalue().splitlines(True)
@@ -112,7 +116,23 @@ class Watching(unittest.TestCase):
     def test_a_reset_closes_both_directions(self):
         rows = Rows()
         self.printed(*rows.of("restart_cured"))
-        self.assertEqual(self.printed(rows.row("right", flags=tshark.RESET)), f"{NAME}: both kept the protocol\n")
+        self.assertEqual(self.printed(rows.row("right", flags=tshark.RESET)), "")
+        self.assertEqual(self.printed(is_quiet=True), f"{NAME}: both kept the protocol\n")
+        self.assertEqual((self.watching.resets, self.watching.watched), ({}, {}))
+
+    def test_octets_that_are_captured_after_a_reset(self):
+        """Frames of several queues: what was sent before the reset is captured a little later, and judged; what comes late isn't."""
+        for wait, said in ((0, "left broke the protocol first"), (2, "both kept the protocol")):
+            self.setUp()
+            rows = Rows()
+            *begun, wrong = rows.of("restart")[:-1]
+            self.printed(*begun)
+            reset = rows.row("right", flags=tshark.RESET)
+            reset.time, wrong.time = begun[-1].time, begun[-1].time + wait
+            with self.kept() if wait else contextlib.nullcontext():
+                self.assertEqual(self.printed(reset), "")
+                self.assertIn(said, self.printed(wrong) + self.printed(is_quiet=True))
+            self.assertEqual((self.watching.resets, self.watching.watched), ({}, {}))
 
     def test_at_the_end_all_streams_are_told(self):
         self.assertEqual(self.printed(*Rows().of("restart_cured"), is_end=True), f"{NAME}: both kept the protocol\n")
@@ -152,7 +172,7 @@ class Watching(unittest.TestCase):
                              ("left 1 unanswered\n", "osi judge names no verdict")):
             self.watching = watch.Watching(102, lambda text, printed=printed: printed)
             self.assertEqual(self.printed(*Rows().of("restart"), is_end=True), f"{NAME}: not judged: {why}\n")
-            self.assertEqual(self.watching.status(), 3)
+            self.assertEqual(self.watching.status(), 2)
 
     def test_a_stream_of_another_protocol_is_named(self):
         rows = Rows()
@@ -176,7 +196,7 @@ class Watching(unittest.TestCase):
     def test_streams_that_are_over_are_forgotten(self):
         with mock.patch.object(watch, "REMEMBERED", 2):
             for stream in range(5):
-                self.printed(*Rows(stream).of("restart"), Rows(stream).row("right", flags=tshark.RESET))
+                self.printed(*Rows(stream).of("restart"), Rows(stream).row("right", flags=tshark.RESET), is_quiet=True)
         self.assertEqual((list(self.watching.over), self.watching.watched, self.watching.ending), ([3, 4], {}, {}))
 
 
@@ -273,7 +293,10 @@ class Months(unittest.TestCase):
     def test_streams_that_were_refused_or_never_answered_are_forgotten(self):
         refused = Frames().put("left", flags=SYN).put("right", flags=RESET | ACK).frames
         self.fed(refused)
-        self.assertEqual(self.held()[:2], (0, 0))
+        self.assertEqual((self.held()[:2], list(self.watching.resets)), ((1, 0), [0]))
+        with contextlib.redirect_stdout(io.StringIO()):
+            self.watching.drop_idle(self.now / 1_000_000 + watch.MOMENT + 1)
+        self.assertEqual((self.held()[:2], list(self.watching.resets)), ((0, 0), []))
         with mock.patch.object(watch, "MOST_STREAMS", 10):
             for place in range(30):
                 self.fed(Frames(ports={"left": 20_000 + place, "right": 102}).put("left", flags=SYN).frames)
@@ -605,6 +628,16 @@ class Sources(unittest.TestCase):
         with open(self.path("osi"), "rb") as file, mock.patch.object(live.sys, "stdin", mock.Mock(buffer=file)):
             status, _, err = self.call("-")
         self.assertEqual((status, "isn't read from a pipe: no pcap and no pcapng" in err), (2, True), err)
+
+    def test_a_pipe_with_a_name(self):
+        os.mkfifo(self.path("pipe"))
+        with subprocess.Popen(["cp", self.path("run.pcap"), self.path("pipe")]):
+            self.assertEqual(self.call(self.path("pipe")), (0, 1, ""))
+
+    def test_if_nothing_passes_it_says_so(self):
+        status, _, err = self.call(self.path("run.pcap"), "--host", "192.0.2.9")
+        self.assertEqual((status, err.startswith("osi-capture: no TCP stream that was asked for passed at port 102"), err.count("\n")),
+                         (2, True, 1))
 
 
 @unittest.skipUnless(shutil.which("tshark"), "tshark is not installed")

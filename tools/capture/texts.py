@@ -33,8 +33,7 @@ class Text:
         """Why the text can't be judged, or None."""
         if len({side for _, _, side, _ in self.parts}) < 2:
             return "only one direction is here"
-        kind = kinds.of(self)
-        return kind and f"{kind}, not a session"
+        return kinds.why_not(self)
 
 
 def text_of(name):

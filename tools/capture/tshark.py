@@ -1,14 +1,21 @@
 """Reads a capture of a network, pcap or pcapng, through tshark: the TCP segments in it, in their order."""
 import os
 import shutil
+import socket
 import subprocess
 import sys
 
 from ladders.transcript import BadInput
 
+from . import sums
+
 # What is asked of each segment.
 FIELDS = ("frame.number", "frame.time_epoch", "tcp.stream", "ip.src", "ipv6.src", "tcp.srcport", "ip.dst", "ipv6.dst", "tcp.dstport",
-          "tcp.seq_raw", "tcp.ack_raw", "tcp.flags", "tcp.len", "frame.cap_len", "tcp.payload", "tcp.options.mptcp.subtype")
+          "tcp.seq_raw", "tcp.ack_raw", "tcp.flags", "tcp.len", "frame.cap_len", "tcp.payload", "tcp.options.mptcp.subtype",
+          "frame.protocols")
+# And if checksums are read: the checksum and the right one, and how long the header is.
+CHECKED = ("tcp.checksum", "tcp.checksum_calculated", "tcp.hdr_len", "tcp.options.mss_val")
+CHECKING = ("-o", "tcp.check_checksum:TRUE", *(word for field in CHECKED for word in ("-e", field)))
 # An ICMP message about a segment quotes it, and is none.
 TCP = "tcp and not icmp and not icmpv6"
 # Nothing above TCP is dissected, which takes most of tshark's time, and of packets within packets the innermost counts.
@@ -22,24 +29,35 @@ FIN, SYN, RESET, PUSH, ACK = 0x01, 0x02, 0x04, 0x08, 0x10
 class Segment:
     """A TCP segment: when it passed, its stream, both addresses, its first sequence number, its flags and its octets; what it
     acknowledges, if that is known, and how many of its octets the capture doesn't have, though the frame was longer than captured. Of a
-    segment of one octet also whether its sender pushed it (PSH), and whether it came soon after another one of its stream; and for a
-    watch whether its checksum is right, if it has octets."""
+    segment of one octet also whether its sender pushed it (PSH), and whether it came soon after another one of its stream; and if
+    checksums are read what its checksum says, and of a first segment how many octets of a segment its sender takes."""
 
-    acknowledged, missing, captured, key, is_right = None, 0, 0, None, None
+    acknowledged, missing, captured, key, sum, most = None, 0, 0, None, None, 0
     is_first = is_last = is_reset = is_answer = is_pushed = is_soon = is_multipath = False
 
     def __init__(self, values):
         (frame, time, stream, source, source_6, source_port, target, target_6, target_port, sequence, number, flags, length, captured,
-         octets, *multipath) = values
+         octets, *more) = values
         self.frame, self.time, self.stream = int(frame), float(time), int(stream)
-        self.source, self.target = (source or source_6, int(source_port)), (target or target_6, int(target_port))
+        is_6 = not source or source_6 and more[1].rfind(":ipv6") > more[1].rfind(":ip:")
+        self.source, self.target = (source_6 if is_6 else source, int(source_port)), (target_6 if is_6 else target, int(target_port))
         self.sequence = int(sequence)
         self.octets = bytes.fromhex(octets.replace(":", ""))
         self.tell(int(flags, 0), number)
         self.missing = max(int(length or 0) - len(self.octets), 0)
         self.captured = int(captured or 0)
-        self.is_multipath = self.is_first and any(multipath)
+        self.is_multipath = self.is_first and any(more[:1])
         self.is_pushed = len(self.octets) == 1 and bool(int(flags, 0) & PUSH)
+
+        if len(more) > 2:
+            self.tell_sum(*more[2:])
+
+    def tell_sum(self, value, right, header, most):
+        """Takes the checksum, the right one if it is known, how long the header is, and the most octets of a segment if they are told."""
+        self.most = int(most or 0) if self.is_first else 0
+        if value and right:
+            value, addresses = int(value, 0), b"".join(octets_of(end[0]) for end in (self.source, self.target))
+            self.sum = sums.told(value, (value - int(right, 0)) % sums.ONES, addresses, int(header) + len(self.octets))
 
     def tell(self, flags, number):
         """Takes the flags, and what is acknowledged. What a reset acknowledges need not have been sent."""
@@ -49,20 +67,9 @@ class Segment:
         self.acknowledged = int(number) if flags & (ACK | RESET) == ACK and number != "" else None
 
 
-# Where and in what each segment with octets is, and whether its checksum is wrong (0) or right (1).
-CHECKED = ("frame.number", "ip.src", "ipv6.src", "tcp.srcport", "ip.dst", "ipv6.dst", "tcp.dstport", "tcp.checksum.status")
-WRONG, RIGHT = ("0", "Bad"), ("1", "Good")
-
-
-def sums(path):
-    """The checksums of the segments with octets, as tshark checks them: the frame, the direction, and whether it is right."""
-    words = ["tshark", "-n", "-r", checked(path), "-Y", f"{TCP} and tcp.len > 0", *WITHOUT_UPPER, "-o", "tcp.check_checksum:TRUE",
-             *(word for field in CHECKED for word in ("-e", field))]
-    done = subprocess.run(words, stdout=subprocess.PIPE, stderr=subprocess.DEVNULL, text=True, errors="replace", check=False)
-    for row in done.stdout.splitlines():
-        number, *way, status = row.split("\t")
-        if status in WRONG + RIGHT:
-            yield int(number), tuple(way), status in RIGHT
+def octets_of(address):
+    """An address as octets."""
+    return socket.inet_pton(socket.AF_INET6 if ":" in address else socket.AF_INET, address)
 
 
 def is_there():
@@ -84,14 +91,16 @@ def checked(path):
     return path
 
 
-def segments(path, name=None):
-    """The TCP segments of a capture, one by one; of a capture that ends within a packet those before it, which is said."""
-    words = ["tshark", "-n", "-r", checked(path), "-Y", TCP, *PLAIN]
+def segments(path, name=None, has_sums=False):
+    """The TCP segments of a capture, one by one; of a capture that ends within a packet those before it, which is said if it has a name.
+    With `has_sums` their checksums are read."""
+    words = ["tshark", "-n", "-r", checked(path), "-Y", TCP, *PLAIN, *(CHECKING if has_sums else ())]
     with subprocess.Popen(words, stdout=subprocess.PIPE, stderr=subprocess.PIPE, text=True, encoding="ascii", errors="replace") as run:
         yield from read(run.stdout)
         said = run.stderr.read()
     if run.returncode != 0 and CUT_SHORT in said:
-        tell_cut(name or path)
+        if name:
+            tell_cut(name)
     elif run.returncode != 0:
         raise BadInput(f"{name or path}: {reason(said, path)}")
 
@@ -110,9 +119,9 @@ def read(lines):
 
 
 def of_line(line):
-    """The segment of a line, or None."""
+    """The segment of a line; None if it has none, or one whose header was damaged."""
     values = line.rstrip("\n").split("\t")
-    return Segment(values) if len(values) == len(FIELDS) and values[9] and values[2] else None
+    return Segment(values) if len(values) in (len(FIELDS), len(FIELDS + CHECKED)) and values[9] and values[2] and values[11] else None
 
 
 def upper(path, stream):
@@ -128,4 +137,4 @@ def reason(said, path):
     """What tshark says of a file that it can't read, as one line: the one that names the file, if there is one."""
     lines = [line for line in said.splitlines() if line and not line.startswith("Running as user")]
     lines = [line for line in lines if f'"{path}"' in line] + lines
-    return lines[0].removeprefix("tshark: ") if lines else "tshark can't read it"
+    return lines[0].removeprefix("tshark: ").replace(f' "{path}"', "") if lines else "tshark can't read it"

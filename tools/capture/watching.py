@@ -45,6 +45,8 @@ except ImportError:
 LONGEST = 8_000_000
 # How many octets wait for a missing segment before it counts as lost, and for how many seconds.
 MOST_WAITING, PATIENCE = 262_144, 30
+# For how many seconds after a reset of TCP octets may be captured that passed before it.
+MOMENT = 1.0
 # How many octets of a side show which protocol it is; how many streams that are over are remembered, to leave out what is late; how
 # many streams are watched at once.
 ENOUGH, REMEMBERED, MOST_STREAMS = 4_096, 10_000, 10_000
@@ -76,7 +78,7 @@ class Watched:
         self.octets += len(segment.octets)
         self.is_fresh = True
         if self.is_late(segment.time) or any(direction.doubt for direction in self.stream.directions.values()):
-            self.stream.finish()
+            self.stream.stop()
         self.look_for_limit()
         self.follow()
 
@@ -107,7 +109,11 @@ class Watched:
 
     def is_over(self):
         """Whether nothing more will pass."""
-        return any(each.reset for each in self.stream.directions.values()) or self.is_closed() and not self.stream.is_stuck()
+        return self.is_reset() or self.is_closed() and not self.stream.is_stuck()
+
+    def is_reset(self):
+        """Whether TCP was reset, though octets that passed before may still be captured."""
+        return any(each.reset for each in self.stream.directions.values())
 
     def is_closed(self):
         """Whether both directions were ended, though octets of them may still be missing."""
@@ -140,12 +146,13 @@ class Watched:
             place = found.place()
             return (f"frame {place[0]}, {place[1]:.6f} seconds: " if place else "") + found.sentence()
         said = f"not judged: {unjudged}" if unjudged else found.verdict.rows[-1]
-        return f"{said}, {self.limit}" if self.limit else said
+        limit = found.limit or self.limit
+        return f"{said}, {limit}" if limit else said
 
     def ended(self):
         """How the stream ended, in a line; or None."""
-        found = outcome.together(self.follower.ended(), outcome.of_tcp(self.stream))
-        return outcome.line(found, self.begin or 0) if found else None
+        found = outcome.known(self.stream, self.limit, self.follower.ended(), outcome.of_tcp(self.stream))
+        return outcome.line(found, self.begin or self.stream.since[1]) if found else None
 
 
 class Fed(Watched):
@@ -155,6 +162,8 @@ class Fed(Watched):
     def __init__(self, stream):
         super().__init__(stream)
         self.judge, self.heard, self.found, self.lines, self.statuses = None, set(), None, [], []
+        # The ends of which it is known that their first packets are here.
+        self.begun = set()
         # What is found of octets that nobody acknowledged yet: the side, the place after them, the status, the frame, the line, and how
         # many pieces had been fed by then.
         self.waiting = []
@@ -184,14 +193,23 @@ class Fed(Watched):
         """Remembers octets that aren't surely what was sent: if a break depends on them, it isn't told."""
         self.fed += 1
         direction = self.stream.directions[source]
-        if piece.frame in direction.hurt or piece.start in direction.alone:
+        if direction.sums.is_hurt(piece.frame) or piece.start in direction.alone:
             self.unsure.append((self.fed, source, piece))
             if len(self.unsure) > MOST_UNSURE:
                 self.unsure = [each for each in self.unsure if self.stream.unsure(*each[1:])][:MOST_UNSURE]
 
-    def why_unsure(self, fed):
-        """Why it isn't sure what was found once so many pieces had been fed; or None."""
-        return next(filter(None, (self.stream.unsure(source, piece) for place, source, piece in self.unsure if place <= fed)), None)
+    def first_unsure(self, fed):
+        """The first of so many pieces that isn't surely what was sent, and why; or None."""
+        found = ((piece, self.stream.unsure(source, piece)) for place, source, piece in self.unsure if place <= fed)
+        return next((each for each in found if each[1]), None)
+
+    def limit_to(self, piece, why):
+        """Judges the stream only up to a piece that isn't surely what was sent; not at all if nothing of its side is known then."""
+        self.waiting = []
+        if piece.start == 0:
+            self.found = f"not judged: {asking.of_nothing(why)}", None
+        else:
+            self.limit = f"judged up to {why}"
 
     @staticmethod
     def made():
@@ -204,35 +222,33 @@ class Fed(Watched):
             for piece in pieces:
                 yield side, piece
 
-    def is_begun(self, source, piece):
-        """Whether a direction begins with its first octets."""
-        if source not in self.heard:
-            self.heard.add(source)
-            direction = self.stream.directions[source]
-            if self.stream.is_multipath():
-                self.found = f"not judged: {asking.MULTIPATH}", None
-                return False
-            if not (direction.has_first or self.may_begin(source, piece.octets)):
+    def is_begun(self, source):
+        """Whether a direction begins with its first octets, as far as they have passed."""
+        if self.stream.is_multipath():
+            self.found = f"not judged: {asking.MULTIPATH}", None
+        elif source not in self.begun:
+            octets = self.front(source)
+            if not self.stream.begins(source, octets, self.front(self.left)):
                 self.found = "not judged: begins in the middle", None
-                return False
-        return True
+            elif len(octets) >= streams.FRONT:
+                self.begun.add(source)
+        self.heard.add(source)
+        return self.found is None
+
+    def front(self, source):
+        """The first octets that an end sent."""
+        return b"".join(piece.octets for piece in self.head[streams.SIDES[source != self.left]])[:streams.FRONT]
 
     def feed(self, source, piece):
         """Feeds octets that have passed."""
-        if not self.is_begun(source, piece):
+        if not self.is_begun(source):
             return
         for told in self.judge.feed(int(source != self.left), piece.octets):
-            kind = kinds.of(self)
-            if kind:
-                self.found = f"not judged: {kind}, not a session", None
+            why = kinds.why_not(self)
+            if why:
+                self.found = f"not judged: {why}", None
                 return
             self.certain(told, source, piece)
-
-    def may_begin(self, source, octets):
-        """Whether the first octets of a side without its first segment may be those of a connection."""
-        if self.stream.opener is not None or len(octets) < 11:
-            return streams.is_packet(octets)
-        return streams.is_connect_request(octets) if source == self.left else streams.is_packet(octets) and streams.is_answer(octets)
 
     def certain(self, told, source, piece):
         """Notes a verdict that became certain with these octets, if they are those that arrived."""
@@ -256,9 +272,9 @@ class Fed(Watched):
             if not (is_end or doubt or directions[source].heard >= end):
                 return
             self.waiting.pop(0)
-            why = line and self.why_unsure(fed)
-            if why:
-                self.limit, self.waiting = f"judged up to {why}", []
+            unsure = line and self.first_unsure(fed)
+            if unsure:
+                self.limit_to(*unsure)
                 return
             if doubt is None or frame < doubt.frame:
                 self.statuses.append((status, frame))
@@ -279,13 +295,10 @@ class Fed(Watched):
 
     def at_the_end(self):
         """The verdict on a stream that is over, or of which no more is captured; the line is None if breaks were told."""
-        if self.left is None:
-            begun = "nothing passed" if self.stream.opener is not None else "begins in the middle"
-            return f"not judged: {asking.ALONE if self.stream.is_alone() else begun}", None
         if self.stream.is_alone():
             return f"not judged: {asking.ALONE}", None
         if len(self.heard) < 2:
-            return f"not judged: {streams.SIDES[self.left in self.heard]} sent nothing", None
+            return f"not judged: {self.why_silent()}", None
         if self.statuses:
             return self.after_verdicts()
         said = verdicts.printed(self.judge.text()) if hasattr(self.judge, "text") else None
@@ -293,6 +306,14 @@ class Fed(Watched):
             return f"not judged: {said.last['why']}" + (f", {self.limit}" if self.limit else ""), None
         limit, status = (f", {self.limit}", judging.PARTLY) if self.limit else ("", judging.KEPT)
         return "both kept the protocol" + limit, status
+
+    def why_silent(self):
+        """Why a stream isn't judged of which no octets of a side passed."""
+        gap = self.stream.gap()
+        if self.left is None and not gap:
+            return "nothing passed" if self.stream.opener is not None else "begins in the middle"
+        heard = {streams.SIDES[end != self.left] for end in self.heard}
+        return asking.why_silent(gap, heard) or f"{asking.ALONE}, judged up to {gap}"
 
     def look_for_news(self, is_end):
         """Nothing is said later than the octets that it is about."""
@@ -317,10 +338,10 @@ class Fed(Watched):
         self.look_for_news(is_end or self.limit is not None)
         self.tell(is_end or self.limit is not None)
         found = self.found or (self.at_the_end() if is_end or self.limit else None)
-        kind = kinds.of(self) if found and found is not self.found else None
-        if kind:
+        why = kinds.why_not(self) if found and found is not self.found else None
+        if why:
             self.lines.clear()
-            found = f"not judged: {kind}, not a session", None
+            found = f"not judged: {why}", None
         if found and self.judge is not None:
             self.close()
         # What passes after its verdict says only how the stream ends.
@@ -345,7 +366,7 @@ class Piped(Fed):
         """Writes octets that have passed to the program."""
         side = streams.SIDES[source != self.left]
         self.places[side].take(piece)
-        if self.is_begun(source, piece):
+        if self.is_begun(source):
             self.process.write(source != self.left, piece.octets)
 
     def look_for_news(self, is_end):
@@ -377,9 +398,9 @@ class Piped(Fed):
 
     def note_break(self, said, fields, source, row=None):
         """Notes a break, or that a side left the profile: the first one in a sentence, others in the words of the program."""
-        kind = kinds.of(self)
-        if kind:
-            self.found = f"not judged: {kind}, not a session", None
+        why = kinds.why_not(self)
+        if why:
+            self.found = f"not judged: {why}", None
             return
         side = streams.SIDES[source != self.left]
         end, frame, when = self.places[side].of(int(fields["offset"])) or (0, 0, None)
@@ -408,8 +429,8 @@ class Watching:
         self.port, self.judge, self.hosts, self.numbers, self.is_json, self.idle = port, judge, hosts, numbers, is_json, idle
         # Those that are watched, and those whose verdict is printed while TCP is open: by the time of their last segment.
         self.watched, self.ending = OrderedDict(), OrderedDict()
-        # Those of which TCP is closed while octets are missing, with the time since then.
-        self.closing = OrderedDict()
+        # Those of which TCP is closed while octets are missing, and those that are reset, with the time since then.
+        self.closing, self.resets = OrderedDict(), OrderedDict()
         self.over, self.statuses, self.forget = OrderedDict(), set(), forget
         self.kind, self.programs = Watched if judge else Fed, programs
 
@@ -455,13 +476,22 @@ class Watching:
         if watched.is_over():
             self.tell_end(self.ending.pop(segment.stream))
 
+    def end_closed(self, now):
+        """Ends the streams that are reset since a moment, and those that are closed and of which octets are missing for long."""
+        for found, patience in ((self.resets, MOMENT), (self.closing, PATIENCE)):
+            while found and now - next(iter(found.values())) > patience:
+                number, _ = found.popitem(last=False)
+                if number in self.watched:
+                    self.look_at(number, self.watched[number], True)
+
+    def end_resets(self):
+        """Ends the streams that are reset, since nothing came for a moment."""
+        for number in list(self.resets):
+            self.look_at(number, self.watched[number], True)
+
     def drop_idle(self, now):
-        """Forgets the streams that are idle, or the one that was idle longest if there are too many; and ends those that are closed, and
-        of which octets are missing for long."""
-        while self.closing and now - next(iter(self.closing.values())) > PATIENCE:
-            number, _ = self.closing.popitem(last=False)
-            if number in self.watched:
-                self.look_at(number, self.watched[number], True)
+        """Forgets the streams that are idle, or the one that was idle longest if there are too many."""
+        self.end_closed(now)
         for found in (self.watched, self.ending):
             while found and (len(found) > MOST_STREAMS or now - next(iter(found.values())).stream.last[1] > self.idle):
                 self.drop(next(iter(found)), now)
@@ -488,19 +518,20 @@ class Watching:
     def look_at(self, number, watched, is_end):
         """Judges a stream, and prints what is certain."""
         watched.is_fresh = False
-        is_over = is_end or watched.is_over()
+        is_over = is_end or watched.is_over() and not watched.is_reset()
         found = watched.verdict(self.judge, is_over)
         for line in watched.news():
             self.say(watched, line)
         if not found:
-            if watched.is_closed():
-                self.closing.setdefault(number, watched.stream.last[1])
+            if watched.is_reset() or watched.is_closed():
+                (self.resets if watched.is_reset() else self.closing).setdefault(number, watched.stream.last[1])
             return
         if found[0]:
             self.say(watched, found[0])
         self.statuses.add(found[1])
         del self.watched[number]
         self.closing.pop(number, None)
+        self.resets.pop(number, None)
         self.over[number] = watched.key
         if len(self.over) > REMEMBERED:
             oldest, key = self.over.popitem(last=False)
@@ -530,7 +561,9 @@ def follow(watching, segments, seconds):
     """Takes segments. The stream of each is looked at, and all streams each time that so many seconds are over, also if nothing passes."""
     looked = time.monotonic()
     for segment in segments:
-        if segment is not None:
+        if segment is None:
+            watching.end_resets()
+        else:
             watching.take(segment)
             if segment.stream in watching.watched:
                 watching.look_at(segment.stream, watching.watched[segment.stream], False)
@@ -582,4 +615,6 @@ def watch(asked):
         source.close()
         for process in list(programs.running) if programs else ():
             programs.end(process)
+    if not watching.statuses:
+        print(f"osi-capture: no TCP stream that was asked for passed at port {asked.port} (--port N names another one)", file=sys.stderr)
     return watching.status()

@@ -33,6 +33,7 @@ def words():
     parser.add_argument("--judge", metavar="CAPTURE", help="a capture of both sides: draws the verdict of osi judge on it")
     parser.add_argument("--stream", type=int, metavar="N", help="of a pcap or pcapng, the stream with this number (osi-capture list)")
     parser.add_argument("--port", type=int, default=asking.PORT, metavar="N", help="the port of TPKT, for streams without a CR (102)")
+    parser.add_argument("--ignore-checksums", action="store_true", help="with --judge: judge frames with wrong TCP checksums as the others")
     parser.add_argument("--verdicts", metavar="FILE", help="what --states printed of that capture; with --left and --right no "
                         "program is run")
     parser.add_argument("--states", action="store_true", help="with --judge: print what osi judge says after each packet, and draw "
@@ -217,8 +218,11 @@ def finished(made, source):
 def judged_capture(options, progress):
     """The picture of a capture of both sides with its verdict; or, with --states, what `osi judge` says after each packet."""
     source, said = source_of(options.judge, options)
-    pieces, judge = source.pieces, judged.runner(options.osi, progress.running)
+    judge = judged.runner(options.osi, progress.running)
     told = verdicts.read(read_text(options.verdicts)) if options.verdicts else None
+    if source.stream is not None and not told:
+        source, judge = reading.surely(source, judge, not options.ignore_checksums)
+    pieces = source.pieces
     listings = listings_of(pieces, options.osi, named_listings(options), progress)
     if options.states:
         return judged.told(pieces, listings, judge)

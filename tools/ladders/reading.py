@@ -2,9 +2,9 @@
 import os
 import re
 
-from capture import asking, middle, streams, texts, tshark
+from capture import asking, damage, middle, streams, texts, tshark
 
-from . import captures, tapped
+from . import captures, tapped, verdicts
 from .transcript import SIDES, BadInput
 
 
@@ -23,11 +23,11 @@ def is_network(name):
 
 
 class Source:
-    """The pieces of a capture; the addresses of its sides and notes on where it begins and ends, if it is one of a network; and what
-    tshark calls the layers above, by frame."""
+    """The pieces of a capture; the addresses of its sides, notes on where it begins and ends, and the stream, if it is one of a network;
+    and what tshark calls the layers above, by frame."""
 
-    def __init__(self, pieces, ends=None, notes=(), upper=None):
-        self.pieces, self.ends, self.notes, self.upper = pieces, ends or {}, list(notes), upper
+    def __init__(self, pieces, ends=None, notes=(), upper=None, stream=None):
+        self.pieces, self.ends, self.notes, self.upper, self.stream = pieces, ends or {}, list(notes), upper, stream
 
 
 def pieces_of(stream):
@@ -51,10 +51,27 @@ def of_network(view, has_upper):
     """What a picture needs of a stream of a network."""
     stream = getattr(view, "stream", view)
     notes = [f"The stream begins in the middle, at frame {view.frame}."] if isinstance(view, middle.Middle) else []
+    notes += ["Only one direction is here."] if stream.is_alone() else []
     gap = stream.gap()
     notes += [f"Shown up to {gap}."] if gap else []
     upper = tshark.upper(stream.path, stream.number) if has_upper else None
-    return Source(pieces_of(view), {side: asking.named(end) for side, end in stream.by_end().items()}, notes, upper)
+    return Source(pieces_of(view), {side: asking.named(end) for side, end in stream.by_end().items()}, notes, upper, stream)
+
+
+def surely(source, judge, has_sums):
+    """What can be judged of a capture of a network, and who judges it: no side is blamed for what isn't surely what was sent."""
+    stream = source.stream
+    stream.has_sums = has_sums
+    why = asking.why_not(stream)
+    if why:
+        return source, lambda text: f"not judged: {why}\n"
+    found = damage.first_unsure(stream)
+    if found is None or verdicts.printed(judge(tapped.text_of(source.pieces))).first is None:
+        return source, judge
+    place, gap = found
+    if gap.side not in {piece.side for piece in source.pieces[:place]}:
+        return source, lambda text: f"not judged: {asking.of_nothing(gap)}\n"
+    return Source(source.pieces[:place], source.ends, [f"Judged up to {gap}."], source.upper, stream), judge
 
 
 def by_caller(pieces):

@@ -41,18 +41,18 @@ class Completion(unittest.TestCase):
         for program in PARSERS:
             with self.subTest(program):
                 lists = re.findall(r"(?:options=|-W )'?([^'\n]*)", read(f"{program}.bash"))
-                self.completed(program, set(re.findall(r"--[a-z]+", " ".join(lists))))
+                self.completed(program, set(re.findall(r"--[a-z]+(?:-[a-z]+)*", " ".join(lists))))
 
     def test_fish(self):
         for program in PARSERS:
             with self.subTest(program):
-                self.completed(program, {f"--{name}" for name in re.findall(r" -l ([a-z]+)", read(f"{program}.fish"))})
+                self.completed(program, {f"--{name}" for name in re.findall(r" -l ([a-z]+(?:-[a-z]+)*)", read(f"{program}.fish"))})
 
     def test_zsh(self):
         for program in PARSERS:
             with self.subTest(program):
                 part = re.sub(r"\[[^]]*\]", "", zsh_part(program))
-                self.completed(program, set(re.findall(r"--[a-z]+", part)))
+                self.completed(program, set(re.findall(r"--[a-z]+(?:-[a-z]+)*", part)))
 
 
 if __name__ == "__main__":

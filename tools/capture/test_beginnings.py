@@ -1,0 +1,113 @@
+"""Captures that lack how a connection began: it is judged only if what is here is surely its beginning, whether it is read from a file or
+watched."""
+import contextlib
+import io
+import unittest
+from unittest import mock
+
+from . import annotating, asking, frames, streams, watching
+from .test_frames import AC, ACK, CC, CN, CR, DT, SYN, Frames, Room, packet, pcap_of, stream_of, whole
+from .test_honest import Judge as Strict
+from .test_passing import call, needs_osi
+
+MIDDLE = "begins in the middle"
+# Units of class 2: two CRs, the second of which also offers class 0, what may answer them, and what is of an earlier connection.
+REQUEST, EITHER = (packet(bytes.fromhex(each)) for each in ("09e40000000320c0010a", "0ce40000000320c70100c0010a"))
+CONFIRM, REFUSAL, ERROR = (packet(bytes.fromhex(each)) for each in ("09d40003000420c0010a", "06800003000080", "0570000300c100"))
+CLOSE, KNOWLEDGE, DATA = (packet(bytes.fromhex(each)) for each in ("06800001000280", "0464000104", "04f00001820100010072"))
+UNKNOWN = packet(bytes.fromhex("0635000300000a"))
+
+
+class Judge(Strict):
+    """A judge that blames nobody."""
+
+    def feed(self, side, octets):
+        """No verdict is certain."""
+        return ()
+
+
+def watched(made):
+    """What a watch prints of frames."""
+    reader, found = frames.Reader(True, 102), watching.Watching(102)
+    with mock.patch.object(watching, "osi_session", mock.Mock(Watch=Judge)), contextlib.redirect_stdout(io.StringIO()) as out:
+        watching.follow(found, reader.feed(pcap_of(made)), 0)
+        found.look(is_end=True)
+    return out.getvalue()
+
+
+class Beginnings(unittest.TestCase):
+    """What may be the beginning of a connection, and what not."""
+
+    def said(self, made):
+        """Why frames aren't judged, which a watch says, too; or None."""
+        why, out = asking.why_not(stream_of(made)), watched(made).splitlines()[0]
+        self.assertIn(f"not judged: {why.partition(',')[0]}" if why else "both kept the protocol", out)
+        return why
+
+    @staticmethod
+    def sent(*parts, mtu=1_400):
+        """The frames of a connection whose first segments aren't here."""
+        made = Frames(mtu=mtu)
+        for side, octets in parts:
+            made.send(side, octets)
+        return made.frames
+
+    def test_a_request_of_class_2_may_be_a_later_one(self):
+        """Its answer may be that of an earlier connection, also if it comes in small segments."""
+        for answer in (CONFIRM, REFUSAL, ERROR, CLOSE, KNOWLEDGE, DATA, UNKNOWN):
+            for request in (REQUEST, EITHER):
+                for mtu in (1_400, 10, 4):
+                    self.assertRegex(self.said(self.sent(("left", request), ("right", answer), mtu=mtu)) or "", MIDDLE)
+
+    def test_a_request_of_class_0_is_the_first(self):
+        for answer in (CC, REFUSAL, ERROR, UNKNOWN, CC[:5], CC[:8]):
+            for mtu in (1_400, 4):
+                self.assertIsNone(self.said(self.sent(("left", CR), ("right", answer), mtu=mtu)))
+        for answer in (KNOWLEDGE, DT):
+            self.assertRegex(self.said(self.sent(("left", CR), ("right", answer))), MIDDLE)
+        for request in (packet(bytes.fromhex("09e00000000300c0020a0a")), packet(bytes.fromhex("09e00000000300c70100"))):
+            self.assertTrue(streams.offers_class_0_alone(request))
+        for request in (REQUEST, EITHER, packet(bytes.fromhex("0ce00000000300c00102c70120")), CR[:8], b""):
+            self.assertFalse(streams.offers_class_0_alone(request))
+
+    def test_octets_before_the_first_ones_were_acknowledged(self):
+        """So the connection is older than its first CR that is here."""
+        made = Frames()
+        made.put("left", acknowledged=made.next["right"] - 200).put("right", acknowledged=made.next["left"] - 100)
+        self.assertRegex(self.said(made.send("left", CR).send("right", CC).frames), MIDDLE)
+
+    def test_an_answer_to_octets_with_the_first_segment_is_lost(self):
+        """TCP Fast Open: nothing shows that the other side sent octets before its first ones that are here."""
+        made = Frames().put("left", CR, SYN).put("right", flags=SYN | ACK).put("left").send("right", CC)
+        made.send("left", CN).send("right", AC).send("left", DT)
+        self.assertIsNone(self.said(made.frames))
+        for lost, said in (((1, 2, 3), MIDDLE), ((1, 3), f"the first {len(CC)} octets of right are lost"), ((1, 2), "None")):
+            why = self.said([frame for place, frame in enumerate(made.frames) if place not in lost])
+            self.assertRegex(str(why), f"^{said}")
+
+
+class Silent(Room):
+    """Nothing passed, since the first octets of a side are lost."""
+
+    @needs_osi
+    def test_the_stream_is_named(self):
+        made = whole()[0]
+        for lost, said in (((0, 3), f"the first {len(CR)} octets of left are lost, at frame 3"), ((1, 2, 3, 4), f"the first {len(CR)} octets of left are lost, at frame 2"),
+                           ((1, 4), f"the first {len(CC)} octets of right are lost, at frame 4")):
+            kept = [frame for place, frame in enumerate(made) if place not in lost]
+            status, out, err = call(kept, "judge")
+            self.assertEqual((status, err), (2, ""))
+            self.assertRegex(out, f"^stream 0 .* not judged: .*{said}\nended: .* [0-9.]+ seconds")
+            self.assertIn(said, watched(kept))
+            self.assertIn(said, call(kept, "list")[1])
+            report = mock.Mock(ended=[], why=said, stream=stream_of(kept))
+            self.assertEqual(annotating.comments_of(report), [(1 if "left" in said else 3, f"not judged: {said}")])
+
+    def test_what_waits_at_the_port_has_to_be_packets(self):
+        made = Frames().begin().send("left", CR).send("right", b"HTTP/1.1 400\r\n").frames
+        with self.assertRaisesRegex(asking.BadInput, "carries no TPKT|no TCP stream carries TPKT"):
+            asking.found_in(self.write(pcap_of(made[:3] + made[4:])), 102)
+
+
+if __name__ == "__main__":
+    unittest.main()
