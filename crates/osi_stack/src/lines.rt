@@ -292,11 +292,10 @@ impl Line {
                 forget(&mut self.session, &mut self.waiting, phase.shows_loss());
                 return Err(AllocError);
             };
-            self.waiting
-                .push_back_reserved(Indication::MinorConfirmed {
-                    number,
-                    user_data: Octets::new(alloc),
-                });
+            self.waiting.push_back_reserved(Indication::MinorConfirmed {
+                number,
+                user_data: Octets::new(alloc),
+            });
             return Ok(());
         }
         self.receive_rare(alloc, tsdu, carrier)
