@@ -1,9 +1,5 @@
 //! What happens to a session apart from its calls.
 
-ghost use Rattle.std.specs.Prelude.{◌≡◌, IfSome};
-ghost use Rattle.osi_session.specs.Listening.{came};
-ghost use Rattle.osi_stack.specs.Events.{event_input};
-
 /// What happens to a session, apart from the calls of its user.
 #[derive(Drop)]
 pub enum SessionEvent<'a> {
@@ -17,18 +13,4 @@ pub enum SessionEvent<'a> {
     Lent(&'a [u8]),
     /// The transport connection was closed, or had a fault.
     Lost,
-}
-
-impl SessionEvent<'_> {
-    /// The octets of a TSDU that was received.
-    #[inline(always)]
-    pub fn tsdu(&self) -> Option<&[u8]>
-        ensures { IfSome result (λ tsdu. event_input self.now ≡ came tsdu.now) }
-    {
-        match self {
-            SessionEvent::Tsdu(tsdu) => Some(tsdu.as_slice()),
-            SessionEvent::Lent(tsdu) => Some(tsdu),
-            SessionEvent::Opened | SessionEvent::Refused(_) | SessionEvent::Lost => None,
-        }
-    }
 }

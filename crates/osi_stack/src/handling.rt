@@ -74,10 +74,12 @@ fn is_connect(shown: &Indication) -> bool
     matches!(shown, Indication::Connect { .. })
 }
 
-/// A session handles any event; a TSDU as one that is not expected, because [`handle_event`] tried that. The function
-/// is kept out of line: otherwise stack space for everything that it may do would be reserved on the data path, too.
+/// A session handles any event, a TSDU as one that is not expected; returns whether it indicates that a connection is requested.
+/// There is room for one pending indication, and afterwards for one more. Memory is needed only if something is indicated, sent
+/// or joined, or a DR is written; an allocation failure leaves the pending indications and the carrier unchanged. The function is
+/// kept out of line: otherwise stack space for everything that it may do would be reserved on the data path, too.
 #[inline(never)]
-fn handle_unexpected(
+pub fn handle_event(
     alloc: Global,
     session: &mut Session,
     waiting: &mut VecDeque<Indication>,
@@ -125,49 +127,49 @@ fn handle_unexpected(
     Ok(connects)
 }
 
-/// A session handles an event; returns whether it indicates that a connection is requested. There is room for one
-/// pending indication, and afterwards for one more. Memory is needed only if something is indicated, sent or joined,
-/// or a DR is written; an allocation failure leaves the pending indications and the carrier unchanged. A TSDU is tried
-/// once as one that is expected, which is the fast path; any other goes to the general reader.
-pub fn handle_event(
+/// A session handles a TSDU that is neither whole data nor a point that it expects: it is tried as a part of one Data or as a
+/// brief message, which is the fast path, and any other goes to the general reader. Returns whether it indicates that a
+/// connection is requested. There is room for one pending indication, and afterwards for one more. Memory is needed only if
+/// something is indicated, sent or joined, or a DR is written; an allocation failure leaves the pending indications and the
+/// carrier unchanged.
+pub fn handle_tsdu(
     alloc: Global,
     session: &mut Session,
     waiting: &mut VecDeque<Indication>,
-    event: &SessionEvent<'_>,
+    tsdu: &[u8],
     carrier: &mut Carrier,
     reference: u16,
 ) -> Result<bool, AllocError>
     requires { deque_len waiting.old < deque_capacity waiting.old }
-    ensures connects { IfOk result (λ b. b ≡ shows_connect (react session.old (event_input event.now)).shown) }
-    ensures session { OnOk result (session.new ≡ (react session.old (event_input event.now)).next) }
+    ensures connects { IfOk result (λ b. b ≡ shows_connect (react session.old (came tsdu.now)).shown) }
+    ensures session { OnOk result (session.new ≡ (react session.old (came tsdu.now)).next) }
     ensures shown { OnOk result (map shown_by waiting.new.items ≡ map shown_by waiting.old.items
-        ++ (react session.old (event_input event.now)).shown) }
+        ++ (react session.old (came tsdu.now)).shown) }
     ensures room { OnOk result (deque_len waiting.new < deque_capacity waiting.new) }
     ensures carrier { OnOk result (carrier.new
         ≡ record carrier.old {
-          state = answers reference (limit_for session.old (event_input event.now))
-              (react session.old (event_input event.now)) carrier.old.state;
+          state = answers reference (limit_for session.old (came tsdu.now))
+              (react session.old (came tsdu.now)) carrier.old.state;
         }) }
     ensures kept { OnErr result (waiting.new.items ≡ waiting.old.items) }
     ensures len { OnErr result (deque_len waiting.new ≡ deque_len waiting.old) }
     ensures capacity { OnErr result (deque_capacity waiting.old ≤ deque_capacity waiting.new) }
     ensures err { OnErr result (carrier.new ≡ carrier.old) }
-    ensures needed { OnErr result (session_needs reference (Some session.old) (event_input event.now) carrier.old.state ≡ true) }
+    ensures needed { OnErr result (session_needs reference (Some session.old) (came tsdu.now) carrier.old.state ≡ true) }
 {
-    if let Some(tsdu) = event.tsdu() {
-        match session.take_expected(tsdu)? {
-            Expected::Shown(indication) => {
-                let connects = is_connect(&indication);
-                let Ok(()) = waiting.reserve(2) else {
-                    drop(indication);
-                    return Err(AllocError);
-                };
-                waiting.push_back_reserved(indication);
-                return Ok(connects);
-            }
-            Expected::Joined => return Ok(false),
-            Expected::Other => (),
+    match session.take_plain(tsdu)? {
+        Expected::Shown(indication) => {
+            let connects = is_connect(&indication);
+            let Ok(()) = waiting.reserve(2) else {
+                drop(indication);
+                return Err(AllocError);
+            };
+            waiting.push_back_reserved(indication);
+            return Ok(connects);
         }
+        Expected::Joined => return Ok(false),
+        Expected::Other => (),
     }
-    handle_unexpected(alloc, session, waiting, event, carrier, reference)
+    let event = SessionEvent::Lent(tsdu);
+    handle_event(alloc, session, waiting, &event, carrier, reference)
 }

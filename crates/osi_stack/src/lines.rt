@@ -22,7 +22,7 @@ ghost use Rattle.osi_stack.specs.Selectors.{selectors_sent, selectors_told, sess
 
 use crate::calls::make_call;
 use crate::events::SessionEvent;
-use crate::handling::handle_event;
+use crate::handling::{handle_event, handle_tsdu};
 use crate::selectors::SessionSelectors;
 use osi_carrier::lookup::{Referred, is_above, place_in};
 use osi_carrier::{Carrier, Ref};
@@ -208,7 +208,7 @@ impl Line {
                     self.waiting.push_back_reserved(shown);
                     Ok(())
                 }
-                Err(tsdu) => self.receive_any(alloc, &SessionEvent::Tsdu(tsdu), carrier),
+                Err(tsdu) => self.receive_other(alloc, tsdu.as_slice(), carrier),
             },
             SessionEvent::Lent(tsdu) => self.receive_lent(alloc, tsdu, carrier),
             _ => self.receive_any(alloc, &event, carrier),
@@ -236,7 +236,7 @@ impl Line {
             return Ok(());
         };
         let Some(user_data) = session.expected_data(tsdu) else {
-            return self.receive_any(alloc, &SessionEvent::Lent(tsdu), carrier);
+            return self.receive_other(alloc, tsdu, carrier);
         };
         let Ok(user_data) = Octets::copy(alloc, user_data) else {
             self.lose();
@@ -252,8 +252,93 @@ impl Line {
         Ok(())
     }
 
-    /// The session handles an event other than data that it expects in a buffer of its own. If memory runs out, the
+    /// The session handles a TSDU that is not data that it expects. The indication of a point or of a confirmation
+    /// that it expects is made where it is kept. If memory runs out, the session is lost in its previous state. The function is
+    /// kept out of line, because data is more frequent.
+    #[inline(never)]
+    #[tactic(auto, using(crate::proofs::carried::sessions_that_are_lost::lost_line))]
+    fn receive_other(
+        &mut self,
+        alloc: Global,
+        tsdu: &[u8],
+        carrier: &mut Carrier,
+    ) -> Result<(), AllocError>
+        ensures reference { self.new.0 ≡ self.old.0 }
+        ensures ok { OnOk result (self.new ≡ (self.old.0, line_by self.old.1 self.old.1.session (came tsdu.now))) }
+        ensures carrier { OnOk result (carrier.new
+            ≡ record carrier.old { state = carrier_by self.old.0 self.old.1.session (came tsdu.now) carrier.old.state }) }
+        ensures lost { OnErr result (self.new ≡ (self.old.0, loses self.old.1)) }
+        ensures err { OnErr result (carrier.new ≡ carrier.old) }
+        ensures needed { OnErr result (session_needs self.old.0 self.old.1.session (came tsdu.now) carrier.old.state ≡ true) }
+    {
+        let Some(session) = &mut self.session else {
+            return Ok(());
+        };
+        let phase = session.phase();
+        if let Some(number) = session.take_minor(tsdu) {
+            let Ok(()) = self.waiting.reserve(2) else {
+                forget(&mut self.session, &mut self.waiting, phase.shows_loss());
+                return Err(AllocError);
+            };
+            self.waiting.push_back_reserved(Indication::Minor {
+                number,
+                confirm: true,
+                user_data: Octets::new(alloc),
+            });
+            return Ok(());
+        }
+        if let Some(number) = session.take_confirmation(tsdu) {
+            let Ok(()) = self.waiting.reserve(2) else {
+                forget(&mut self.session, &mut self.waiting, phase.shows_loss());
+                return Err(AllocError);
+            };
+            self.waiting.push_back_reserved(Indication::MinorConfirmed {
+                number,
+                user_data: Octets::new(alloc),
+            });
+            return Ok(());
+        }
+        self.receive_rare(alloc, tsdu, carrier)
+    }
+
+    /// The session handles a TSDU that is neither data nor a point nor a confirmation that it expects. If memory runs out, the
     /// session is lost in its previous state.
+    fn receive_rare(
+        &mut self,
+        alloc: Global,
+        tsdu: &[u8],
+        carrier: &mut Carrier,
+    ) -> Result<(), AllocError>
+        ensures reference { self.new.0 ≡ self.old.0 }
+        ensures ok { OnOk result (self.new ≡ (self.old.0, line_by self.old.1 self.old.1.session (came tsdu.now))) }
+        ensures carrier { OnOk result (carrier.new
+            ≡ record carrier.old { state = carrier_by self.old.0 self.old.1.session (came tsdu.now) carrier.old.state }) }
+        ensures lost { OnErr result (self.new ≡ (self.old.0, loses self.old.1)) }
+        ensures err { OnErr result (carrier.new ≡ carrier.old) }
+        ensures needed { OnErr result (session_needs self.old.0 self.old.1.session (came tsdu.now) carrier.old.state ≡ true) }
+    {
+        let Some(session) = &mut self.session else {
+            return Ok(());
+        };
+        let phase = session.phase();
+        let Ok(connects) = handle_tsdu(
+            alloc,
+            session,
+            &mut self.waiting,
+            tsdu,
+            carrier,
+            self.reference,
+        ) else {
+            forget(&mut self.session, &mut self.waiting, phase.shows_loss());
+            return Err(AllocError);
+        };
+        if connects {
+            keep_selectors(&mut self.selectors, &SessionEvent::Lent(tsdu));
+        }
+        Ok(())
+    }
+
+    /// The session handles an event other than a TSDU. If memory runs out, the session is lost in its previous state.
     fn receive_any(
         &mut self,
         alloc: Global,

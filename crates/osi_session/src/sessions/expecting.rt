@@ -85,10 +85,10 @@ impl Session {
     }
 
     /// The number of a minor point that asks for its confirmation, if the TSDU is one with no other parameter, and is
-    /// expected: the numbers are then those after it. A number is small, so the caller builds the indication where it
-    /// needs it.
+    /// expected: the session then has the numbers after it, the point is all that is indicated, and nothing is sent. `None`
+    /// changes nothing. A number is small, so the caller builds the indication where it needs it.
     #[inline(always)]
-    pub(super) fn take_minor(&mut self, tsdu: &[u8]) -> Option<u32>
+    pub fn take_minor(&mut self, tsdu: &[u8]) -> Option<u32>
         ensures shown { IfSome result (λ n. react self.old (came tsdu.now) ≡ only_shows self.new (Minor n true [])) }
         ensures rests { IfNone result (self.new ≡ self.old) }
     {
@@ -116,9 +116,10 @@ impl Session {
     }
 
     /// The number of the confirmation of a minor point, if the TSDU is one with no other parameter, and is expected: the
-    /// numbers are then those after it.
+    /// session then has the numbers after it, the confirmation is all that is indicated, and nothing is sent. `None` changes
+    /// nothing.
     #[inline(always)]
-    pub(super) fn take_confirmation(&mut self, tsdu: &[u8]) -> Option<u32>
+    pub fn take_confirmation(&mut self, tsdu: &[u8]) -> Option<u32>
         ensures shown { IfSome result (λ n. react self.old (came tsdu.now) ≡ only_shows self.new (MinorConfirmed n [])) }
         ensures rests { IfNone result (self.new ≡ self.old) }
     {
@@ -165,10 +166,11 @@ impl Session {
         })
     }
 
-    /// A TSDU that is neither whole data nor a point that is expected: a part of one Data, or a brief message. The function is
-    /// kept out of line, because those are more frequent.
+    /// Tries a TSDU as [`Session::take_expected`] does after [`Session::expected_data`], [`Session::take_minor`] and
+    /// [`Session::take_confirmation`] returned `None`: as a part of one Data, or as a brief message. The function is kept out of
+    /// line, because data and points are more frequent.
     #[inline(never)]
-    pub(super) fn take_plain(&mut self, tsdu: &[u8]) -> Result<Expected, AllocError>
+    pub fn take_plain(&mut self, tsdu: &[u8]) -> Result<Expected, AllocError>
         ensures { Tries result (react self.old (came tsdu.now)) self.old self.new }
     {
         if tsdu.len() <= LONGEST_BRIEF {

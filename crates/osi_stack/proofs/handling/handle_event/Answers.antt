@@ -1,7 +1,7 @@
 use Rattle.osi_stack.proofs.Vocabulary.{answers_by, unwrap_or, [], answers, limit_for, react, event_input, ◌≡◌, arith, rules}
 use Rattle.osi_stack.proofs.called.tsdus_that_are_handed_together.{answer_heard}
-use Rattle.osi_stack.proofs.handling.handle_unexpected.Goals.{In_ok-first}
-use Rattle.osi_stack.proofs.handling.handle_unexpected.Goals as goal
+use Rattle.osi_stack.proofs.handling.handle_event.Goals.{In_ok-first}
+use Rattle.osi_stack.proofs.handling.handle_event.Goals as goal
 
 -- what is handed over for the session
 handed_over : (c : In_ok-first) → answers_by c.in_ok-first.field-0.closes c.args.reference (unwrap_or c.in_ok-first.field-0.reply [])
