@@ -12,3 +12,4 @@ pub mod some_units_may_go_now
 pub mod what_is_copied_of_pieces
 pub mod pieces_are_written_straight
 pub mod what_needs_memory_does_something
+pub mod what_is_put_is_written

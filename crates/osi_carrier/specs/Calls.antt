@@ -1,7 +1,7 @@
--- The results and effects of the calls of a carrier's user.
-use Rattle.std.specs.Prelude.{◌≡◌, ℕ, ◌+◌, ◌<◌, ◌^◌, Bool, List, [], ◌∷◌, length, nat_le, nat_lt, Option, Some, None, is_some, not, if◌then◌else◌}
+-- The results and effects of the calls of a carrier's user, and the units that it puts by them.
+use Rattle.std.specs.Prelude.{◌≡◌, ℕ, ◌+◌, ◌<◌, ◌^◌, Bool, List, [], ◌∷◌, ◌++◌, length, nat_le, nat_lt, Option, Some, None, is_some, not, if◌then◌else◌}
 use Rattle.std.specs.List.{list_any, sum_by}
-use Rattle.osi_tpdu.specs.Value.{request, disconnect}
+use Rattle.osi_tpdu.specs.Value.{Value, request, disconnect}
 use Rattle.osi_class.specs.Giving.{one_by_one}
 use Rattle.osi_class.specs.Link.{Standing, next, with_tsdu, with_tsdus, unsent_octets}
 use Rattle.osi_class.specs.Tsdus.{octets_of_tsdus}
@@ -10,7 +10,7 @@ use Rattle.osi_class.specs.declared.terms.Class.TheVariants.{Zero, Two}
 use Rattle.osi_class.specs.declared.terms.Local.{Local}
 use Rattle.osi_carrier.specs.Happenings.{Happening}
 use Rattle.osi_carrier.specs.Negotiation.{proposal}
-use Rattle.osi_carrier.specs.Pump.{written_for}
+use Rattle.osi_carrier.specs.Pump.{written_by, written_for}
 use Rattle.osi_carrier.specs.React.{pumps}
 use Rattle.osi_carrier.specs.Rows.{Rows, value_at}
 use Rattle.osi_carrier.specs.State.{Connection, asked, linked, closing, TsapIds, State, writes, joins, moves, ends}
@@ -57,10 +57,13 @@ open_error OneConnection = Some OneConnection
 open_error TooMany = Some TooMany
 open_error ReferencesUsedUp = Some ReferencesUsedUp
 
--- the next reference is given, and a CR is written
+-- the next reference is given, and a CR is put
+abbrev pub put_asking : Option (List ℕ) → Option (List ℕ) → State → List Value
+put_asking calling called s = request (proposal s.local s.class calling called (s.given + 1)) ∷ []
+
 abbrev pub asks : Option (List ℕ) → Option (List ℕ) → State → State
 asks calling called s =
-    writes (request (proposal s.local s.class calling called (s.given + 1)) ∷ [])
+    writes (put_asking calling called s)
     (joins (s.given + 1) asked (record { calling = calling; called = called }) (record s { given = s.given + 1 }))
 
 -- ---- send and close
@@ -104,10 +107,14 @@ call_error NoRoom = None
 call_error NotOpen = Some NotOpen
 call_error TooLong = Some TooLong
 
--- a TSDU is handed in, and everything that may be sent now is written
+-- a TSDU is handed in, and everything that may be sent now is put
 abbrev pub sent_on : ℕ → List ℕ → Option (ℕ × Standing) → State → State
 sent_on r tsdu None s = s
 sent_on r tsdu (Some (peer, link)) s = pumps r peer (with_tsdu link tsdu) s
+
+abbrev pub put_sent : List ℕ → Option (ℕ × Standing) → List Value
+put_sent tsdu None = []
+put_sent tsdu (Some (peer, link)) = written_by peer (with_tsdu link tsdu)
 
 abbrev pub sent : ℕ → List ℕ → State → State
 sent r tsdu s = sent_on r tsdu (open_link r s) s
@@ -116,6 +123,10 @@ sent r tsdu s = sent_on r tsdu (open_link r s) s
 abbrev pub sent_all : ℕ → List (List ℕ) → State → State
 sent_all r [] s = s
 sent_all r (tsdu ∷ tsdus) s = sent_all r tsdus (sent r tsdu s)
+
+abbrev pub put_together : ℕ → List (List ℕ) → State → List Value
+put_together r [] s = []
+put_together r (tsdu ∷ tsdus) s = put_sent tsdu (open_link r s) ++ put_together r tsdus (sent r tsdu s)
 
 -- the effect of that on an open connection
 abbrev pub pumps_all : ℕ → ℕ → Standing → List (List ℕ) → State → State
@@ -147,9 +158,17 @@ abbrev pub closes : ℕ → ℕ → ℕ → Option Class → State → State
 closes r peer reason (Some Zero) s = ends Closed s
 closes r peer reason held s = writes (disconnect peer r reason [] ∷ []) (moves r (closing peer) s)
 
+abbrev pub put_closed : (r reason peer : ℕ) → Option Class → List Value
+put_closed r reason peer (Some Zero) = []
+put_closed r reason peer held = disconnect peer r reason [] ∷ []
+
 abbrev pub closed_on : ℕ → ℕ → Option (ℕ × Standing) → State → State
 closed_on r reason None s = s
 closed_on r reason (Some (peer, link)) s = closes r peer reason s.class s
+
+abbrev pub put_closing : (r reason : ℕ) → Option (ℕ × Standing) → Option Class → List Value
+put_closing r reason None held = []
+put_closing r reason (Some (peer, link)) held = put_closed r reason peer held
 
 abbrev pub closed_with : ℕ → ℕ → State → State
 closed_with r reason s = closed_on r reason (open_link r s) s

@@ -4,7 +4,8 @@ use Rattle.std.specs.List.{flat_map}
 use Rattle.osi_tpkt.specs.Packet.{IsPartial}
 use Rattle.osi_tpkt.specs.Stream.{ArePackets, offset_of}
 use Rattle.osi_tpkt.specs.declared.cutting.Fed.{Fed}
-use Rattle.osi_carrier.specs.Calls.{asks, sent, sent_all, closed_with, ended_by, Tells}
+use Rattle.osi_tpdu.specs.Value.{Value}
+use Rattle.osi_carrier.specs.Calls.{asks, sent, sent_all, closed_with, ended_by, open_link, put_asking, put_closing, put_sent, put_together, Tells}
 use Rattle.osi_carrier.specs.Happenings.{Happening}
 use Rattle.osi_carrier.specs.Packets.{Carrying, Feeds, after_packet}
 use Rattle.osi_carrier.specs.State.{State}
@@ -32,6 +33,14 @@ user_does (sends r octets) s = sent r octets s
 user_does (sends_all r tsdus) s = sent_all r tsdus s
 user_does (closes r reason) s = closed_with r reason s
 user_does (breaks reason) s = ended_by reason s
+
+-- the units that are put by that
+abbrev pub put_by : UserCall → State → List Value
+put_by (connects calling called) s = put_asking calling called s
+put_by (sends r octets) s = put_sent octets (open_link r s)
+put_by (sends_all r tsdus) s = put_together r tsdus s
+put_by (closes r reason) s = put_closing r reason (open_link r s) s.class
+put_by (breaks reason) s = []
 
 abbrev pub does : Act → State → State
 does (packet unit) s = after_packet s unit

@@ -47,6 +47,18 @@ packets units = flat_map (λ unit. packet_of (written unit)) units
 abbrev pub writes : List Value → State → State
 writes units s = record s { outgoing = s.outgoing ++ packets units }
 
+-- What a carrier does: its state then, and the units that it puts on the byte connection.
+pub record Outcome : Type 0 where
+  pub state : State
+  pub put : List Value
+
+-- units that are put are written
+abbrev pub puts : List Value → State → Outcome
+puts units s = record { state = writes units s; put = units }
+
+abbrev pub puts_none : State → Outcome
+puts_none s = record { state = s; put = [] }
+
 abbrev pub tells : Happening → State → State
 tells event s = record s { events = s.events ++ event ∷ [] }
 

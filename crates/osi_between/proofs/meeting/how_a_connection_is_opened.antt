@@ -67,9 +67,9 @@ accepts_moves n c s r next a orderly quiet called two free room left supports =
     let m = r.given + 1 in
     let d = request_of s.local a.class a.calling a.called m in
     let is : c ≡ d = a.is ∙ ap (λ (k : ℕ). request_of s.local a.class a.calling a.called k) next in
-    let does : react (request c) r ≡ accepts Two (selected_size d r.local) d r = grind (arith, react_quiet) in
+    let does : react (request c) r ≡ (accepts Two (selected_size d r.local) d r).state = grind (arith, react_quiet) in
     let p = opened_pair (caller_link m s.local r.local d) (called_link r.local d) in
-    let t = accepts Two (selected_size d r.local) d r in
+    let t = (accepts Two (selected_size d r.local) d r).state in
     let others : (q : ℕ) → q ≢ m → place_at q t ≡ place_at q r =
     λ q apart. push_places r t (linked m (called_link r.local d)) q refl refl apart in
     let may : MayTakeTwo t.class = inr refl in
@@ -169,7 +169,7 @@ confirm_moves n c p why each s r h quiet caller two supports le at =
     let m = opened_as p why in
     let us = back n m ++ uncut_units (unsent_at (there n m)) in
     let none : p.left.ends.unsent ≡ [] = ap (λ (l : Standing). l.ends.unsent) h.left in
-    let does : react (confirm n answer) s ≡ opens n answer (Some Two) s = grind (arith, react_quiet) in
+    let does : react (confirm n answer) s ≡ (opens n answer (Some Two) s).state = grind (arith, react_quiet) in
     subst (λ (t : State). CourseMoves true n (opening c p why) s r t (confirm n answer ∷ []) 0 []) (sym does) (record {
       new = met m;
       units = [];

@@ -91,12 +91,12 @@ refuses : (reason : ℕ) (s r : State) (going coming rest : List Value) (c : Con
 refuses reason s r going coming rest c j live is back some a cut =
     let n = s.given in
     let few = j.few in
-    let t = denies reason c.source r in
+    let t = (denies reason c.source r).state in
     let source = source_is n s.local c a in
     let given = j.given_called in
     let here = next_never r n (omega arith) in
     let put = denying n reason in
-    let does : react (request c) r ≡ denies reason c.source r = grind (arith, length, has_room, react_quiet) in
+    let does : react (request c) r ≡ (denies reason c.source r).state = grind (arith, length, has_room, react_quiet) in
     rw does (record {
       steps = record {
         units = put ∷ [];
@@ -131,7 +131,7 @@ is_refused : (reason : ℕ) (s r : State) (going coming rest : List Value) → A
 is_refused reason s r going coming rest j live none is some cut =
     let n = s.given in
     let u = denying n reason in
-    let t = to_asked n u s in
+    let t = (to_asked n u s).state in
     let given = j.given_called in
     let here = last_place s asked live in
     let there = next_never r n (omega arith) in

@@ -204,7 +204,7 @@ request_taken s r c called terms one a =
     let link = opened_link Zero (selected_size c r.local) r.local c.credit in
     let p = opened_pair (opened_link Zero (agreed_size answer.parameters.size s.local) s.local answer.credit) link in
     let selects : selected_by c r.local ≡ accept Zero (selected_size c r.local) = grind arith in
-    let does : react (request c) r ≡ accepts Zero (selected_size c r.local) c r = grind (arith, length, has_room, react_quiet) in
+    let does : react (request c) r ≡ (accepts Zero (selected_size c r.local) c r).state = grind (arith, length, has_room, react_quiet) in
     subst (λ (x : State). ZeroMoves false (asking c) r s x (request c ∷ []) (agree ∷ [])) (sym does) (record {
       new = accepting c p;
       here = grind arith;
@@ -231,7 +231,7 @@ pub confirm_taken : (s r : State) (c : Connect) (p : LinkPair) → s.is_caller �
 confirm_taken s r c p caller terms one h =
     let answer = answer_of r.local c in
     let link = opened_link Zero (agreed_size answer.parameters.size s.local) s.local answer.credit in
-    let does : react (confirm 1 answer) s ≡ opens 1 answer (Some Zero) s = grind (arith, react_quiet) in
+    let does : react (confirm 1 answer) s ≡ (opens 1 answer (Some Zero) s).state = grind (arith, react_quiet) in
     let live : put 1 (linked 1 link) s.live ≡ (1, linked 1 p.left) ∷ [] =
     ap (put 1 (linked 1 link)) one.live ∙ ap (λ (l : Standing). (1, linked 1 l) ∷ []) (sym h.left) in
     subst (λ (x : State). ZeroMoves true (accepting c p) s r x (confirm 1 answer ∷ []) []) (sym does) (record {
@@ -272,7 +272,7 @@ talk_takes end each this other p g gs role one a e =
     let t = left_takes false x g gs 1 (omega arith) (open_from end p a) e in
     let given = all_given (handed_out t.link) in
     let got = take 1 t.link.ends.joining.whole in
-    let does : react (unit_of 1 g) this ≡ settles 1 1 t.link this = grind (arith, react_quiet) in
+    let does : react (unit_of 1 g) this ≡ (settles 1 1 t.link this).state = grind (arith, react_quiet) in
     let at : value_at 1 this.live ≡ Some (linked 1 x.left) = ap (value_at 1) one.live in
     let changes = settled_changes 1 this x.left t.link at in
     let c = talking_carries false 1 x (after_take x t.link gs) [] got (open_from end p a) t.passes in
@@ -280,7 +280,7 @@ talk_takes end each this other p g gs role one a e =
     let idle = idle_all in_use (map message got) refl brings.may in
     subst (λ (s : State). ZeroMoves end (talking p) this other s (unit_of 1 g ∷ []) []) (sym does) (record {
       new = talking (pair_from end (after_take x t.link gs));
-      here = one_changed this (settles 1 1 t.link this) x.left (pumped (handed_out t.link)) (addressed 1 given) (map (tsdu 1) got) one
+      here = one_changed this (settles 1 1 t.link this).state x.left (pumped (handed_out t.link)) (addressed 1 given) (map (tsdu 1) got) one
           changes;
       there = refl;
       holds = open_from end (after_take x t.link gs) t.passes.stay_open;

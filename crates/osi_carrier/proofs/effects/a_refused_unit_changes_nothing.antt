@@ -15,7 +15,7 @@ pub broke_octets : (peer : ℕ) (before after : List ℕ) (t : Result Standing L
 broke_octets peer before after t fault e h = h ∙ ap (λ u. before ++ packets (units_after peer u)) e ∙ append-nil before
 
 pub broke_taking : (r peer : ℕ) (s mid new : State) (t : Result Standing LinkFault) (fault : LinkFault) → t ≡ Err fault → mid ≡ s →
-    new ≡ breaks r peer fault mid.class mid → new ≡ taking r peer t s
+    new ≡ (breaks r peer fault mid.class mid).state → new ≡ (taking r peer t s).state
 broke_taking r peer s mid new t fault e same h = grind arith
 
 -- ---- when it takes a unit
@@ -26,7 +26,7 @@ pub took_taking : (r peer : ℕ) (s now : State) (t : Result Standing LinkFault)
       outgoing = s.outgoing ++ packets (units_after peer t);
       events = s.events ++ map (tsdu r) whole;
     } →
-    now ≡ taking r peer t s
+    now ≡ (taking r peer t s).state
 took_taking r peer s now h whole ok e h2 = grind arith
 
 -- nothing stays of what was written after this many octets
@@ -50,5 +50,5 @@ pub breaks_two : (r peer : ℕ) (fault : LinkFault) (s t : State) → s.class �
       outgoing = s.outgoing ++ packets (disconnect peer r 133 [] ∷ []);
       events = s.events ++ faulted r fault ∷ [];
     } →
-    t ≡ breaks r peer fault s.class s
-breaks_two r peer fault s t class h = h ∙ sym (ap (λ k. breaks r peer fault k s) class)
+    t ≡ (breaks r peer fault s.class s).state
+breaks_two r peer fault s t class h = h ∙ sym (ap (λ k. (breaks r peer fault k s).state) class)

@@ -67,53 +67,53 @@ effect_end r reason s =
 -- ---- a CR
 
 effect_answers : (c : Connect) (selection : Selection) (held : Option Class) (s : State) → length s.live < 64 → s.given < 65535 →
-    Effect (s.given + 1) s (answers c selection held s)
+    Effect (s.given + 1) s (answers c selection held s).state
 effect_answers c (refuse reason) held s room left = grind (arith, silent)
 effect_answers c (accept Zero size) (Some class) s room left = grind (arith, silent)
 effect_answers c (accept class size) held s room left = grind arith
 
 answers_by : (c : Connect) (s : State) (in_use full : Bool) → (full ≡ false → (length s.live < 64) × (s.given < 65535)) →
     Effect (s.given + 1) s
-    (if in_use then denies 131 c.source s else (if full then denies 1 c.source s else answers c (selected_by c s.local) s.class s))
+    (if in_use then denies 131 c.source s else (if full then denies 1 c.source s else answers c (selected_by c s.local) s.class s)).state
 answers_by c s true full room = grind (arith, silent)
 answers_by c s false true room = grind (arith, silent)
 answers_by c s false false room = effect_answers c (selected_by c s.local) s.class s (room refl).0 (room refl).1
 
 -- ---- a unit for a connection
 
-effect_unknown : (r : ℕ) (unit : Value) (s : State) → Effect r s (to_unknown unit s)
+effect_unknown : (r : ℕ) (unit : Value) (s : State) → Effect r s (to_unknown unit s).state
 effect_unknown r unit s = search (arith, silent, effect_none, effect_end)
 
-effect_asked : (r : ℕ) (unit : Value) (s : State) → Effect r s (to_asked r unit s)
+effect_asked : (r : ℕ) (unit : Value) (s : State) → Effect r s (to_asked r unit s).state
 effect_asked r (confirm destination c) s = grind (arith, effect_end, put_named)
 effect_asked r (disconnect destination source reason user) s = grind arith
 effect_asked r (error destination cause) s = grind arith
 effect_asked r unit s = effect_unknown r unit s
 
-effect_taking : (r peer : ℕ) (result : Result Standing LinkFault) (s : State) → Effect r s (taking r peer result s)
+effect_taking : (r peer : ℕ) (result : Result Standing LinkFault) (s : State) → Effect r s (taking r peer result s).state
 effect_taking r peer result s = grind (arith, silent, append-nil, effect_end, put_named)
 
 effect_dropped : (r : ℕ) (s : State) → Effect r s (drops r s)
 effect_dropped r s =
     silent r s (drops r s) refl (inl (record { given = refl; ended = refl; live = inr (inr refl) })) (inr (inl (r, refl, refl)))
 
-effect_connection : (r : ℕ) (o : Option Connection) (unit : Value) (s : State) → Effect r s (to_connection r o unit s)
+effect_connection : (r : ℕ) (o : Option Connection) (unit : Value) (s : State) → Effect r s (to_connection r o unit s).state
 effect_connection r o unit s = search (arith, effect_unknown, effect_asked, effect_taking, effect_dropped, effect_none)
 
 -- ---- by class
 
-effect_before : (is_caller : Bool) (unit : Value) (s : State) → Effect (connection_by None unit s) s (before_class is_caller unit s)
+effect_before : (is_caller : Bool) (unit : Value) (s : State) → Effect (connection_by None unit s) s (before_class is_caller unit s).state
 effect_before true (confirm destination c) s = grind (arith, effect_connection)
 effect_before true (disconnect destination source reason user) s = grind (arith, effect_connection)
 effect_before true (error destination cause) s = grind (arith, effect_connection)
 effect_before false (request c) s = search (arith, answers_by)
 effect_before is_caller unit s = effect_end _ _ s
 
-only_by : (live : Rows Connection) (unit : Value) (s : State) → Effect (only_of live) s (to_only live unit s)
+only_by : (live : Rows Connection) (unit : Value) (s : State) → Effect (only_of live) s (to_only live unit s).state
 only_by [] unit s = effect_none 0 s
 only_by ((r, connection) ∷ rows) unit s = effect_connection r (Some connection) unit s
 
-effect_class : (held : Option Class) (unit : Value) (s : State) → Effect (connection_by held unit s) s (in_class held unit s)
+effect_class : (held : Option Class) (unit : Value) (s : State) → Effect (connection_by held unit s) s (in_class held unit s).state
 effect_class held unit s = search (arith, effect_before, effect_end, only_by, answers_by, effect_connection)
 
 pub effect : (unit : Value) (s : State) → Effect (connection_of unit s) s (react unit s)

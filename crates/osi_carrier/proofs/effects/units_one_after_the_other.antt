@@ -8,13 +8,13 @@ reacts_join [] vs s = refl
 reacts_join (u ∷ us) vs s = reacts_join us vs (react u s)
 
 -- before the end a unit acts by the class
-pub react_quiet : (unit : Value) (s : State) → s.ended ≡ None → react unit s ≡ in_class s.class unit s
+pub react_quiet : (unit : Value) (s : State) → s.ended ≡ None → react unit s ≡ (in_class s.class unit s).state
 unfolding react
-react_quiet unit s quiet = ap (λ o. react_by (is_some o) unit s) quiet
+react_quiet unit s quiet = ap (λ o. (react_by (is_some o) unit s).state) quiet
 
 pub react_over : (unit : Value) (s : State) → is_some s.ended ≡ true → react unit s ≡ s
 unfolding react
-react_over unit s over = ap (λ b. react_by b unit s) over
+react_over unit s over = ap (λ b. (react_by b unit s).state) over
 
 -- after the end no unit acts
 pub reacts_over : (us : List Value) (s : State) → is_some s.ended ≡ true → reacts us s ≡ s
@@ -29,19 +29,19 @@ pub record IsAlong (start : State) (all : List Value) (now : State) (left : List
   pub lasts : now.ended ≡ None
 
 pub along_next : (start now after : State) (all left more : List Value) (unit : Value) → IsAlong start all now left → left ≡ unit ∷ more →
-    after ≡ in_class now.class unit now → after.ended ≡ None → IsAlong start all after more
+    after ≡ (in_class now.class unit now).state → after.ended ≡ None → IsAlong start all after more
 along_next start now after all left more unit h e acts lasts =
     grind (arith, append_assoc h.done (unit ∷ []) more, react_quiet unit now h.lasts, react unit, reacts_join h.done (unit ∷ []) start)
 
 -- a unit that ended the carrier was the last that acted
 pub along_over : (start now after : State) (all left more : List Value) (unit : Value) → IsAlong start all now left → left ≡ unit ∷ more →
-    after ≡ in_class now.class unit now → is_some after.ended ≡ true → Act start all after
+    after ≡ (in_class now.class unit now).state → is_some after.ended ≡ true → Act start all after
 along_over start now after all left more unit h e acts over = search (arith, react, react_quiet, reacts_over, reacts_join)
 
 -- a unit for which memory ran out did nothing
 pub along_starved : (start now tried after : State) (all left more : List Value) (unit : Value) → IsAlong start all now left →
     left ≡ unit ∷ more →
-    ends NoMemory tried ≡ ends NoMemory now → grows now (in_class now.class unit now) ≡ true → after ≡ ends NoMemory tried →
+    ends NoMemory tried ≡ ends NoMemory now → grows now (in_class now.class unit now).state ≡ true → after ≡ ends NoMemory tried →
     Act start all after
 along_starved start now tried after all left more unit h e nothing needs ended = grind (arith, react_quiet)
 
@@ -49,10 +49,10 @@ pub none_of : {A : Type 0} (o : Option A) → is_some o ≡ false → o ≡ None
 none_of o e = grind arith
 
 pub one_starved : (start tried after : State) (unit : Value) → start.ended ≡ None → ends NoMemory tried ≡ ends NoMemory start →
-    grows start (in_class start.class unit start) ≡ true → after ≡ ends NoMemory tried → Act start (unit ∷ []) after
+    grows start (in_class start.class unit start).state ≡ true → after ≡ ends NoMemory tried → Act start (unit ∷ []) after
 one_starved start tried after unit quiet nothing needs ended =
     along_starved start start tried after (unit ∷ []) (unit ∷ []) [] unit (grind arith) refl nothing needs ended
 
-pub one_taken : (start after then : State) (unit : Value) → start.ended ≡ None → in_class start.class unit start ≡ then → after ≡ then →
-    Act start (unit ∷ []) after
+pub one_taken : (start after then : State) (unit : Value) → start.ended ≡ None → (in_class start.class unit start).state ≡ then →
+    after ≡ then → Act start (unit ∷ []) after
 one_taken start after then unit quiet acts is = grind (arith, react_quiet)

@@ -14,28 +14,30 @@ module _ (e : List Happening) (o : List ℕ) where
 
   -- ---- a CR
 
-  apart_request : (c : Connect) (s : State) → answers_request c (put_back e o s) ≡ put_back e o (answers_request c s)
+  apart_request : (c : Connect) (s : State) → (answers_request c (put_back e o s)).state ≡ put_back e o (answers_request c s).state
   apart_request c s = grind (arith, apart_writes, append_assoc)
 
   -- ---- a unit for a connection
 
-  apart_unknown : (unit : Value) (s : State) → to_unknown unit (put_back e o s) ≡ put_back e o (to_unknown unit s)
+  apart_unknown : (unit : Value) (s : State) → (to_unknown unit (put_back e o s)).state ≡ put_back e o (to_unknown unit s).state
   apart_unknown (disconnect destination source reason octets) s = apart_writes (disconnected source destination ∷ []) s
   apart_unknown unit s = refl
 
-  apart_asked : (r : ℕ) (unit : Value) (s : State) → to_asked r unit (put_back e o s) ≡ put_back e o (to_asked r unit s)
+  apart_asked : (r : ℕ) (unit : Value) (s : State) → (to_asked r unit (put_back e o s)).state ≡ put_back e o (to_asked r unit s).state
   apart_asked r unit s = search (arith, append_assoc, apart_unknown)
 
   apart_linked : (r peer : ℕ) (link : Standing) (unit : Value) (s : State) →
-      to_linked r peer link unit (put_back e o s) ≡ put_back e o (to_linked r peer link unit s)
+      (to_linked r peer link unit (put_back e o s)).state ≡ put_back e o (to_linked r peer link unit s).state
   apart_linked r peer link unit s = search (arith, append_assoc, apart_writes)
 
-  apart_reference : (r : ℕ) (unit : Value) (s : State) → to_reference r unit (put_back e o s) ≡ put_back e o (to_reference r unit s)
+  apart_reference : (r : ℕ) (unit : Value) (s : State) →
+      (to_reference r unit (put_back e o s)).state ≡ put_back e o (to_reference r unit s).state
   apart_reference r unit s = grind (arith, apart_unknown, apart_asked, apart_linked)
 
   -- ---- by class
 
-  apart_only : (live : Rows Connection) (unit : Value) (s : State) → to_only live unit (put_back e o s) ≡ put_back e o (to_only live unit s)
+  apart_only : (live : Rows Connection) (unit : Value) (s : State) →
+      (to_only live unit (put_back e o s)).state ≡ put_back e o (to_only live unit s).state
   apart_only [] unit s = refl
   apart_only ((r, connection) ∷ rows) unit s = grind (arith, apart_unknown, apart_asked, apart_linked)
 

@@ -54,22 +54,22 @@ stays_told r q b was old now e here is = grind arith
 -- ---- a CR
 
 answers_told : (r : ℕ) (c : Connect) (selection : Selection) (held : Option Class) (s : State) → AreUpTo s.given s.live →
-    Told r s (answers c selection held s)
-answers_told r c (refuse reason) held s up = same_told r s (denies reason c.source s) refl refl
-answers_told r c (accept Zero size) (Some class) s up = same_told r s (denies 136 c.source s) refl refl
+    Told r s (answers c selection held s).state
+answers_told r c (refuse reason) held s up = same_told r s (denies reason c.source s).state refl refl
+answers_told r c (accept Zero size) (Some class) s up = same_told r s (denies 136 c.source s).state refl refl
 answers_told r c (accept class size) held s up = grind (arith, is_some, eqb-true, push_here, push_other, other_than, beyond)
 
 -- ---- a unit for a connection
 
-unknown_told : (r : ℕ) (unit : Value) (s : State) → (to_unknown unit s).ended ≡ None → Told r s (to_unknown unit s)
+unknown_told : (r : ℕ) (unit : Value) (s : State) → (to_unknown unit s).state.ended ≡ None → Told r s (to_unknown unit s).state
 unknown_told r unit s h = grind (arith, same_told, still_told, over_told)
 
 confirm_told : (r q : ℕ) (c : Connect) (class : Option Class) (s : State) → value_at q s.live ≡ Some asked →
-    (opens q c class s).ended ≡ None → Told r s (opens q c class s)
+    (opens q c class s).state.ended ≡ None → Told r s (opens q c class s).state
 confirm_told r q c class s here h = search (arith, over_told, eqb-true, put_here, put_other, other_than)
 
-asked_told : (r q : ℕ) (unit : Value) (s : State) → RiseFrom 0 s.live → value_at q s.live ≡ Some asked → (to_asked q unit s).ended ≡ None →
-    Told r s (to_asked q unit s)
+asked_told : (r q : ℕ) (unit : Value) (s : State) → RiseFrom 0 s.live → value_at q s.live ≡ Some asked →
+    (to_asked q unit s).state.ended ≡ None → Told r s (to_asked q unit s).state
 asked_told r q (confirm destination c) s rise here h = confirm_told r q c (confirmed c s.local s.class) s here h
 asked_told r q (disconnect destination source reason user) s rise here h =
     grind (arith, stays_told, open_was, is_some, eqb-true, without_here, without_other, other_than)
@@ -79,23 +79,23 @@ asked_told r q unit s rise here h = unknown_told r unit s h
 
 taking_told : (r q peer : ℕ) (link : Standing) (result : Result Standing LinkFault) (s : State) →
     value_at q s.live ≡ Some (linked peer link) →
-    (taking q peer result s).ended ≡ None → Told r s (taking q peer result s)
+    (taking q peer result s).state.ended ≡ None → Told r s (taking q peer result s).state
 taking_told r q peer link result s here h = search (arith, stays_told, open_was, eqb-true, put_here, put_other, other_than, over_told)
 
 closing_told : (r q peer : ℕ) (unit : Value) (s : State) → RiseFrom 0 s.live → value_at q s.live ≡ Some (closing peer) →
-    Told r s (to_closing q unit s)
+    Told r s (to_closing q unit s).state
 closing_told r q peer unit s rise here =
     search (arith, same_told, stays_told, open_was, is_some, eqb-true, without_here, without_other, other_than, still_told)
 
 connection_told : (r q : ℕ) (o : Option Connection) (unit : Value) (s : State) → RiseFrom 0 s.live → value_at q s.live ≡ o →
-    (to_connection q o unit s).ended ≡ None → Told r s (to_connection q o unit s)
+    (to_connection q o unit s).state.ended ≡ None → Told r s (to_connection q o unit s).state
 connection_told r q o unit s rise here h =
     search (arith, unknown_told, asked_told, is_some, eqb-true, without_here, without_other, other_than, taking_told, closing_told)
 
 -- ---- by class
 
-before_told : (r : ℕ) (is_caller : Bool) (unit : Value) (s : State) → IsOrderly s → (before_class is_caller unit s).ended ≡ None →
-    Told r s (before_class is_caller unit s)
+before_told : (r : ℕ) (is_caller : Bool) (unit : Value) (s : State) → IsOrderly s → (before_class is_caller unit s).state.ended ≡ None →
+    Told r s (before_class is_caller unit s).state
 before_told r true (confirm destination c) s o h = grind (arith, connection_told)
 before_told r true (disconnect destination source reason user) s o h = grind (arith, connection_told)
 before_told r true (error destination cause) s o h = grind (arith, connection_told)
@@ -103,15 +103,15 @@ before_told r false (request c) s o h = grind (arith, same_told, answers_told)
 before_told r is_caller unit s o h = over_told _ s h
 
 only_told : (r : ℕ) (live : Rows Connection) (unit : Value) (s : State) → s.live ≡ live → RiseFrom 0 s.live →
-    (to_only live unit s).ended ≡ None → Told r s (to_only live unit s)
+    (to_only live unit s).state.ended ≡ None → Told r s (to_only live unit s).state
 only_told r [] unit s e rise h = still_told r s
 only_told r ((q, c) ∷ rows) unit s e rise h =
     let test = eq-eqb q q refl in
     let here : value_at q ((q, c) ∷ rows) ≡ Some c = rw test refl in
     connection_told r q (Some c) unit s rise (ap (value_at q) e ∙ here) h
 
-two_told : (r : ℕ) (is_caller : Bool) (unit : Value) (s : State) → IsOrderly s → (in_two is_caller unit s).ended ≡ None →
-    Told r s (in_two is_caller unit s)
+two_told : (r : ℕ) (is_caller : Bool) (unit : Value) (s : State) → IsOrderly s → (in_two is_caller unit s).state.ended ≡ None →
+    Told r s (in_two is_caller unit s).state
 two_told r true (request c) s o h = over_told _ s h
 two_told r false (request c) s o h = grind (arith, same_told, answers_told)
 two_told r is_caller (data0 end user) s o h = over_told _ s h

@@ -7,5 +7,5 @@ has_room s few more = grind (arith, nat_tests)
 
 pub is_answered : {A E : Type 0} (result : Result A E) (c : Connect) (s new : State) (sel : Selection) → has_peer c.source s.live ≡ false →
     is_full s ≡ false →
-    sel ≡ selected_by c s.local → OnOk result (new ≡ answers c sel s.class s) → OnOk result (new ≡ answers_request c s)
+    sel ≡ selected_by c s.local → OnOk result (new ≡ (answers c sel s.class s).state) → OnOk result (new ≡ (answers_request c s).state)
 is_answered result c s new sel free room same h = grind arith

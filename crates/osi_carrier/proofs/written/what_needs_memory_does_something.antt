@@ -80,24 +80,24 @@ pub tells_drops_grows : (event : Happening) (r : ℕ) (s : State) → grows s (t
 tells_drops_grows event r s = tells_grows s (tells event (drops r s)) event refl
 
 pub unknown_grows : (destination source reason : ℕ) (user : List ℕ) (s : State) →
-    grows s (to_unknown (disconnect destination source reason user) s) ≡ true
+    grows s (to_unknown (disconnect destination source reason user) s).state ≡ true
 unknown_grows destination source reason user s =
-    writes_grows s (to_unknown (disconnect destination source reason user) s) (disconnected source destination) refl
+    writes_grows s (to_unknown (disconnect destination source reason user) s).state (disconnected source destination) refl
 
-pub denies_grows : (reason peer : ℕ) (s : State) → grows s (denies reason peer s) ≡ true
-denies_grows reason peer s = writes_grows s (denies reason peer s) (disconnect peer 0 reason []) refl
+pub denies_grows : (reason peer : ℕ) (s : State) → grows s (denies reason peer s).state ≡ true
+denies_grows reason peer s = writes_grows s (denies reason peer s).state (disconnect peer 0 reason []) refl
 
-pub accepts_grows : (class : Class) (size : Option ℕ) (c : Connect) (s : State) → grows s (accepts class size c s) ≡ true
-accepts_grows class size c s = tells_grows s (accepts class size c s) _ refl
+pub accepts_grows : (class : Class) (size : Option ℕ) (c : Connect) (s : State) → grows s (accepts class size c s).state ≡ true
+accepts_grows class size c s = tells_grows s (accepts class size c s).state _ refl
 
-pub opens_grows : (r : ℕ) (c : Connect) (class : Class) (s : State) → grows s (opens r c (Some class) s) ≡ true
-opens_grows r c class s = tells_grows s (opens r c (Some class) s) _ refl
+pub opens_grows : (r : ℕ) (c : Connect) (class : Class) (s : State) → grows s (opens r c (Some class) s).state ≡ true
+opens_grows r c class s = tells_grows s (opens r c (Some class) s).state _ refl
 
-pub leaves_grows : (r peer reason : ℕ) (held : Option Class) (s : State) → grows s (leaves r peer reason held s) ≡ true
+pub leaves_grows : (r peer reason : ℕ) (held : Option Class) (s : State) → grows s (leaves r peer reason held s).state ≡ true
 leaves_grows r peer reason held s = grind (arith, tells_grows)
 
 pub breaks_grows : (r peer : ℕ) (fault : LinkFault) (held : Option Class) (s : State) → held ≡ Some Two →
-    grows s (breaks r peer fault held s) ≡ true
+    grows s (breaks r peer fault held s).state ≡ true
 breaks_grows r peer fault held s e = grind (arith, tells_grows)
 
 -- a unit for which memory ran out
@@ -128,14 +128,14 @@ length_told r [] = refl
 length_told r (octets ∷ whole) = let more = length_told r whole in omega arith
 
 pub taking_grows : (r peer : ℕ) (s : State) (t : Result Standing LinkFault) → peer_in (value_at r s.live) ≡ Some peer →
-    link_grows peer (link_in (value_at r s.live)) t ≡ true → grows s (taking r peer t s) ≡ true
+    link_grows peer (link_in (value_at r s.live)) t ≡ true → grows s (taking r peer t s).state ≡ true
 taking_grows r peer s t stands h = grind (arith, written_grows, length_told, told_grows, put_kept, kept_grows, open_is, link_cases)
 
 -- a TSDU that became complete is reported
 pub took_grows : (r peer : ℕ) (s : State) (t : Result Standing LinkFault) (whole : List (List ℕ)) → IsOk t → whole ≡ whole_after t →
-    0 < length whole → grows s (taking r peer t s) ≡ true
+    0 < length whole → grows s (taking r peer t s).state ≡ true
 took_grows r peer s h whole ok e some = grind (arith, length_told, told_grows)
 
 pub broke_grows : (r peer : ℕ) (s mid : State) (t : Result Standing LinkFault) (fault : LinkFault) → t ≡ Err fault → mid ≡ s →
-    grows mid (breaks r peer fault mid.class mid) ≡ true → grows s (taking r peer t s) ≡ true
+    grows mid (breaks r peer fault mid.class mid).state ≡ true → grows s (taking r peer t s).state ≡ true
 broke_grows r peer s mid t fault e same h = grind arith

@@ -20,9 +20,9 @@ use std::alloc::AllocError;
 impl Switch {
     /// A unit for a reference that is not live: a DR is answered, a DC is ignored, and any other unit ends the carrier.
     pub fn to_unknown(&mut self, unit: &Tpdu<'_>) -> Result<(), AllocError>
-        ensures ok { OnOk result (self.new ≡ to_unknown (value unit.now) self.old) }
+        ensures ok { OnOk result (self.new ≡ (to_unknown (value unit.now) self.old).state) }
         ensures err { OnErr result (ends NoMemory self.new ≡ ends NoMemory self.old) }
-        ensures needs { OnErr result (grows self.old (to_unknown (value unit.now) self.old) ≡ true) }
+        ensures needs { OnErr result (grows self.old (to_unknown (value unit.now) self.old).state ≡ true) }
     {
         match unit {
             Tpdu::Dr(request) => {
@@ -38,7 +38,7 @@ impl Switch {
     /// A unit for a connection that is closing: a DC or a DR ends it, and any other unit is ignored.
     pub fn to_closing(&mut self, place: usize, reference: u16, unit: &Tpdu<'_>)
         requires { place_of reference self.old.live ≡ Some place }
-        ensures { self.new ≡ to_closing reference (value unit.now) self.old }
+        ensures { self.new ≡ (to_closing reference (value unit.now) self.old).state }
     {
         match unit {
             Tpdu::Dc(_) | Tpdu::Dr(_) => self.leave_out(place, reference),

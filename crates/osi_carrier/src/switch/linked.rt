@@ -39,11 +39,11 @@ impl Switch {
         requires place { place_of reference self.old.live ≡ Some place }
         requires open { peer_in (value_at reference self.old.live) ≡ Some peer }
         ensures ok { OnOk result (self.new
-            ≡ to_linked reference peer (link_in (value_at reference self.old.live)) (value unit.now) self.old) }
+            ≡ (to_linked reference peer (link_in (value_at reference self.old.live)) (value unit.now) self.old).state) }
         ensures err { OnErr result (ends NoMemory self.new ≡ ends NoMemory self.old) }
         ensures needs { OnErr
             result (grows self.old (to_linked reference peer (link_in (value_at reference self.old.live)) (value unit.now)
-            self.old) ≡ true) }
+            self.old).state ≡ true) }
     {
         match unit {
             Tpdu::Dr(request) => self.leave(place, reference, peer, request.reason),
@@ -73,14 +73,14 @@ impl Switch {
         ensures known { IfOk result (λ h. is_reached h ≡ is_some (peer_in (value_at reference self.old.live))) }
         ensures ok { (peer : ℕ) → peer_in (value_at reference self.old.live) ≡ Some peer →
             IfOk result (λ h. with_reached h reference (user_of (value unit.now)) self.new
-            ≡ taking reference peer (taken (link_in (value_at reference self.old.live)) (value unit.now)) self.old) }
+            ≡ (taking reference peer (taken (link_in (value_at reference self.old.live)) (value unit.now)) self.old).state) }
         ensures lent { IfOk result (λ h. LendsIf h lends self.old self.new) }
         ensures none { result ≡ Ok Reached.NotOpen → self.new ≡ self.old }
         ensures err { OnErr result (ends NoMemory self.new ≡ ends NoMemory self.old) }
         ensures refused { OnErr result (is_some (peer_in (value_at reference self.old.live)) ≡ true) }
         ensures needs { (peer : ℕ) → peer_in (value_at reference self.old.live) ≡ Some peer →
             OnErr result (grows self.old (taking reference peer (taken (link_in (value_at reference self.old.live)) (value unit.now))
-            self.old) ≡ true) }
+            self.old).state ≡ true) }
     {
         let before = self.outgoing.len();
         match self.live.step(reference, unit, &mut self.outgoing)? {
@@ -142,9 +142,9 @@ impl Switch {
         fault: LinkFault,
     ) -> Result<(), AllocError>
         requires { place_of reference self.old.live ≡ Some place }
-        ensures ok { OnOk result (self.new ≡ breaks reference peer fault self.old.class self.old) }
+        ensures ok { OnOk result (self.new ≡ (breaks reference peer fault self.old.class self.old).state) }
         ensures err { OnErr result (ends NoMemory self.new ≡ ends NoMemory self.old) }
-        ensures needs { OnErr result (grows self.old (breaks reference peer fault self.old.class self.old) ≡ true) }
+        ensures needs { OnErr result (grows self.old (breaks reference peer fault self.old.class self.old).state ≡ true) }
     {
         match self.class {
             Some(Class::Two) => {
@@ -168,9 +168,9 @@ impl Switch {
         reason: u8,
     ) -> Result<(), AllocError>
         requires { place_of reference self.old.live ≡ Some place }
-        ensures ok { OnOk result (self.new ≡ leaves reference peer reason self.old.class self.old) }
+        ensures ok { OnOk result (self.new ≡ (leaves reference peer reason self.old.class self.old).state) }
         ensures err { OnErr result (ends NoMemory self.new ≡ ends NoMemory self.old) }
-        ensures needs { OnErr result (grows self.old (leaves reference peer reason self.old.class self.old) ≡ true) }
+        ensures needs { OnErr result (grows self.old (leaves reference peer reason self.old.class self.old).state ≡ true) }
     {
         self.events.reserve()?;
         match self.class {

@@ -113,9 +113,9 @@ impl Switch {
 
     /// The called end answers a CR.
     pub fn answer_request(&mut self, request: &ConnectRequest<'_>) -> Result<(), AllocError>
-        ensures ok { OnOk result (self.new ≡ answers_request (request_content request.now) self.old) }
+        ensures ok { OnOk result (self.new ≡ (answers_request (request_content request.now) self.old).state) }
         ensures err { OnErr result (ends NoMemory self.new ≡ ends NoMemory self.old) }
-        ensures needs { OnErr result (grows self.old (answers_request (request_content request.now) self.old) ≡ true) }
+        ensures needs { OnErr result (grows self.old (answers_request (request_content request.now) self.old).state ≡ true) }
     {
         if self.live.has_peer(request.fields.source) {
             return self.deny(request.fields.source, DUPLICATE_REFERENCE);
@@ -135,10 +135,10 @@ impl Switch {
     ) -> Result<(), AllocError>
         requires live { length self.old.live < 64 }
         requires given { self.old.given < 65535 }
-        ensures ok { OnOk result (self.new ≡ answers (request_content request.now) (selection selected) self.old.class self.old) }
+        ensures ok { OnOk result (self.new ≡ (answers (request_content request.now) (selection selected) self.old.class self.old).state) }
         ensures err { OnErr result (ends NoMemory self.new ≡ ends NoMemory self.old) }
         ensures needs { OnErr
-            result (grows self.old (answers (request_content request.now) (selection selected) self.old.class self.old) ≡ true) }
+            result (grows self.old (answers (request_content request.now) (selection selected) self.old.class self.old).state ≡ true) }
     {
         match selected {
             Answer::Disconnect(reason) => self.deny(request.fields.source, reason),
@@ -158,9 +158,9 @@ impl Switch {
 
     /// Refuses a CR with a DR that has no reference of this end.
     fn deny(&mut self, peer: u16, reason: u8) -> Result<(), AllocError>
-        ensures ok { OnOk result (self.new ≡ denies reason peer self.old) }
+        ensures ok { OnOk result (self.new ≡ (denies reason peer self.old).state) }
         ensures err { OnErr result (ends NoMemory self.new ≡ ends NoMemory self.old) }
-        ensures needs { OnErr result (grows self.old (denies reason peer self.old) ≡ true) }
+        ensures needs { OnErr result (grows self.old (denies reason peer self.old).state ≡ true) }
     {
         put_disconnect(&mut self.outgoing, peer, 0, reason)
     }
@@ -174,10 +174,10 @@ impl Switch {
     ) -> Result<(), AllocError>
         requires live { length self.old.live < 64 }
         requires given { self.old.given < 65535 }
-        ensures ok { OnOk result (self.new ≡ accepts class (option_map size_code size) (request_content request.now) self.old) }
+        ensures ok { OnOk result (self.new ≡ (accepts class (option_map size_code size) (request_content request.now) self.old).state) }
         ensures err { OnErr result (ends NoMemory self.new ≡ ends NoMemory self.old) }
         ensures needs { OnErr
-            result (grows self.old (accepts class (option_map size_code size) (request_content request.now) self.old) ≡ true) }
+            result (grows self.old (accepts class (option_map size_code size) (request_content request.now) self.old).state ≡ true) }
     {
         make_first_room(&mut self.outgoing)?;
         let reference = self.given + 1;

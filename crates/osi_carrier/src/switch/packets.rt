@@ -119,8 +119,8 @@ impl Switch {
     fn take_open(&mut self, reference: u16, unit: &Tpdu<'_>, lends: bool) -> Reached
         requires lasts { self.old.ended ≡ None }
         requires acts { (peer : ℕ) → peer_in (value_at reference self.old.live) ≡ Some peer →
-            in_class self.old.class (value unit.now) self.old
-            ≡ taking reference peer (taken (link_in (value_at reference self.old.live)) (value unit.now)) self.old }
+            (in_class self.old.class (value unit.now) self.old).state
+            ≡ (taking reference peer (taken (link_in (value_at reference self.old.live)) (value unit.now)) self.old).state }
         ensures acts { is_reached result ≡ true →
             Act self.old (value unit.now ∷ []) (with_reached result reference (user_of (value unit.now)) self.new) }
         ensures none { result ≡ Reached.NotOpen → self.new ≡ self.old }

@@ -23,9 +23,9 @@ impl Switch {
     /// A unit for a connection that awaits its CC.
     fn to_asked(&mut self, place: usize, reference: u16, unit: &Tpdu<'_>) -> Result<(), AllocError>
         requires { place_of reference self.old.live ≡ Some place }
-        ensures ok { OnOk result (self.new ≡ to_asked reference (value unit.now) self.old) }
+        ensures ok { OnOk result (self.new ≡ (to_asked reference (value unit.now) self.old).state) }
         ensures err { OnErr result (ends NoMemory self.new ≡ ends NoMemory self.old) }
-        ensures needs { OnErr result (grows self.old (to_asked reference (value unit.now) self.old) ≡ true) }
+        ensures needs { OnErr result (grows self.old (to_asked reference (value unit.now) self.old).state ≡ true) }
     {
         match unit {
             Tpdu::Cc(answer) => self.open(place, reference, answer),
@@ -46,12 +46,12 @@ impl Switch {
     ) -> Result<(), AllocError>
         requires { place_of reference self.old.live ≡ Some place }
         ensures ok { OnOk result (self.new
-            ≡ opens reference (confirm_content answer.now) (confirmed (confirm_content answer.now) self.old.local
-            self.old.class) self.old) }
+            ≡ (opens reference (confirm_content answer.now) (confirmed (confirm_content answer.now) self.old.local
+            self.old.class) self.old).state) }
         ensures err { OnErr result (ends NoMemory self.new ≡ ends NoMemory self.old) }
         ensures needs { OnErr
             result (grows self.old (opens reference (confirm_content answer.now) (confirmed (confirm_content answer.now) self.old.local
-            self.old.class) self.old) ≡ true) }
+            self.old.class) self.old).state ≡ true) }
     {
         match confirmed(answer, &self.local, self.class) {
             None => {
@@ -71,9 +71,9 @@ impl Switch {
         answer: &ConnectConfirm<'_>,
     ) -> Result<(), AllocError>
         requires { place_of reference self.old.live ≡ Some place }
-        ensures ok { OnOk result (self.new ≡ opens reference (confirm_content answer.now) (Some class) self.old) }
+        ensures ok { OnOk result (self.new ≡ (opens reference (confirm_content answer.now) (Some class) self.old).state) }
         ensures err { OnErr result (ends NoMemory self.new ≡ ends NoMemory self.old) }
-        ensures needs { OnErr result (grows self.old (opens reference (confirm_content answer.now) (Some class) self.old) ≡ true) }
+        ensures needs { OnErr result (grows self.old (opens reference (confirm_content answer.now) (Some class) self.old).state ≡ true) }
     {
         self.events.reserve()?;
         let size = agreed_size(answer.fields.parameters.size, &self.local);
@@ -86,9 +86,9 @@ impl Switch {
 
     /// A unit for a reference.
     fn to_reference(&mut self, reference: u16, unit: &Tpdu<'_>) -> Result<(), AllocError>
-        ensures ok { OnOk result (self.new ≡ to_reference reference (value unit.now) self.old) }
+        ensures ok { OnOk result (self.new ≡ (to_reference reference (value unit.now) self.old).state) }
         ensures err { OnErr result (ends NoMemory self.new ≡ ends NoMemory self.old) }
-        ensures needs { OnErr result (grows self.old (to_reference reference (value unit.now) self.old) ≡ true) }
+        ensures needs { OnErr result (grows self.old (to_reference reference (value unit.now) self.old).state ≡ true) }
     {
         let Some(place) = self.live.find(reference) else {
             return self.to_unknown(unit);
@@ -105,9 +105,9 @@ impl Switch {
 
     /// A unit before the class is known.
     fn before_class(&mut self, unit: &Tpdu<'_>) -> Result<(), AllocError>
-        ensures ok { OnOk result (self.new ≡ before_class self.old.is_caller (value unit.now) self.old) }
+        ensures ok { OnOk result (self.new ≡ (before_class self.old.is_caller (value unit.now) self.old).state) }
         ensures err { OnErr result (ends NoMemory self.new ≡ ends NoMemory self.old) }
-        ensures needs { OnErr result (grows self.old (before_class self.old.is_caller (value unit.now) self.old) ≡ true) }
+        ensures needs { OnErr result (grows self.old (before_class self.old.is_caller (value unit.now) self.old).state ≡ true) }
     {
         if self.is_caller {
             self.answered(unit)
@@ -118,9 +118,9 @@ impl Switch {
 
     /// A unit at the calling end before the class is known: an answer to its CR.
     fn answered(&mut self, unit: &Tpdu<'_>) -> Result<(), AllocError>
-        ensures ok { OnOk result (self.new ≡ before_class true (value unit.now) self.old) }
+        ensures ok { OnOk result (self.new ≡ (before_class true (value unit.now) self.old).state) }
         ensures err { OnErr result (ends NoMemory self.new ≡ ends NoMemory self.old) }
-        ensures needs { OnErr result (grows self.old (before_class true (value unit.now) self.old) ≡ true) }
+        ensures needs { OnErr result (grows self.old (before_class true (value unit.now) self.old).state ≡ true) }
     {
         match unit {
             Tpdu::Cc(answer) => self.to_reference(answer.destination, unit),
@@ -135,9 +135,9 @@ impl Switch {
 
     /// A unit at the called end before the class is known: a CR.
     fn asked(&mut self, unit: &Tpdu<'_>) -> Result<(), AllocError>
-        ensures ok { OnOk result (self.new ≡ before_class false (value unit.now) self.old) }
+        ensures ok { OnOk result (self.new ≡ (before_class false (value unit.now) self.old).state) }
         ensures err { OnErr result (ends NoMemory self.new ≡ ends NoMemory self.old) }
-        ensures needs { OnErr result (grows self.old (before_class false (value unit.now) self.old) ≡ true) }
+        ensures needs { OnErr result (grows self.old (before_class false (value unit.now) self.old).state ≡ true) }
     {
         match unit {
             Tpdu::Cr(request) => self.answer_request(request),
@@ -156,9 +156,9 @@ impl Switch {
 
     /// A unit in class 0, for the one connection.
     fn in_zero(&mut self, unit: &Tpdu<'_>) -> Result<(), AllocError>
-        ensures ok { OnOk result (self.new ≡ in_zero self.old.is_caller (value unit.now) self.old) }
+        ensures ok { OnOk result (self.new ≡ (in_zero self.old.is_caller (value unit.now) self.old).state) }
         ensures err { OnErr result (ends NoMemory self.new ≡ ends NoMemory self.old) }
-        ensures needs { OnErr result (grows self.old (in_zero self.old.is_caller (value unit.now) self.old) ≡ true) }
+        ensures needs { OnErr result (grows self.old (in_zero self.old.is_caller (value unit.now) self.old).state ≡ true) }
     {
         if self.is_caller
             && let Tpdu::Cr(_) = unit
@@ -171,9 +171,9 @@ impl Switch {
 
     /// A unit for the one connection, whatever its reference.
     fn to_only(&mut self, unit: &Tpdu<'_>) -> Result<(), AllocError>
-        ensures ok { OnOk result (self.new ≡ to_only self.old.live (value unit.now) self.old) }
+        ensures ok { OnOk result (self.new ≡ (to_only self.old.live (value unit.now) self.old).state) }
         ensures err { OnErr result (ends NoMemory self.new ≡ ends NoMemory self.old) }
-        ensures needs { OnErr result (grows self.old (to_only self.old.live (value unit.now) self.old) ≡ true) }
+        ensures needs { OnErr result (grows self.old (to_only self.old.live (value unit.now) self.old).state ≡ true) }
     {
         let Some(reference) = self.live.first() else {
             return Ok(());
@@ -183,9 +183,9 @@ impl Switch {
 
     /// A unit in class 2, by its reference.
     fn in_two(&mut self, unit: &Tpdu<'_>) -> Result<(), AllocError>
-        ensures ok { OnOk result (self.new ≡ in_two self.old.is_caller (value unit.now) self.old) }
+        ensures ok { OnOk result (self.new ≡ (in_two self.old.is_caller (value unit.now) self.old).state) }
         ensures err { OnErr result (ends NoMemory self.new ≡ ends NoMemory self.old) }
-        ensures needs { OnErr result (grows self.old (in_two self.old.is_caller (value unit.now) self.old) ≡ true) }
+        ensures needs { OnErr result (grows self.old (in_two self.old.is_caller (value unit.now) self.old).state ≡ true) }
     {
         match unit {
             Tpdu::Cr(request) => self.asked_in_two(request),
@@ -204,9 +204,9 @@ impl Switch {
 
     /// A CR in class 2.
     fn asked_in_two(&mut self, cr: &ConnectRequest<'_>) -> Result<(), AllocError>
-        ensures ok { OnOk result (self.new ≡ in_two self.old.is_caller (request (request_content cr.now)) self.old) }
+        ensures ok { OnOk result (self.new ≡ (in_two self.old.is_caller (request (request_content cr.now)) self.old).state) }
         ensures err { OnErr result (ends NoMemory self.new ≡ ends NoMemory self.old) }
-        ensures needs { OnErr result (grows self.old (in_two self.old.is_caller (request (request_content cr.now)) self.old) ≡ true) }
+        ensures needs { OnErr result (grows self.old (in_two self.old.is_caller (request (request_content cr.now)) self.old).state ≡ true) }
     {
         if self.is_caller {
             self.fail(CarrierFault::UnexpectedUnit);
@@ -217,9 +217,9 @@ impl Switch {
 
     /// A unit that arrives before the carrier has ended.
     pub fn react(&mut self, unit: &Tpdu<'_>) -> Result<(), AllocError>
-        ensures ok { OnOk result (self.new ≡ in_class self.old.class (value unit.now) self.old) }
+        ensures ok { OnOk result (self.new ≡ (in_class self.old.class (value unit.now) self.old).state) }
         ensures err { OnErr result (ends NoMemory self.new ≡ ends NoMemory self.old) }
-        ensures needs { OnErr result (grows self.old (in_class self.old.class (value unit.now) self.old) ≡ true) }
+        ensures needs { OnErr result (grows self.old (in_class self.old.class (value unit.now) self.old).state ≡ true) }
     {
         match self.class {
             None => self.before_class(unit),

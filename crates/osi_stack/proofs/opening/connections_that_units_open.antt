@@ -83,21 +83,22 @@ opens_end reason s = silent s (ends reason s) refl refl refl (λ q h. cc) (λ q 
 -- ---- a CR
 
 opens_answers : (c : Connect) (selection : Selection) (held : Option Class) (s : State) → IsOrderly s → s.is_caller ≡ false →
-    Opens s (answers c selection held s)
+    Opens s (answers c selection held s).state
 opens_answers c (refuse reason) held s o called = grind (arith, silent)
 opens_answers c (accept Two size) held s o called = grind (arith, opened, awaited_push, asked, beyond, value_at, push_other)
 opens_answers c (accept Zero size) None s o called = grind (arith, opened, awaited_push, asked, beyond, value_at, push_other)
 opens_answers c (accept Zero size) (Some class) s o called = grind (arith, silent)
 
-opens_request : (c : Connect) (s : State) → IsOrderly s → s.is_caller ≡ false → Opens s (answers_request c s)
+opens_request : (c : Connect) (s : State) → IsOrderly s → s.is_caller ≡ false → Opens s (answers_request c s).state
 opens_request c s o called = grind (arith, silent, opens_answers)
 
 -- ---- a unit for a connection
 
-opens_confirm : (r : ℕ) (c : Connect) (class : Option Class) (s : State) → value_at r s.live ≡ Some asked → Opens s (opens r c class s)
+opens_confirm : (r : ℕ) (c : Connect) (class : Option Class) (s : State) → value_at r s.live ≡ Some asked →
+    Opens s (opens r c class s).state
 opens_confirm r c class s here = grind (arith, opens_end, opened, awaited_put, or_left, put_other)
 
-opens_asked : (r : ℕ) (unit : Value) (s : State) → IsOrderly s → value_at r s.live ≡ Some asked → Opens s (to_asked r unit s)
+opens_asked : (r : ℕ) (unit : Value) (s : State) → IsOrderly s → value_at r s.live ≡ Some asked → Opens s (to_asked r unit s).state
 opens_asked r (confirm destination c) s o here = grind (arith, opens_confirm)
 opens_asked r (disconnect destination source reason user) s o here = grind (arith, telling, awaited_without, or_left, without_other)
 opens_asked r (error destination cause) s o here = grind (arith, telling, awaited_without, or_left, without_other)
@@ -108,18 +109,19 @@ record IsThere (r : ℕ) (s : State) : Type 0 where
   here : IsSome (value_at r s.live)
   apart : (q : ℕ) → value_at q s.live ≡ Some asked → q ≢ r
 
-opens_taking : (r peer : ℕ) (result : Result Standing LinkFault) (s : State) → IsThere r s → Opens s (taking r peer result s)
+opens_taking : (r peer : ℕ) (result : Result Standing LinkFault) (s : State) → IsThere r s → Opens s (taking r peer result s).state
 opens_taking r peer (Ok link) s here = grind (arith, silent, append-nil, awaited_put, put_other, telling)
 opens_taking r peer (Err fault) s here = search (arith, telling, faulted, awaited_put, closing, put_other, opens_end)
 
-opens_leaves : (r peer reason : ℕ) (held : Option Class) (s : State) → IsOrderly s → IsThere r s → Opens s (leaves r peer reason held s)
+opens_leaves : (r peer reason : ℕ) (held : Option Class) (s : State) → IsOrderly s → IsThere r s →
+    Opens s (leaves r peer reason held s).state
 opens_leaves r peer reason held s o here = grind (arith, telling, leaves, closed, awaited_without, without_other)
 
-opens_closing : (r : ℕ) (unit : Value) (s : State) → IsOrderly s → IsThere r s → Opens s (to_closing r unit s)
+opens_closing : (r : ℕ) (unit : Value) (s : State) → IsOrderly s → IsThere r s → Opens s (to_closing r unit s).state
 opens_closing r unit s o here = search (arith, silent, awaited_without, without_other, opens_none)
 
 opens_connection : (r : ℕ) (o : Option Connection) (unit : Value) (s : State) → IsOrderly s → value_at r s.live ≡ o →
-    Opens s (to_connection r o unit s)
+    Opens s (to_connection r o unit s).state
 opens_connection r o unit s o2 here = search (arith, silent, opens_none, opens_end, opens_asked, opens_leaves, opens_taking, opens_closing)
 
 -- ---- by class
@@ -127,7 +129,7 @@ opens_connection r o unit s o2 here = search (arith, silent, opens_none, opens_e
 pub first_here : (r : ℕ) (x : Connection) (rows : Rows Connection) → value_at r ((r, x) ∷ rows) ≡ Some x
 first_here r x rows = let e = eq-eqb r r refl in rw e refl
 
-only_by : (live : Rows Connection) (unit : Value) (s : State) → IsOrderly s → s.live ≡ live → Opens s (to_only live unit s)
+only_by : (live : Rows Connection) (unit : Value) (s : State) → IsOrderly s → s.live ≡ live → Opens s (to_only live unit s).state
 only_by [] unit s o is = opens_none s
 only_by ((r, connection) ∷ rows) unit s o is =
     opens_connection r (Some connection) unit s o (ap (value_at r) is ∙ first_here r connection rows)

@@ -34,7 +34,7 @@ accepted : (class : Class) (size : Option ℕ) (c : Connect) (s old mid : State)
     (out : List ℕ) (events : List Happening) → old ≡ s → link ≡ opened_link class size old.local c.credit → ids ≡ tsaps_of c →
     d ≡ c.source → k ≡ acceptance class size c old.local (old.given + 1) → mid ≡ joins (old.given + 1) (linked c.source link) ids old →
     out ≡ mid.outgoing ++ packets (confirm d k ∷ []) → events ≡ mid.events ++ opened (old.given + 1) ∷ [] →
-    record mid { class = Some class; given = old.given + 1; outgoing = out; events = events } ≡ accepts class size c s
+    record mid { class = Some class; given = old.given + 1; outgoing = out; events = events } ≡ (accepts class size c s).state
 accepted class size c s old mid link ids d k out events e l i f g m o v = rw (v, o, m, g, f, i, l, e) refl
 
 pub returns-clause-ok : goal.returns-clause-ok

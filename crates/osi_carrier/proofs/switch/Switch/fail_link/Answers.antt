@@ -8,7 +8,7 @@ returns-in_ok-put_disconnect-in-Some-Two-clause-ok c =
     let s = the_view c.self.inside in
     let class : c.self.inside.class ≡ Some Two = search rules in
     let then = the_view (record c.self.inside { live = c.set.new.self; outgoing = c.put_disconnect.new.out; events = c.tell.new.events }) in
-    subst (λ (x : State). then ≡ breaks c.args.reference c.args.peer c.args.fault x.class x) c.self.view_is
+    subst (λ (x : State). then ≡ (breaks c.args.reference c.args.peer c.args.fault x.class x).state) c.self.view_is
     (breaks_two c.args.reference c.args.peer c.args.fault s then class
     (changed s _ _ _ _ _ _ c.set.ensures c.in_ok-put_disconnect-in-Some-Two.ensures.ok
     (told (Faulted (record { 0 = c.args.reference }) c.args.fault) _ _ _ c.reserve.ensures.items c.tell.ensures)))
