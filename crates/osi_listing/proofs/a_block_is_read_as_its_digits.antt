@@ -39,10 +39,6 @@ pub values_end : (each cs : List ℕ) (at : ℕ) → length each ≤ at → leng
     take at each ++ values_of (drop at cs) ≡ values_of cs → each ≡ values_of cs
 values_end each cs at full all so_far = grind (arith, append-nil, drop_all, take_all)
 
-pub greatest_ends : (cs : List ℕ) (at most : ℕ) → length cs ≤ at → max most (greatest (values_of (drop at cs))) ≡ greatest (values_of cs) →
-    most ≡ greatest (values_of cs)
-greatest_ends cs at most all so_far = grind (arith, drop_all)
-
 -- ---- the pairs, one after the other
 
 pub at_most : (values : List ℕ) (k : ℕ) → slice_index values k ≤ greatest values

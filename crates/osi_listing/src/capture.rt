@@ -70,10 +70,10 @@ fn read_whole<'t>(
     if place.in_comment || place.high.is_some() {
         return Ok(text);
     }
-    match read_run(octets, text) {
-        Ok(rest) => Ok(rest),
-        Err(_) => Err(CaptureFault::OutOfMemory),
-    }
+    let Ok(rest) = read_run(octets, text) else {
+        return Err(CaptureFault::OutOfMemory);
+    };
+    Ok(rest)
 }
 
 /// Reads a character of a text, and returns the place after it.

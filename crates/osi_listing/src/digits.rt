@@ -26,7 +26,7 @@ static VALUES: [u32; 256] = [
 /// The octet of two digits of either case, or none if one of the characters is no digit.
 #[inline(always)]
 #[tactic(auto, using(crate::proofs::two_digits_make_an_octet::is_octet, crate::proofs::two_digits_make_an_octet::is_none, crate::proofs::two_digits_make_an_octet::is_small))]
-pub fn octet_of(high: u8, low: u8) -> Option<u8>
+pub(crate) fn octet_of(high: u8, low: u8) -> Option<u8>
     ensures { result ≡ octet_of high low }
 {
     let octet = joined(high, low);

@@ -47,7 +47,6 @@ mod work;
 
 pub use capture::{CaptureFault, octets_of};
 pub use counting::Counts;
-pub use digits::octet_of;
 pub use lines::{push_decimal, push_number_field, push_octet, push_words};
 pub use pieces::{Lister, list};
 pub use runs::read_run;
