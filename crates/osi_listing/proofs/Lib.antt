@@ -8,6 +8,10 @@ pub mod units_one_after_the_other
 pub mod a_lister_keeps_little
 pub mod digits_give_octets
 pub mod two_digits_make_an_octet
+pub mod the_lines_of_frequent_tsdus
+pub mod octets_side_by_side
+pub mod a_letter_of_either_case_is_a_digit
+pub mod a_block_is_read_as_its_digits
 pub mod a_capture_has_one_listing
 pub mod what_one_more_packet_adds
 pub mod what_is_written_is_the_listing

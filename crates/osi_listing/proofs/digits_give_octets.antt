@@ -1,11 +1,15 @@
 -- Digits that are read one after the other give the octets that hex.decode gives, and nothing where it gives an error: for the
 -- reading of a capture's text.
-use Rattle.osi_listing.proofs.Vocabulary.{◌≡◌, ◌≢◌, ◌∙◌, ℕ, ◌+◌, ◌-◌, ◌*◌, ◌%◌, ◌≤◌, Bool, true, false, List, [], ◌∷◌, ◌++◌, length}
-use Rattle.osi_listing.proofs.Vocabulary.{slice_index, take, drop, Option, Some, None, Result, Ok, Err, refl, inl, inr, sym, ap, arith}
-use Rattle.osi_listing.proofs.Vocabulary.{IsErr, append_assoc, append-nil, nil_from_length, take_all, eqb_tells, decode_of, digit_or_error}
+use Rattle.osi_listing.proofs.Vocabulary.{◌≡◌, ◌≢◌, ◌∙◌, ℕ, ◌+◌, ◌*◌, ◌%◌, ◌≤◌, Bool, true, false, List, [], ◌∷◌, ◌++◌, length}
+use Rattle.osi_listing.proofs.Vocabulary.{Option, Some, None, Result, Ok, Err, refl, inl, inr, sym, ap, arith}
+use Rattle.osi_listing.proofs.Vocabulary.{IsErr, append_assoc, append-nil, length-append, nil_from_length, eqb_tells, decode_of, digit_or_error}
 use Rattle.osi_listing.proofs.Vocabulary.{hex_digit_value, ◌>>=◌, FromHexError, OddLength, decode_of-even, decode_pairs-ok, after_octets}
 use Rattle.osi_listing.proofs.Vocabulary.{digits_of, digits_left, if_digit, is_blank, octets_from, with_digit}
 use Rattle.hex.specs.Hex.{decode_pairs}
+use Rattle.osi_listing.specs.Digits.{octet_by}
+use Rattle.osi_listing.specs.Runs.{ReadsRun}
+use Rattle.osi_listing.proofs.two_digits_make_an_octet.{pair_read, with_octet}
+use Rattle.osi_listing.proofs.octets_side_by_side.{half_an_octet}
 use Rattle.osi_listing.proofs.digits_from_octet_to_octet.{left_digit_of}
 
 -- the octets of a result, if it has some
@@ -81,13 +85,6 @@ pub two_read : (a b high low : ℕ) (rest : List ℕ) → hex_digit_value a ≡ 
     octets_from (digits_of (a ∷ b ∷ rest)) None ≡ after_octets ((high * 16 + low) ∷ []) (octets_from (digits_of rest) None)
 two_read a b high low rest h k = digit_read false a high None (b ∷ rest) h refl ∙ digit_read false b low (Some high) rest k refl
 
--- at the front of a text
-pub front_read : (text : List ℕ) (high low : ℕ) → 2 ≤ length text → hex_digit_value (slice_index text 0) ≡ Some high →
-    hex_digit_value (slice_index text 1) ≡ Some low →
-    octets_from (digits_of text) None ≡ after_octets ((high * 16 + low) ∷ [])
-    (octets_from (digits_of (take (length text - 2) (drop 2 text))) None)
-front_read text high low two h k = grind (arith, two_read, take_all)
-
 -- ---- the end of a text
 
 pub captures_at_end : (b : Bool) (high : Option ℕ) (rest text octets : List ℕ) → length rest ≡ 0 → high ≡ None →
@@ -113,7 +110,32 @@ after_both a b more = grind (arith, append_assoc)
 pub after_none : (more : Option (List ℕ)) → after_octets [] more ≡ more
 after_none more = grind arith
 
--- four octets, one after the other
-pub four_read : (a b c d : ℕ) (all p q r rest : Option (List ℕ)) → all ≡ after_octets (a ∷ []) p → p ≡ after_octets (b ∷ []) q →
-    q ≡ after_octets (c ∷ []) r → r ≡ after_octets (d ∷ []) rest → all ≡ after_octets (a ∷ b ∷ c ∷ d ∷ []) rest
-four_read a b c d all p q r rest e f g h = grind arith
+-- ---- octets whose digits stand side by side
+
+-- one of them, and those after it
+one_more : (x y : Option ℕ) (a b : ℕ) (digits rest octets : List ℕ) (tail : Option (List ℕ)) → hex_digit_value a ≡ x →
+    hex_digit_value b ≡ y → with_octet (octet_by x y) tail ≡ Some octets →
+    ((more : List ℕ) → tail ≡ Some more → octets_from (digits_of (digits ++ rest)) None ≡ after_octets more (octets_from (digits_of rest) None)) →
+    octets_from (digits_of (a ∷ b ∷ (digits ++ rest))) None ≡ after_octets octets (octets_from (digits_of rest) None)
+one_more None y a b digits rest octets tail u v e so_far = absurd (search (arith, e))
+one_more (Some h) None a b digits rest octets tail u v e so_far = absurd (search (arith, e))
+one_more (Some h) (Some l) a b digits rest octets None u v e so_far = absurd (search (arith, e))
+one_more (Some h) (Some l) a b digits rest octets (Some more) u v e so_far =
+    grind (arith, two_read a b h l (digits ++ rest) u v, so_far more refl, after_both ((h * 16 + l) ∷ []) more (octets_from (digits_of rest) None), e)
+
+digits_read : (digits rest octets : List ℕ) → octets_from digits None ≡ Some octets →
+    octets_from (digits_of (digits ++ rest)) None ≡ after_octets octets (octets_from (digits_of rest) None)
+digits_read [] rest octets e = grind (arith, after_none, e)
+digits_read (a ∷ []) rest octets e = absurd (half_an_octet a octets e)
+digits_read (a ∷ b ∷ digits) rest octets e =
+    one_more (hex_digit_value a) (hex_digit_value b) a b digits rest octets (octets_from digits None) refl refl (sym (pair_read a b digits) ∙ e)
+    (digits_read digits rest)
+
+-- what a run of octets gives, and after them the rest of the text
+pub run_read : (text old new rest : List ℕ) → ReadsRun text old new rest →
+    after_octets new (octets_from (digits_of rest) None) ≡ after_octets old (octets_from (digits_of text) None)
+run_read text old new rest (octets, gained, (digits, parts, read)) =
+    grind (arith, digits_read digits rest octets read, after_both old octets (octets_from (digits_of rest) None), gained, parts)
+
+pub run_shorter : (text old new rest : List ℕ) → ReadsRun text old new rest → length rest ≤ length text
+run_shorter text old new rest (octets, gained, (digits, parts, read)) = grind (arith, length-append, parts)

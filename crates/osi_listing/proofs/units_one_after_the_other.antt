@@ -1,6 +1,6 @@
 -- The listing of units, one after the other.
 use Rattle.osi_listing.proofs.Vocabulary.{◌≡◌, ℕ, List, [], ◌∷◌, ◌++◌, length, map, refl, sym, ◌∙◌, ap, subst, option_to_list, Result, Ok}
-use Rattle.osi_listing.proofs.Vocabulary.{Err, OnOk, arith, flat_map, append_assoc, append-nil, flat_map-append, units_of, Value, TpduFault}
+use Rattle.osi_listing.proofs.Vocabulary.{Err, OnOk, arith, append_assoc, append-nil, flat_map-append, units_of, Value, TpduFault}
 use Rattle.osi_listing.proofs.Vocabulary.{Contents, Units, SpduFault, LengthPastEnd, Counts, Streams, one_more, counted, tsdu_line}
 use Rattle.osi_listing.proofs.Vocabulary.{session_line, Part, part_of, parts_of, Entry, session_entries, part_entries, unit_entries}
 use Rattle.osi_listing.proofs.Vocabulary.{read_entries, read_parts, TransportUnit, UnitFault, Tsdu, SessionUnit, Says, Holds}

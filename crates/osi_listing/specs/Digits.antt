@@ -12,7 +12,7 @@ octet_by (Some high) (Some low) = Some (high * 16 + low)
 abbrev pub octet_of : ℕ → ℕ → Option ℕ
 octet_of high low = octet_by (hex_digit_value high) (hex_digit_value low)
 
--- the value of a digit, or 256 for another character
-abbrev pub value_or_256 : Option ℕ → ℕ
-value_or_256 None = 256
-value_or_256 (Some value) = value
+-- the value of a digit, or 65,536 for another character
+abbrev pub value_or_no : Option ℕ → ℕ
+value_or_no None = 65536
+value_or_no (Some value) = value

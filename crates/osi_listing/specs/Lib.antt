@@ -1,5 +1,6 @@
 pub mod Digits
 pub mod Capture
+pub mod Runs
 pub mod Lines
 pub mod SessionLines
 pub mod Streams

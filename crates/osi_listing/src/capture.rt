@@ -4,7 +4,7 @@ ghost use Rattle.std.specs.Prelude.{◌≡◌, ◌<◌, ◌≤◌, ◌∷◌, �
 ghost use Rattle.hex.specs.Hex.{hex_digit_value};
 ghost use Rattle.osi_listing.specs.Capture.{after_octets, digits_of, digits_left, is_blank, octets_from, with_digit, Captures, IsNoCapture};
 
-use crate::digits::octet_of;
+use crate::runs::read_run;
 use std::alloc::Global;
 use thiserror::Error;
 
@@ -55,6 +55,7 @@ pub fn octets_of(alloc: Global, text: &[u8]) -> Result<Vec<u8>, CaptureFault>
 }
 
 /// Reads octets, unless the place is within one or in a comment, and returns the rest of the text.
+#[tactic(auto, using(crate::proofs::digits_give_octets::run_read, crate::proofs::digits_give_octets::run_shorter))]
 fn read_whole<'t>(
     octets: &mut Vec<u8>,
     place: Place,
@@ -69,84 +70,10 @@ fn read_whole<'t>(
     if place.in_comment || place.high.is_some() {
         return Ok(text);
     }
-    read_octets(octets, text)
-}
-
-/// Reads octets whose two digits stand side by side, and returns the rest of the text.
-fn read_octets<'t>(octets: &mut Vec<u8>, text: &'t [u8]) -> Result<&'t [u8], CaptureFault>
-    ensures ok { IfOk result (λ rest. after_octets octets.new.items (octets_from (digits_of rest.now) None)
-        ≡ after_octets octets.old.items (octets_from (digits_of text.now) None)) }
-    ensures shorter { IfOk result (λ rest. length rest.now ≤ length text.now) }
-    ensures memory { IfErr result (λ fault. fault ≡ CaptureFault.OutOfMemory) }
-{
-    let rest = read_by_fours(octets, text)?;
-    read_by_ones(octets, rest)
-}
-
-/// Reads such octets four at a time, and returns the rest of the text.
-#[tactic(auto, using(crate::proofs::digits_give_octets::after_both))]
-fn read_by_fours<'t>(octets: &mut Vec<u8>, text: &'t [u8]) -> Result<&'t [u8], CaptureFault>
-    ensures ok { IfOk result (λ rest. after_octets octets.new.items (octets_from (digits_of rest.now) None)
-        ≡ after_octets octets.old.items (octets_from (digits_of text.now) None)) }
-    ensures shorter { IfOk result (λ rest. length rest.now ≤ length text.now) }
-    ensures memory { IfErr result (λ fault. fault ≡ CaptureFault.OutOfMemory) }
-{
-    let mut rest = text;
-    'fours: while let Some((first, second, third, fourth, behind)) = front_octets(rest) {
-        let four = [first, second, third, fourth];
-        if octets.extend_from_slice(&four).is_err() {
-            return Err(CaptureFault::OutOfMemory);
-        }
-        rest = behind;
-    }
-    Ok(rest)
-}
-
-/// Reads such octets one at a time, and returns the rest of the text.
-#[tactic(auto, using(crate::proofs::digits_give_octets::after_both))]
-fn read_by_ones<'t>(octets: &mut Vec<u8>, text: &'t [u8]) -> Result<&'t [u8], CaptureFault>
-    ensures ok { IfOk result (λ rest. after_octets octets.new.items (octets_from (digits_of rest.now) None)
-        ≡ after_octets octets.old.items (octets_from (digits_of text.now) None)) }
-    ensures shorter { IfOk result (λ rest. length rest.now ≤ length text.now) }
-    ensures memory { IfErr result (λ fault. fault ≡ CaptureFault.OutOfMemory) }
-{
-    let mut rest = text;
-    'octets: while let Some((octet, behind)) = front_octet(rest) {
-        if octets.push(octet).is_err() {
-            return Err(CaptureFault::OutOfMemory);
-        }
-        rest = behind;
-    }
-    Ok(rest)
-}
-
-/// The four octets whose digits a text begins with, and the text after them.
-#[inline(always)]
-#[tactic(auto, using(crate::proofs::digits_give_octets::four_read))]
-fn front_octets(text: &[u8]) -> Option<(u8, u8, u8, u8, &[u8])>
-    ensures read { IfSome result (λ front. octets_from (digits_of text.now) None
-        ≡ after_octets (front.0 ∷ front.1 ∷ front.2 ∷ front.3 ∷ []) (octets_from (digits_of front.4.now) None)) }
-    ensures shorter { IfSome result (λ front. length front.4.now < length text.now) }
-{
-    let (first, rest) = front_octet(text)?;
-    let (second, rest) = front_octet(rest)?;
-    let (third, rest) = front_octet(rest)?;
-    let (fourth, rest) = front_octet(rest)?;
-    Some((first, second, third, fourth, rest))
-}
-
-/// The octet whose two digits a text begins with, and the text after them.
-#[inline(always)]
-fn front_octet(text: &[u8]) -> Option<(u8, &[u8])>
-    ensures read { IfSome result (λ front. octets_from (digits_of text.now) None
-        ≡ after_octets (front.0 ∷ []) (octets_from (digits_of front.1.now) None)) }
-    ensures shorter { IfSome result (λ front. length front.1.now < length text.now) }
-{
-    let [high, low, rest @ ..] = text else {
-        return None;
+    let Ok(rest) = read_run(octets, text) else {
+        return Err(CaptureFault::OutOfMemory);
     };
-    let octet = octet_of(*high, *low)?;
-    Some((octet, rest))
+    Ok(rest)
 }
 
 /// Reads a character of a text, and returns the place after it.

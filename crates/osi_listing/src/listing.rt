@@ -14,9 +14,11 @@ ghost use Rattle.osi_listing.specs.Streams.{Part, part_of, parts_of};
 
 use crate::counting::Counts;
 use crate::lines::{push_packet, push_too_long, push_tsdu, push_unit_fault};
+use crate::plain::{list_ack, list_data, list_point};
 use crate::session_lines::{push_session_fault, push_session_unit};
 use crate::streams::{Outcome, Streams};
 use crate::units::push_unit;
+use osi_message::PlainUnit;
 use osi_spdu::{Behind, Group, SpduFault, read_group};
 use osi_tpdu::{DataClass0, Tpdu, Units, read_units};
 use std::alloc::{AllocError, Global};
@@ -203,10 +205,32 @@ fn list_fault(text: &mut Vec<u8>, counts: &mut Counts, fault: SpduFault) -> Resu
     push_session_fault(text, fault)
 }
 
-/// Lists the session units of a TSDU, or only their fault.
+/// Lists the session units of a TSDU, or only their fault. Data, and minor points and their confirmations, are frequent, and are
+/// listed by what their octets are.
+fn list_session_units(
+    text: &mut Vec<u8>,
+    counts: &mut Counts,
+    tsdu: &[u8],
+) -> Result<(), AllocError>
+    ensures { OnOk result (Says text.old.items text.new.items counts.old counts.new
+        (session_entries (tsdu_at tsdu.now))) }
+{
+    if let Some(user_data) = PlainUnit::data(tsdu) {
+        return list_data(text, counts, tsdu, user_data);
+    }
+    if let Some(number) = PlainUnit::minor_point(tsdu) {
+        return list_point(text, counts, tsdu, number);
+    }
+    if let Some(number) = PlainUnit::minor_ack(tsdu) {
+        return list_ack(text, counts, tsdu, number);
+    }
+    list_any_session_units(text, counts, tsdu)
+}
+
+/// Lists the session units of any TSDU, or only their fault.
 // It is not inlined: the units that it reads need much room, and an empty TSDU has none.
 #[inline(never)]
-fn list_session_units(
+fn list_any_session_units(
     text: &mut Vec<u8>,
     counts: &mut Counts,
     tsdu: &[u8],

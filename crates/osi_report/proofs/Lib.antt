@@ -4,6 +4,7 @@ pub mod what_is_fed_piece_by_piece_passes_whole
 pub mod digits_are_counted_one_by_one
 pub mod what_passes_is_the_capture_of_the_text
 pub mod what_is_read_octet_by_octet
+pub mod what_is_read_run_by_run
 pub mod a_hearing_holds_what_passed
 pub mod a_text_is_one_capture
 pub mod rows_come_one_after_the_other

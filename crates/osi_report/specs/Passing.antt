@@ -1,9 +1,9 @@
 -- The octets that pass as the text of a capture of both sides is read, character by character.
-use Rattle.std.specs.Prelude.{◌==◌, ℕ, ◌+◌, ◌*◌, true, false, if◌then◌else◌, List, [], ◌∷◌, ◌++◌, Option, Some, None}
+use Rattle.std.specs.Prelude.{◌≡◌, ◌==◌, ℕ, ◌+◌, ◌*◌, true, false, if◌then◌else◌, List, [], ◌∷◌, ◌++◌, Option, Some, None}
 use Rattle.hex.specs.Hex.{hex_digit_value}
 use Rattle.osi_side.specs.declared.directions.Direction.{Direction}
 use Rattle.osi_side.specs.declared.directions.Direction.TheVariants.{Left}
-use Rattle.osi_side.specs.Captures.{Capture, of}
+use Rattle.osi_side.specs.Captures.{Capture, of, piece}
 use Rattle.osi_listing.specs.Capture.{is_blank, is_comment_sign, is_line_feed}
 use Rattle.osi_report.specs.declared.places.Half.{Half}
 use Rattle.osi_report.specs.declared.places.Passing.{Passing}
@@ -82,3 +82,14 @@ at_end (Some h) = None
 abbrev pub passed_from : Place → List ℕ → Option Capture
 passed_from p [] = at_end p.half
 passed_from p (c ∷ text) = if_step (step_of p c) (λ q. passed_from q text)
+
+-- ---- octets that are read at once
+
+-- a text ends with this rest
+abbrev pub EndsWith : List ℕ → List ℕ → Type 0
+EndsWith text rest = (used : List ℕ) × (text ≡ used ++ rest)
+
+-- octets of a line have been read, and this rest of the text passes after them: what passes is the same
+abbrev pub PassesTo : List ℕ → List ℕ → List ℕ → List ℕ → Type 0
+PassesTo text old new rest = (d : Direction) (more : List ℕ) →
+    after_passed (piece d new) (passed_from (plain d) (rest ++ more)) ≡ after_passed (piece d old) (passed_from (plain d) (text ++ more))

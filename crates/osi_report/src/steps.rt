@@ -1,21 +1,21 @@
-//! Reads the text of a capture character by character, and octet by octet where digits stand side by side.
+//! Reads the text of a capture character by character, and run by run where the digits of octets stand side by side.
 
-ghost use Rattle.std.specs.Prelude.{◌≡◌, ◌≤◌, ◌<◌, ◌∷◌, ◌++◌, [], true, ℕ, List, length, IfOk, IfSome};
+ghost use Rattle.std.specs.Prelude.{◌≡◌, ◌≤◌, ◌<◌, ◌++◌, true, ℕ, List, length, IfOk, IfSome};
 ghost use Rattle.hex.specs.Hex.{hex_digit_value};
 ghost use Rattle.osi_side.specs.Captures.{piece};
 ghost use Rattle.osi_side.specs.declared.directions.Direction.{Direction};
 ghost use Rattle.osi_listing.specs.Capture.{is_blank};
-ghost use Rattle.osi_report.specs.Passing.{after_passed, digit_of, digit_read, on_line, passed_from, plain};
+ghost use Rattle.osi_report.specs.Passing.{EndsWith, PassesTo, after_passed, digit_of, digit_read, on_line, passed_from, plain};
 ghost use Rattle.osi_report.specs.Passing.{quiet, side_at, start, step_of};
 ghost use Rattle.osi_report.specs.Rows.{side_of};
 
 use crate::places::{Half, Passing, Place, Step};
-use osi_listing::octet_of;
+use osi_listing::read_run;
 use osi_side::Direction;
 use std::alloc::AllocError;
 
-/// The most octets that are read at once.
-const MOST: usize = 4096;
+/// The most characters that are read at once: the digits of 4,096 octets.
+const MOST: usize = 8192;
 
 /// Where a text begins.
 pub(crate) fn start_of_text() -> Place
@@ -174,95 +174,47 @@ pub(crate) fn place_on_line(place: Place, text: &[u8]) -> Place
 
 /// Reads octets of a line, at most 4,096, and returns the rest of the text. The two digits of an octet stand side by side, and
 /// there may be blanks between two octets.
+#[tactic(auto, using(crate::proofs::what_is_read_run_by_run::first_is_read))]
 pub(crate) fn read_octets<'t>(octets: &mut Vec<u8>, text: &'t [u8]) -> Result<&'t [u8], AllocError>
     ensures ok { IfOk result (λ rest. (d : Direction) (more : List ℕ) → passed_from (plain d) (text.now ++ more)
         ≡ after_passed (piece d octets.new.items) (passed_from (plain d) (rest.now ++ more))) }
     ensures shorter { IfOk result (λ rest. length rest.now ≤ length text.now) }
 {
     octets.clear();
-    let mut rest = text;
-    'octets: while octets.len() <= MOST - 4 {
-        let behind = read_front(octets, rest)?;
-        if behind.len() == rest.len() {
-            return Ok(behind);
-        }
-        rest = behind;
+    let (front, _) = text.split_at(text.len().min(MOST));
+    let left = read_runs(octets, front)?;
+    let (_, rest) = text.split_at(front.len() - left.len());
+    Ok(rest)
+}
+
+/// Reads all octets up to the first character that is no blank and begins none, and returns the rest of the text.
+#[tactic(auto, using(crate::proofs::what_is_read_run_by_run::run_passes, crate::proofs::what_is_read_run_by_run::run_ends, crate::proofs::what_is_read_run_by_run::ends_shorter))]
+fn read_runs<'t>(octets: &mut Vec<u8>, text: &'t [u8]) -> Result<&'t [u8], AllocError>
+    ensures passes { IfOk result (λ rest. PassesTo text.now octets.old.items octets.new.items rest.now) }
+    ensures ends { IfOk result (λ rest. EndsWith text.now rest.now) }
+    ensures shorter { IfOk result (λ rest. length rest.now ≤ length text.now) }
+{
+    let mut rest = read_run(octets, text)?;
+    'blanks: while let Some(behind) = after_blank(rest) {
+        rest = read_run(octets, behind)?;
     }
     Ok(rest)
 }
 
-/// Reads the first four octets of a text, or the first one, or skips a blank. Returns the rest of the text.
-#[inline(always)]
-fn read_front<'t>(octets: &mut Vec<u8>, text: &'t [u8]) -> Result<&'t [u8], AllocError>
-    ensures ok { IfOk result (λ rest. (d : Direction) (more : List ℕ) →
-        after_passed (piece d octets.new.items) (passed_from (plain d) (rest.now ++ more))
-        ≡ after_passed (piece d octets.old.items) (passed_from (plain d) (text.now ++ more))) }
-    ensures shorter { IfOk result (λ rest. length rest.now ≤ length text.now) }
-{
-    if let Some((first, second, third, fourth, behind)) = front_octets(text) {
-        let four = [first, second, third, fourth];
-        octets.extend_from_slice(&four)?;
-        return Ok(behind);
-    }
-    read_one(octets, text)
-}
-
-/// Reads the first octet of a text, or skips a blank. Returns the rest of the text.
-#[inline(always)]
-fn read_one<'t>(octets: &mut Vec<u8>, text: &'t [u8]) -> Result<&'t [u8], AllocError>
-    ensures ok { IfOk result (λ rest. (d : Direction) (more : List ℕ) →
-        after_passed (piece d octets.new.items) (passed_from (plain d) (rest.now ++ more))
-        ≡ after_passed (piece d octets.old.items) (passed_from (plain d) (text.now ++ more))) }
-    ensures shorter { IfOk result (λ rest. length rest.now ≤ length text.now) }
-{
-    let Some((octet, behind)) = front_octet(text) else {
-        return Ok(after_blank(text));
-    };
-    octets.push(octet)?;
-    Ok(behind)
-}
-
-/// The text after the blank that it begins with, or all of it if it begins with another character.
-fn after_blank(text: &[u8]) -> &[u8]
-    ensures same { (d : Direction) (more : List ℕ) →
-        passed_from (plain d) (result.now ++ more) ≡ passed_from (plain d) (text.now ++ more) }
-    ensures shorter { length result.now ≤ length text.now }
+/// The text after the blank that it begins with.
+fn after_blank(text: &[u8]) -> Option<&[u8]>
+    ensures same { IfSome result (λ behind. (d : Direction) (more : List ℕ) →
+        passed_from (plain d) (behind.now ++ more) ≡ passed_from (plain d) (text.now ++ more)) }
+    ensures ends { IfSome result (λ behind. EndsWith text.now behind.now) }
+    ensures shorter { IfSome result (λ behind. length behind.now < length text.now) }
 {
     let [first, rest @ ..] = text else {
-        return text;
-    };
-    if is_blank_octet(*first) {
-        return rest;
-    }
-    text
-}
-
-/// The four octets whose digits a text begins with, and the text after them.
-#[inline(always)]
-fn front_octets(text: &[u8]) -> Option<(u8, u8, u8, u8, &[u8])>
-    ensures read { IfSome result (λ front. (d : Direction) (more : List ℕ) → passed_from (plain d) (text.now ++ more)
-        ≡ after_passed (piece d (front.0 ∷ front.1 ∷ front.2 ∷ front.3 ∷ [])) (passed_from (plain d) (front.4.now ++ more))) }
-    ensures shorter { IfSome result (λ front. length front.4.now < length text.now) }
-{
-    let (first, rest) = front_octet(text)?;
-    let (second, rest) = front_octet(rest)?;
-    let (third, rest) = front_octet(rest)?;
-    let (fourth, rest) = front_octet(rest)?;
-    Some((first, second, third, fourth, rest))
-}
-
-/// The octet whose two digits a text begins with, and the text after them.
-#[inline(always)]
-fn front_octet(text: &[u8]) -> Option<(u8, &[u8])>
-    ensures read { IfSome result (λ front. (d : Direction) (more : List ℕ) → passed_from (plain d) (text.now ++ more)
-        ≡ after_passed (piece d (front.0 ∷ [])) (passed_from (plain d) (front.1.now ++ more))) }
-    ensures shorter { IfSome result (λ front. length front.1.now < length text.now) }
-{
-    let [high, low, rest @ ..] = text else {
         return None;
     };
-    let octet = octet_of(*high, *low)?;
-    Some((octet, rest))
+    if is_blank_octet(*first) {
+        return Some(rest);
+    }
+    None
 }
 
 /// The value of a digit of either case.

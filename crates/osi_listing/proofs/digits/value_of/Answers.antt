@@ -11,4 +11,4 @@ returns-clause-value c = from_table VALUES c.args.character (omega arith) refl
 pub returns-clause-most : goal.returns-clause-most
 unfolding agrees_below
 returns-clause-most c =
-    subst (λ (n : ℕ). n ≤ 256) (sym (from_table VALUES c.args.character (omega arith) refl)) (value_most c.args.character)
+    subst (λ (n : ℕ). n ≤ 65536) (sym (from_table VALUES c.args.character (omega arith) refl)) (value_most c.args.character)
