@@ -26,8 +26,9 @@ block_read (a ∷ b ∷ cs) even few =
 
 -- ---- the values, one after the other
 
-pub values_go_on : (each cs : List ℕ) (at v : ℕ) → at < length each → at < length cs → v ≡ value_or_255 (hex_digit_value (slice_index cs at)) →
-    take at each ++ values_of (drop at cs) ≡ values_of cs → take (at + 1) (slice_set each at v) ++ values_of (drop (at + 1) cs) ≡ values_of cs
+pub values_go_on : (each cs : List ℕ) (at v : ℕ) → at < length each → at < length cs →
+    v ≡ value_or_255 (hex_digit_value (slice_index cs at)) → take at each ++ values_of (drop at cs) ≡ values_of cs →
+    take (at + 1) (slice_set each at v) ++ values_of (drop (at + 1) cs) ≡ values_of cs
 values_go_on each cs at v room some e so_far = grind (arith, append_assoc, drop_more, take_more_set)
 
 pub greatest_goes_on : (cs : List ℕ) (at most v : ℕ) → at < length cs → v ≡ value_or_255 (hex_digit_value (slice_index cs at)) →

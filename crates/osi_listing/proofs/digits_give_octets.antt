@@ -2,7 +2,8 @@
 -- reading of a capture's text.
 use Rattle.osi_listing.proofs.Vocabulary.{◌≡◌, ◌≢◌, ◌∙◌, ℕ, ◌+◌, ◌*◌, ◌%◌, ◌≤◌, Bool, true, false, List, [], ◌∷◌, ◌++◌, length}
 use Rattle.osi_listing.proofs.Vocabulary.{Option, Some, None, Result, Ok, Err, refl, inl, inr, sym, ap, arith}
-use Rattle.osi_listing.proofs.Vocabulary.{IsErr, append_assoc, append-nil, length-append, nil_from_length, eqb_tells, decode_of, digit_or_error}
+use Rattle.osi_listing.proofs.Vocabulary.{IsErr, append_assoc, append-nil, length-append, nil_from_length, eqb_tells, decode_of}
+use Rattle.osi_listing.proofs.Vocabulary.{digit_or_error}
 use Rattle.osi_listing.proofs.Vocabulary.{hex_digit_value, ◌>>=◌, FromHexError, OddLength, decode_of-even, decode_pairs-ok, after_octets}
 use Rattle.osi_listing.proofs.Vocabulary.{digits_of, digits_left, if_digit, is_blank, octets_from, with_digit}
 use Rattle.hex.specs.Hex.{decode_pairs}
@@ -115,21 +116,23 @@ after_none more = grind arith
 -- one of them, and those after it
 one_more : (x y : Option ℕ) (a b : ℕ) (digits rest octets : List ℕ) (tail : Option (List ℕ)) → hex_digit_value a ≡ x →
     hex_digit_value b ≡ y → with_octet (octet_by x y) tail ≡ Some octets →
-    ((more : List ℕ) → tail ≡ Some more → octets_from (digits_of (digits ++ rest)) None ≡ after_octets more (octets_from (digits_of rest) None)) →
+    ((more : List ℕ) → tail ≡ Some more →
+    octets_from (digits_of (digits ++ rest)) None ≡ after_octets more (octets_from (digits_of rest) None)) →
     octets_from (digits_of (a ∷ b ∷ (digits ++ rest))) None ≡ after_octets octets (octets_from (digits_of rest) None)
 one_more None y a b digits rest octets tail u v e so_far = absurd (search (arith, e))
 one_more (Some h) None a b digits rest octets tail u v e so_far = absurd (search (arith, e))
 one_more (Some h) (Some l) a b digits rest octets None u v e so_far = absurd (search (arith, e))
 one_more (Some h) (Some l) a b digits rest octets (Some more) u v e so_far =
-    grind (arith, two_read a b h l (digits ++ rest) u v, so_far more refl, after_both ((h * 16 + l) ∷ []) more (octets_from (digits_of rest) None), e)
+    grind (arith, two_read a b h l (digits ++ rest) u v, so_far more refl,
+    after_both ((h * 16 + l) ∷ []) more (octets_from (digits_of rest) None), e)
 
 digits_read : (digits rest octets : List ℕ) → octets_from digits None ≡ Some octets →
     octets_from (digits_of (digits ++ rest)) None ≡ after_octets octets (octets_from (digits_of rest) None)
 digits_read [] rest octets e = grind (arith, after_none, e)
 digits_read (a ∷ []) rest octets e = absurd (half_an_octet a octets e)
 digits_read (a ∷ b ∷ digits) rest octets e =
-    one_more (hex_digit_value a) (hex_digit_value b) a b digits rest octets (octets_from digits None) refl refl (sym (pair_read a b digits) ∙ e)
-    (digits_read digits rest)
+    one_more (hex_digit_value a) (hex_digit_value b) a b digits rest octets (octets_from digits None) refl refl
+    (sym (pair_read a b digits) ∙ e) (digits_read digits rest)
 
 -- what a run of octets gives, and after them the rest of the text
 pub run_read : (text old new rest : List ℕ) → ReadsRun text old new rest →

@@ -53,8 +53,8 @@ then_run view (Err e) text old mid new rest so_far reads = tt
 
 -- ---- at the front of a text
 
-pub run_split : (text old mid new rest octets : List ℕ) (n : ℕ) → ReadsRun text old mid rest → octets_from (take n rest) None ≡ Some octets →
-    new ≡ mid ++ octets → ReadsRun text old new (drop n rest)
+pub run_split : (text old mid new rest octets : List ℕ) (n : ℕ) → ReadsRun text old mid rest →
+    octets_from (take n rest) None ≡ Some octets → new ≡ mid ++ octets → ReadsRun text old new (drop n rest)
 run_split text old mid new rest octets n so_far e gained =
     run_more text old mid new rest octets (drop n rest) so_far (take n rest, sym (take-append-drop n rest), e) gained
 

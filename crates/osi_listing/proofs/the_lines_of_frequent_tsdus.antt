@@ -107,8 +107,8 @@ unfolding spelled is_second one_more
 point_says old new tsdu was then now n reads small is text one two =
     read_says old new tsdu was then now (MIP true n []) (codes "    MIP 42=" ++ (encode_lower (digits_of n) ++ codes "\n")) reads
     (point_sendable n small) is refl (line_of_point n)
-    (subst (λ d. new ≡ old ++ (codes "    GT\n    MIP 42=" ++ (encode_lower d ++ codes "\n"))) (digits_at 49 tsdu (digits_of n) (is ∙ point_written n)) text)
-    one two
+    (subst (λ d. new ≡ old ++ (codes "    GT\n    MIP 42=" ++ (encode_lower d ++ codes "\n")))
+    (digits_at 49 tsdu (digits_of n) (is ∙ point_written n)) text) one two
 
 pub ack_says : (old new tsdu : List ℕ) (was then now : Counts) (n : ℕ) → IsRead → n ≤ 999999 →
     tsdu ≡ written (MIA n []) → new ≡ old ++ (codes "    GT\n    MIA 42=" ++ (encode_lower (drop 6 tsdu) ++ codes "\n")) →
@@ -117,5 +117,5 @@ unfolding spelled is_second one_more
 ack_says old new tsdu was then now n reads small is text one two =
     read_says old new tsdu was then now (MIA n []) (codes "    MIA 42=" ++ (encode_lower (digits_of n) ++ codes "\n")) reads
     (ack_sendable n small) is refl (line_of_ack n)
-    (subst (λ d. new ≡ old ++ (codes "    GT\n    MIA 42=" ++ (encode_lower d ++ codes "\n"))) (digits_at 50 tsdu (digits_of n) (is ∙ ack_written n)) text)
-    one two
+    (subst (λ d. new ≡ old ++ (codes "    GT\n    MIA 42=" ++ (encode_lower d ++ codes "\n")))
+    (digits_at 50 tsdu (digits_of n) (is ∙ ack_written n)) text) one two

@@ -19,7 +19,8 @@ use Rattle.osi_report.proofs.what_is_read_octet_by_octet.{after_both, after_none
 -- one octet, and those after it
 one_passes : (d : Direction) (x y : Option ℕ) (a b : ℕ) (digits rest octets : List ℕ) (tail : Option (List ℕ)) → hex_digit_value a ≡ x →
     hex_digit_value b ≡ y → with_octet (octet_by x y) tail ≡ Some octets →
-    ((more : List ℕ) → tail ≡ Some more → passed_from (plain d) (digits ++ rest) ≡ after_passed (piece d more) (passed_from (plain d) rest)) →
+    ((more : List ℕ) → tail ≡ Some more →
+    passed_from (plain d) (digits ++ rest) ≡ after_passed (piece d more) (passed_from (plain d) rest)) →
     passed_from (plain d) (a ∷ b ∷ (digits ++ rest)) ≡ after_passed (piece d octets) (passed_from (plain d) rest)
 one_passes d None y a b digits rest octets tail u v e so_far = absurd (search (arith, e))
 one_passes d (Some h) None a b digits rest octets tail u v e so_far = absurd (search (arith, e))

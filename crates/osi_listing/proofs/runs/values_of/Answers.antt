@@ -9,9 +9,10 @@ characters-preserved c = record {
   sized = length-set c.characters.each c.characters.at c.value_of-value.result ∙ c.characters.invariant.sized;
   each = values_go_on c.characters.each c.args.characters.now c.characters.at c.value_of-value.result (omega arith) (omega arith)
       c.value_of-value.ensures c.characters.invariant.each;
-  greatest = rw c.larger-greatest.ensures (greatest_goes_on c.args.characters.now c.characters.at c.characters.greatest c.value_of-value.result
-      (omega arith) c.value_of-value.ensures c.characters.invariant.greatest);
+  greatest = rw c.larger-greatest.ensures (greatest_goes_on c.args.characters.now c.characters.at c.characters.greatest
+      c.value_of-value.result (omega arith) c.value_of-value.ensures c.characters.invariant.greatest);
 }
 
 pub returns-clause-each : goal.returns-clause-each
-returns-clause-each c = values_end c.characters.each c.args.characters.now c.characters.at (omega arith) (omega arith) c.characters.invariant.each
+returns-clause-each c =
+    values_end c.characters.each c.args.characters.now c.characters.at (omega arith) (omega arith) c.characters.invariant.each

@@ -12,6 +12,8 @@ blanks-preserved c =
     let last = c.in_ok-rest-2.rest.now in
     let reads = c.in_ok-rest-2.ensures.reads in
     record {
-      passes = passes_next text old mid new rest behind last c.blanks.invariant.passes c.in-Some.ensures.same (run_passes behind mid new last reads);
-      ends = ends_next text rest last c.blanks.invariant.ends (ends_next rest behind last c.in-Some.ensures.ends (run_ends behind mid new last reads));
+      passes = passes_next text old mid new rest behind last c.blanks.invariant.passes c.in-Some.ensures.same
+          (run_passes behind mid new last reads);
+      ends = ends_next text rest last c.blanks.invariant.ends
+          (ends_next rest behind last c.in-Some.ensures.ends (run_ends behind mid new last reads));
     }
