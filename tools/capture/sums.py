@@ -12,7 +12,7 @@ A wrong checksum needs no damage. Three kinds say nothing of a frame, or say tha
 PROTOCOL, ONES, FIELD = 6, 0xFFFF, slice(16, 18)
 # How many first checksums of a direction have to be wrong by the same number, and how many wrong ones it takes to say that all are wrong.
 FEW = 3
-# How many frames with wrong checksums are remembered of a direction; of those after them each wrong one counts.
+# How many frames with wrong checksums are remembered of a direction; after them each frame counts as damaged.
 MOST = 4_096
 
 
@@ -35,7 +35,8 @@ class Sums:
 
     def __init__(self):
         self.first, self.change, self.right, self.wrong = [], None, 0, 0
-        self.hurt, self.later = {}, None
+        # The first frames with octets and wrong checksums, and the frame from which on each one counts.
+        self.hurt, self.later = set(), None
         # The most octets of a segment that the other end takes, if it says so.
         self.most = None
 
@@ -55,9 +56,9 @@ class Sums:
             self.right += 1
             return
         self.wrong += 1
-        if len(self.hurt) < MOST:
-            self.hurt[frame] = found
-        elif self.later is None:
+        if octets and len(self.hurt) < MOST:
+            self.hurt.add(frame)
+        elif octets and self.later is None:
             self.later = frame
 
     def look_for_change(self):

@@ -333,6 +333,12 @@ class Sums(unittest.TestCase):
         self.assertEqual((len(found.hurt), found.wrong + found.right), (sums.MOST, 3 * sums.MOST - 1))
         self.assertEqual([found.is_hurt(frame) for frame in (1, 2, 7, 2 * sums.MOST, 3 * sums.MOST)], [False, True, False, True, True])
 
+    def test_frames_without_octets_are_not_kept(self):
+        found = sums.Sums()
+        for frame in range(2 * sums.MOST):
+            found.note(frame, (frame + 1, 1), 0)
+        self.assertEqual((len(found.hurt), found.later, found.wrong), (0, None, 2 * sums.MOST))
+
     def test_a_number_that_a_few_checksums_are_wrong_by_is_no_change_of_all(self):
         """As of a card that spoils the same bit of each frame with octets, but not those without."""
         found = sums.Sums()
