@@ -336,7 +336,7 @@ class Sums(unittest.TestCase):
     def test_frames_without_octets_are_not_kept(self):
         found = sums.Sums()
         for frame in range(2 * sums.MOST):
-            found.note(frame, (frame + 1, 1), 0)
+            found.note(frame, (frame + 1, 3 * frame + 7), 0)
         self.assertEqual((len(found.hurt), found.later, found.wrong), (0, None, 2 * sums.MOST))
 
     def test_a_number_that_a_few_checksums_are_wrong_by_is_no_change_of_all(self):
