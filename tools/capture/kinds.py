@@ -123,7 +123,7 @@ def of_first_data(left, right):
 def is_as_long_as_told(octets, is_whole):
     """Whether a session unit, or its first octets if it isn't whole, is as long as its length indicator says."""
     if len(octets) < 2:
-        return False
+        return not is_whole
     head, length = units.past(octets, 1)
     return len(octets) == head + length if is_whole else len(octets) < head + length
 
