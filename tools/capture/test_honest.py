@@ -473,6 +473,10 @@ class Foreign(unittest.TestCase):
             sent = ("left", CR), ("right", CC), ("left", parts(CN, size)), ("right", parts(AC, size))
             self.assertIsNone(self.kind(*sent))
             self.assertIsNone(self.kind(*sent[:3]))
+            made = Frames().begin()
+            for side, octets in sent:
+                made.send(side, octets)
+            self.assertIsNone(asking.why_not(stream_of(made.frames)))
 
     def test_empty_data_before_anything_else(self):
         """Some controllers answer the CC with an empty data unit."""
