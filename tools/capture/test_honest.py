@@ -467,8 +467,8 @@ class Foreign(unittest.TestCase):
     def test_a_connect_in_small_parts(self):
         """Each data unit has some octets of the TSDU."""
         def parts(unit, size):
-            octets = [unit[at:at + size] for at in range(7, len(unit), size)]
-            return b"".join(packet(b"\2\xf0" + (b"\0" if each is not octets[-1] else b"\x80") + each) for each in octets)
+            return b"".join(packet(b"\2\xf0" + (b"\0" if at + size < len(unit) else b"\x80") + unit[at:at + size])
+                            for at in range(7, len(unit), size))
         for size in (1, 2, 3, 20):
             sent = ("left", CR), ("right", CC), ("left", parts(CN, size)), ("right", parts(AC, size))
             self.assertIsNone(self.kind(*sent))
