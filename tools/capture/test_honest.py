@@ -464,6 +464,20 @@ class Foreign(unittest.TestCase):
             self.assertIsNone(self.kind(*opened, ("left", wrong)))
             self.assertIsNone(self.kind(*opened, ("left", wrong), ("right", AB)))
 
+    def test_a_connect_in_small_parts(self):
+        """Each data unit has some octets of the TSDU."""
+        def parts(unit, size):
+            return b"".join(packet(b"\2\xf0" + (b"\0" if at + size < len(unit) else b"\x80") + unit[at:at + size])
+                            for at in range(7, len(unit), size))
+        for size in (1, 2, 3, 20):
+            sent = ("left", CR), ("right", CC), ("left", parts(CN, size)), ("right", parts(AC, size))
+            self.assertIsNone(self.kind(*sent))
+            self.assertIsNone(self.kind(*sent[:3]))
+            made = Frames().begin()
+            for side, octets in sent:
+                made.send(side, octets)
+            self.assertIsNone(asking.why_not(stream_of(made.frames)))
+
     def test_empty_data_before_anything_else(self):
         """Some controllers answer the CC with an empty data unit."""
         opened, empty = (("left", CR), ("right", CC)), data(b"")
