@@ -203,7 +203,7 @@ def picture_of_file(options, progress):
         raise BadInput("--script goes with a transcript, and this is a capture")
     pieces = source.pieces if source.ends else reading.by_caller(source.pieces)
     title = readable(options.title or text or named(options.file, "a capture of both sides"))
-    listings = listings_of(pieces, options.osi, named_listings(options), progress)
+    listings = source.listed(listings_of(pieces, options.osi, named_listings(options), progress))
     return finished(tapped.picture_of(pieces, listings, title, options.connection, options.first, options.last, source.upper), source)
 
 
@@ -224,7 +224,7 @@ def judged_capture(options, progress):
     if source.stream is not None and not told:
         source, judge = reading.surely(source, judge, not options.ignore_checksums)
     pieces = source.pieces
-    listings = listings_of(pieces, options.osi, named_listings(options), progress)
+    listings = source.listed(listings_of(pieces, options.osi, named_listings(options), progress))
     if options.states:
         return judged.told(pieces, listings, judge)
     title = readable(options.title or said or named(options.judge, "a capture of both sides"))

@@ -2,7 +2,7 @@
 import os
 import re
 
-from capture import asking, damage, middle, streams, texts, tshark
+from capture import asking, damage, listing, middle, streams, texts, tshark
 
 from . import captures, tapped, verdicts
 from .transcript import SIDES, BadInput
@@ -23,11 +23,19 @@ def is_network(name):
 
 
 class Source:
-    """The pieces of a capture; the addresses of its sides, notes on where it begins and ends, and the stream, if it is one of a network;
-    and what tshark calls the layers above, by frame."""
+    """The pieces of a capture; the addresses of its sides, notes on where it begins and ends, and the stream, if it is one of a network,
+    and whether it begins in the middle; and what tshark calls the layers above, by frame."""
+
+    is_middle = False
 
     def __init__(self, pieces, ends=None, notes=(), upper=None, stream=None):
         self.pieces, self.ends, self.notes, self.upper, self.stream = pieces, ends or {}, list(notes), upper, stream
+
+    def listed(self, listings):
+        """The listings of both sides. In what begins in the middle, the rest of a TSDU is no fault."""
+        if not self.is_middle:
+            return listings
+        return {side: "".join(f"{row}\n" for row in listing.from_middle(text.splitlines())) for side, text in listings.items()}
 
 
 def pieces_of(stream):
@@ -55,7 +63,9 @@ def of_network(view, has_upper):
     gap = stream.gap()
     notes += [f"Shown up to {gap}."] if gap else []
     upper = tshark.upper(stream.path, stream.number) if has_upper else None
-    return Source(pieces_of(view), {side: asking.named(end) for side, end in stream.by_end().items()}, notes, upper, stream)
+    made = Source(pieces_of(view), {side: asking.named(end) for side, end in stream.by_end().items()}, notes, upper, stream)
+    made.is_middle = isinstance(view, middle.Middle)
+    return made
 
 
 def surely(source, judge, has_sums):
