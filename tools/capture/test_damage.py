@@ -156,7 +156,7 @@ class Judged(Room):
                     with self.subTest(name, since=since, step=step):
                         own = [with_sum(frame, form(frame)) if place >= since and (place - since) % step == 0 else frame
                                for place, frame in enumerate(made)]
-                        self.is_blamed(own, since == 1)
+                        self.is_blamed(own, form is pseudo and since == 1)
 
     def test_a_mixture_of_both(self):
         """The machine that captures sends without checksums, and what it receives was damaged; and the other way round."""
@@ -322,7 +322,13 @@ class Ladders(Room):
             self.assertEqual(self.drawn(made)[1], f"not judged: {said}\n")
 
 
-class Sums(unittest.TestCase):
+def right_sum(frame):
+    """The TCP checksum of a datagram."""
+    at = addresses_of(frame)[1] + 16
+    return int.from_bytes(right(frame)[at:at + 2], "big")
+
+
+class Sums(Room):
     """What is kept of checksums."""
 
     def test_what_is_kept_has_a_bound(self):
@@ -351,16 +357,12 @@ class Sums(unittest.TestCase):
         if not tshark.is_there():
             self.skipTest("tshark is not installed")
         chance = random.Random(6)
+        forms = (*FORMS.values(), lambda frame: chance.randrange(2 ** 16))
         for addresses in (None, IPV6):
-            made = talk(addresses)
-            for form in (*FORMS.values(), lambda frame: chance.randrange(2 ** 16)):
-                room = Room()
-                room.setUp()
-                path = room.write(pcap_of([with_sum(frame, form(frame)) if place % 3 else frame for place, frame in enumerate(made)]))
-                both = [[(each.frame, each.sum, each.most) for each in found] for found in
-                        (frames.segments(path, lambda: None, True), tshark.segments(path, has_sums=True))]
-                room.room.cleanup()
-                self.assertEqual(*both)
+            path = self.write(pcap_of([with_sum(frame, form(frame)) for frame in talk(addresses) for form in (right_sum, *forms)]))
+            both = [[(each.frame, each.sum, each.most) for each in found] for found in
+                    (frames.segments(path, lambda: None, True), tshark.segments(path, has_sums=True))]
+            self.assertEqual(*both)
 
 
 if __name__ == "__main__":
