@@ -101,6 +101,8 @@ class Judged:
         self.verdict = verdicts.printed(judge(Parts(self.parts)))
         if self.verdict.first and isinstance(stream, streams.Stream):
             self.leave_doubtful(judge)
+        if self.verdict.first and isinstance(stream, streams.Stream) and is_second_connect(self.verdict.last):
+            self.leave_another(judge)
 
     def leave_doubtful(self, judge):
         """Judges only what passed before the first frame that was damaged, or whose octet may be that of a keepalive, if there is one."""
@@ -109,9 +111,21 @@ class Judged:
         place = next((place for place, (_, piece) in enumerate(self.parts) if piece.frame in hurt or piece.frame in alone), None)
         if place is not None:
             side, piece = self.parts[place]
-            self.parts, self.gap = self.parts[:place], (streams.Damage if piece.frame in hurt else streams.Alone)(side, piece.frame)
-            self.limit = f"judged up to {self.gap}"
-            self.verdict = verdicts.printed(judge(Parts(self.parts)))
+            self.end_at(place, (streams.Damage if piece.frame in hurt else streams.Alone)(side, piece.frame), judge)
+
+    def leave_another(self, judge):
+        """Judges only what passed before another session on the same transport connection, if there is one."""
+        follower = outcome.Follower()
+        for place, (side, piece) in enumerate(self.parts):
+            follower.take(side, piece)
+            if follower.again:
+                self.end_at(place, streams.Another(*follower.again), judge)
+                return
+
+    def end_at(self, place, gap, judge):
+        """Judges only so many pieces, because of a gap."""
+        self.parts, self.gap, self.limit = self.parts[:place], gap, f"judged up to {gap}"
+        self.verdict = verdicts.printed(judge(Parts(self.parts)))
 
     @property
     def pieces(self):
@@ -166,6 +180,11 @@ class Judged:
         made = judged.picture_of(self.pieces, listings, title, judged.runner(osi, progress.running))
         made.notes += [f"{self.limit[0].upper()}{self.limit[1:]}."] if self.limit else []
         return drawing.draw(made)
+
+
+def is_second_connect(fields):
+    """Whether a line of `osi judge` says that a side sent a CN to which the session isn't open."""
+    return (fields.get("what"), fields.get("rule")) == ("Connect", "BadState")
 
 
 def end_of(octets, offset, is_none):
