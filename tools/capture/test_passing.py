@@ -538,6 +538,12 @@ class Status(unittest.TestCase):
         self.assertEqual((status, "both kept the protocol" in out, out.count("osi show lists at most 40")), (0, True, 2), out)
 
     @needs_osi
+    def test_an_address_may_be_written_in_any_form(self):
+        for text, wanted in (("192.0.2.1", "192.0.2.1"), ("2001:DB8:0::01", "2001:db8::1"), ("[2001:db8::1]", "2001:db8::1")):
+            self.assertEqual(judging.address(text), wanted)
+        with self.assertRaisesRegex(BadInput, "--host plant7: it is no address"):
+            judging.address("plant7")
+
     def test_streams_and_hosts_are_chosen(self):
         frames = [whole()[0], whole()[0], whole()[0]]
         self.assertEqual(call(frames, "judge", "--stream", "0", "--stream", "2")[1].count("both kept"), 2)
