@@ -11,7 +11,7 @@ from unittest import mock
 from ladders import judged, reading, script, tapped
 
 from . import asking, frames, judging, pcap, processes, program, reports, sums, test_honest, test_judging, test_unsure, tshark, watching
-from .test_frames import AC, ACK, CC, CN, CR, DT, IPV4, IPV6, SYN, Frames, Room, data, pcap_of
+from .test_frames import AC, ACK, CC, CN, CR, DN, DT, IPV4, IPV6, SYN, Frames, Room, data, pcap_of
 from .test_unsure import blamed
 
 WRONG, LATER = data(b"\1\0\1\0wrong"), data(b"\1\0\1\0" + bytes(range(90)))
@@ -315,6 +315,17 @@ class Ladders(Room):
         said, notes = self.drawn(made)[1:]
         self.assertEqual((said, notes), ("both kept the protocol\n", [f"Judged up to frame {number}, whose one octet may be that of a "
                                                                        "keepalive of left."]))
+
+    def test_another_session_on_the_transport_connection_of_one_that_has_ended(self):
+        made = Frames().open().send("left", data(bytes.fromhex("0903110100"))).send("right", DN).send("left", CN).put("right").frames
+        said = "left 1 broke packet 47 Connect BadState\nleft broke the protocol first, packet 47: Connect BadState\n"
+
+        def judge(text):
+            """Blames whoever sends two CN."""
+            return said if text.count("0d0c0506") > 1 else "both kept the protocol\n"
+        source, found = reading.surely(reading.by_name(self.write(pcap_of(made)), 102, None), judge, True)
+        self.assertEqual((len(source.pieces), found(tapped.text_of(source.pieces))), (6, "both kept the protocol\n"))
+        self.assertEqual(source.notes, ["Judged up to frame 10, with which left opens another session on the same transport connection."])
 
     def test_what_is_not_judged(self):
         for made, said in ((talk()[5:], "begins in the middle, at frame 1"), (test_honest.Honest.multipath(), asking.MULTIPATH),
