@@ -193,6 +193,11 @@ class Judged(Room):
             self.is_not_blamed([spoiled(frame, random.Random(4)) if place == 12 else frame for place, frame in enumerate(changed, 1)],
                                DAMAGED.format(12, "left"))
 
+    def test_a_short_capture_with_other_addresses(self):
+        """The called side sent two segments."""
+        made = Frames().begin().send("left", CR).send("right", CC).send("left", CN, WRONG).frames
+        self.is_blamed([moved(right(frame), self.OTHERS) for frame in made])
+
     def test_a_capture_with_other_addresses_of_a_machine_that_sends_without_checksums(self):
         for made, others in ((talk(), self.OTHERS), (talk(IPV6), self.OTHERS_6)):
             for form in FORMS.values():
