@@ -113,7 +113,8 @@ class Again(unittest.TestCase):
             self.assertEqual((report.status, report.judged.limit), (1, None), units)
 
     def test_a_watch_says_so(self):
-        told = mock.Mock(kind=mock.Mock(), rule=mock.Mock(), connection=None, __str__=lambda each: "left 1 broke packet 70 Connect BadState")
+        told = mock.Mock(kind=mock.Mock(), rule=mock.Mock(), connection=None)
+        told.__str__ = lambda each: "left 1 broke packet 70 Connect BadState"
         told.kind.name, told.rule.name = "BROKE", "BAD_STATE"
         for units in self.KEPT + self.ENDED:
             frames_made, number = self.made(*units)
@@ -135,7 +136,8 @@ class Silent(Room):
     @needs_osi
     def test_the_stream_is_named(self):
         made = whole()[0]
-        for lost, said in (((0, 3), f"the first {len(CR)} octets of left are lost, at frame 3"), ((1, 2, 3, 4), f"the first {len(CR)} octets of left are lost, at frame 2"),
+        for lost, said in (((0, 3), f"the first {len(CR)} octets of left are lost, at frame 3"),
+                           ((1, 2, 3, 4), f"the first {len(CR)} octets of left are lost, at frame 2"),
                            ((1, 4), f"the first {len(CC)} octets of right are lost, at frame 4")):
             kept = [frame for place, frame in enumerate(made) if place not in lost]
             status, out, err = call(kept, "judge")

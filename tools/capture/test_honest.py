@@ -453,7 +453,8 @@ class Foreign(unittest.TestCase):
             self.assertIsNone(self.kind(*opened, ("left", data(octets)), ("right", AC)))
         self.assertIsNone(self.kind(*opened, ("left", CN), ("right", data(b"OK\r\n"))))
         for octets in (b"\x10\2\0\1\2", b"\x0e\7\1", b"\x19\0\0", b"\x0c\3\0\0"):
-            self.assertEqual(self.kind(*opened, ("left", data(bytes(9))), ("right", data(octets))), "a protocol whose data begins with 0000")
+            said = self.kind(*opened, ("left", data(bytes(9))), ("right", data(octets)))
+            self.assertEqual(said, "a protocol whose data begins with 0000")
             self.assertEqual(self.kind(*opened, ("right", data(octets)), ("right", data(octets))),
                              f"a protocol whose data begins with {octets[:2].hex()}")
 
