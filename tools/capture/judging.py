@@ -1,6 +1,7 @@
 """Judges each TCP stream of a capture that carries TPKT: which side first broke the protocol, by `osi judge`."""
 import json
 import os
+import socket
 import sys
 
 from ladders import drawing, judged, tapped, verdicts
@@ -45,10 +46,20 @@ def add_streams(made):
     made.add_argument("--port", type=int, default=PORT, help="the port of TPKT, for streams without a CR (102)")
     made.add_argument("--stream", type=int, metavar="N", action="append",
                       help="judge this stream, by its number in tshark; and others so named")
-    made.add_argument("--host", metavar="ADDRESS", action="append", default=[],
+    made.add_argument("--host", metavar="ADDRESS", type=address, action="append", default=[],
                       help="judge the streams of this address; and of others so named")
     made.add_argument("--ignore-checksums", action="store_true",
                       help="judge frames with wrong TCP checksums as the others: for a capture that was changed after it was taken")
+
+
+def address(text):
+    """An address of IPv4 or IPv6 as streams have it, however it is written."""
+    for family in (socket.AF_INET, socket.AF_INET6):
+        try:
+            return socket.inet_ntop(family, socket.inet_pton(family, text.strip("[]")))
+        except OSError:
+            continue
+    raise BadInput(f"--host {text}: it is no address of IPv4 or IPv6")
 
 
 def streams_of(name, asked):
@@ -111,16 +122,27 @@ class Judged:
         self.verdict = verdicts.printed(judge(Parts(self.parts)))
         if self.verdict.first and isinstance(stream, streams.Stream):
             self.leave_doubtful(judge)
+        if self.verdict.first and isinstance(stream, streams.Stream) and outcome.is_second_connect(self.verdict.last):
+            self.leave_another(judge)
 
     def leave_doubtful(self, judge):
         """Judges only what passed before the first frame that was damaged, or whose octet may be that of a keepalive, if there is one."""
         found = damage.first_unsure(self.stream)
         if found is None:
             return
-        place, gap = found
+        self.end_at(*found, judge)
+        if self.gap.side not in {side for side, _ in self.parts}:
+            raise BadInput(of_nothing(self.gap))
+
+    def leave_another(self, judge):
+        """Judges only what passed before another session on the same transport connection, if there is one."""
+        found = outcome.another(self.parts)
+        if found:
+            self.end_at(*found, judge)
+
+    def end_at(self, place, gap, judge):
+        """Judges only so many pieces, because of a gap."""
         self.parts, self.gap, self.limit = self.parts[:place], gap, f"judged up to {gap}"
-        if gap.side not in {side for side, _ in self.parts}:
-            raise BadInput(of_nothing(gap))
         self.verdict = verdicts.printed(judge(Parts(self.parts)))
 
     @property

@@ -123,7 +123,7 @@ def of_first_data(left, right):
 def is_as_long_as_told(octets, is_whole):
     """Whether a session unit, or its first octets if it isn't whole, is as long as its length indicator says."""
     if len(octets) < 2:
-        return False
+        return not is_whole
     head, length = units.past(octets, 1)
     return len(octets) == head + length if is_whole else len(octets) < head + length
 
@@ -135,15 +135,15 @@ def is_as_connect(octets):
 
 
 def first_data(octets):
-    """What the first data unit has above transport, and whether that is a whole TSDU; or the record of TLS that comes in place of a
-    packet. If all data units are empty, that is nothing, and None if there is none."""
-    at, found = 0, None
+    """What the first TSDU has that isn't empty, as far as it is here, and whether it is whole; or the record of TLS that comes in place of
+    a packet. If all are empty, that is nothing, and None if there is none."""
+    at, found, whose = 0, None, None
     for unit in transport_units(octets):
         if unit is None:
-            return (octets[at:at + 2] if at and octets.startswith(RECORD, at) else found), False
+            return (octets[at:at + 2] if at and not found and octets.startswith(RECORD, at) else found), False
         at += 4 + len(unit)
-        if len(unit) > 2 and unit[1] & 0xF0 == DATA and len(unit) >= 1 + unit[0]:
-            found = unit[1 + unit[0]:]
-            if found:
-                return found, unit[unit[0]] >= 0x80
+        if len(unit) > 2 and unit[1] & 0xF0 == DATA and len(unit) > unit[0] and (not found or unit[2:unit[0]] == whose):
+            found, whose = (found or b"") + unit[1 + unit[0]:], unit[2:unit[0]]
+            if found and unit[unit[0]] >= 0x80:
+                return found, True
     return found, False

@@ -4,12 +4,16 @@ import subprocess
 
 from ladders.script import MOST_OCTETS, beside
 
+from .middle import Middle
 from .streams import SIDES, packets
 from .tshark import BadInput
 
 PACKET = re.compile(r"packet (\d+) length (\d+) code ([0-9a-f]{2})")
 FAULT = re.compile(r"fault (\d+) \w+")
 DATA_UNIT = re.compile(r"  DT (?:dst ([0-9a-f]{4}) )?number \d+ eot ([01]) octets (\d+)")
+FAULT_WITHIN = re.compile(r"    fault \d+ \w+( \d+)?")
+# What is said in place of a fault that may be none (captures.INSIDE of the ladders knows it).
+REST = "    perhaps the rest of a TSDU that began before"
 DATA = re.compile(r"    DT .*?octets (\d+)")
 # User data of another session unit, or extended user data (X.225 section 8).
 USER_DATA = re.compile(r"    [A-Z]+ (?:.* )?19[34]=([0-9a-f]*)(?: .*)?")
@@ -51,6 +55,19 @@ def shown(osi, octets):
     return done.stdout.splitlines()
 
 
+def from_middle(rows):
+    """The rows of a direction from the middle: the first TSDU of each reference may be the rest of one, so that a fault in it is none."""
+    begun, is_rest = set(), False
+    for row in rows:
+        unit = DATA_UNIT.fullmatch(row)
+        if unit and unit.group(2) == "1":
+            is_rest = unit.group(1) not in begun
+            begun.add(unit.group(1))
+        elif not row.startswith("    "):
+            is_rest = False
+        yield REST if is_rest and FAULT_WITHIN.fullmatch(row) else row
+
+
 class Passing:
     """Finds when an octet of a direction passed."""
 
@@ -86,11 +103,12 @@ class Joining:
         return bytes.fromhex(other.group(1)) if other else None
 
 
-def lines_of(side, pieces, osi):
+def lines_of(side, pieces, osi, is_middle=False):
     """The lines of one direction: each packet at the time at which its last octet passed, and octets that are none at that of the first."""
     octets = b"".join(piece.octets for piece in pieces)
     passing, joining, packet, end, piece, found = Passing(pieces), Joining(), b"", 0, None, []
-    for text in shown(osi, octets):
+    rows = shown(osi, octets)
+    for text in from_middle(rows) if is_middle else rows:
         begun, fault = PACKET.fullmatch(text), FAULT.fullmatch(text)
         if begun:
             start, length = int(begun.group(1)), int(begun.group(2))
@@ -109,7 +127,8 @@ def lines(stream, osi):
     for place, (side, piece) in enumerate(stream.by_side()):
         sides[side].append(piece)
         places[piece] = place
-    groups = [group for side in SIDES if sides[side] for group in by_packet(lines_of(side, sides[side], osi))]
+    is_middle = isinstance(stream, Middle)
+    groups = [group for side in SIDES if sides[side] for group in by_packet(lines_of(side, sides[side], osi, is_middle))]
     groups.sort(key=lambda group: places[group[0].piece])
     return [line for group in groups for line in group]
 

@@ -2,7 +2,7 @@
 from collections import deque
 
 from . import units
-from .streams import SIDES
+from .streams import SIDES, Another
 
 # X.224 section 13.5.3, and X.225 section 8.3.5; docs/TROUBLESHOOTING.md says what to do.
 OF_TRANSPORT = {0: "no reason is given", 1: "congestion", 2: "nobody is attached to this address", 3: "the address is unknown",
@@ -39,12 +39,25 @@ class Follower:
     def __init__(self):
         self.readers = {side: units.Reader() for side in SIDES}
         self.begun, self.found, self.is_open = [], deque(maxlen=self.MOST), False
+        # Whether a session has ended and its transport connection is kept for another one; and where that one begins: a side and a frame.
+        self.keeps, self.is_ended, self.again = False, False, None
 
     def take(self, side, piece):
         """Takes octets that have passed."""
         for unit in self.readers[side].feed(piece.octets):
             self.is_open = self.is_open or unit.name == "CC"
+            self.look_for_another(side, piece, unit)
             (self.begun if len(self.begun) < self.MOST else self.found).append(((piece.frame, piece.time), side, unit))
+
+    def look_for_another(self, side, piece, unit):
+        """Notes where another session begins on the transport connection of one that has ended (X.225 section 6.2)."""
+        if unit.name in ("RF", "FN", "AB"):
+            self.keeps = unit.keeps
+        if unit.name in ("RF", "DN", "AA"):
+            self.is_ended = True
+        if unit.name == "CN":
+            self.again = self.again or (side, piece.frame) if self.is_ended and self.keeps else self.again
+            self.is_ended = self.keeps = False
 
     def ended(self):
         """How the session or its transport ended; None if it didn't."""
@@ -59,6 +72,21 @@ def of(pieces):
     for side, piece in pieces:
         follower.take(side, piece)
     return follower.ended()
+
+
+def another(pieces):
+    """The place of the piece in which another session begins on the transport connection of one that has ended, and what it is; or None."""
+    follower = Follower()
+    for place, (side, piece) in enumerate(pieces):
+        follower.take(side, piece)
+        if follower.again:
+            return place, Another(*follower.again)
+    return None
+
+
+def is_second_connect(fields):
+    """Whether a line of `osi judge` says that a side sent a CN to which the session isn't open."""
+    return (fields.get("what"), fields.get("rule")) == ("Connect", "BadState")
 
 
 def first(names, *wanted):

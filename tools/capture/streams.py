@@ -84,6 +84,16 @@ class After(Gap):
         return f"frame {self.frame}, in which {self.side} sent octets after its end (FIN)"
 
 
+class Another(Gap):
+    """A session on the transport connection of an earlier one, which X.225 allows and `osi judge` doesn't read: its side, and the frame."""
+
+    def __init__(self, side, frame):
+        super().__init__(side, None, frame, None)
+
+    def __str__(self):
+        return f"frame {self.frame}, with which {self.side} opens another session on the same transport connection"
+
+
 class Order(Gap):
     """Octets of both sides that acknowledge each other, so that some were sent again, and the capture lacks their first copy: their side,
     the frame up to which the order is known, and that which had them again."""

@@ -11,8 +11,8 @@ A wrong checksum needs no damage. Three kinds say nothing of a frame, or say tha
 """
 PROTOCOL, ONES, FIELD = 6, 0xFFFF, slice(16, 18)
 # How many first checksums of a direction have to be wrong by the same number, and how many wrong ones it takes to say that all are wrong.
-FEW = 3
-# How many frames with wrong checksums are remembered of a direction; of those after them each wrong one counts.
+ALIKE, FEW = 2, 3
+# How many frames with wrong checksums are remembered of a direction; after them each frame counts as damaged.
 MOST = 4_096
 
 
@@ -35,7 +35,8 @@ class Sums:
 
     def __init__(self):
         self.first, self.change, self.right, self.wrong = [], None, 0, 0
-        self.hurt, self.later = {}, None
+        # The first frames with octets and wrong checksums, and the frame from which on each one counts.
+        self.hurt, self.later = set(), None
         # The most octets of a segment that the other end takes, if it says so.
         self.most = None
 
@@ -48,21 +49,21 @@ class Sums:
         """Notes what the checksum of a segment with so many octets says."""
         if found is None or self.most and octets > self.most:
             return
-        if len(self.first) < FEW:
+        if len(self.first) < ALIKE:
             self.first.append(found)
             self.look_for_change()
         if found[0] == 0 or self.is_changed(found):
             self.right += 1
             return
         self.wrong += 1
-        if len(self.hurt) < MOST:
-            self.hurt[frame] = found
-        elif self.later is None:
+        if octets and len(self.hurt) < MOST:
+            self.hurt.add(frame)
+        elif octets and self.later is None:
             self.later = frame
 
     def look_for_change(self):
         """Looks whether the first checksums are all wrong by the same number, or differ by it from a form that a card completes."""
-        if len(self.first) < FEW or any(found[0] == 0 for found in self.first):
+        if len(self.first) < ALIKE or any(found[0] == 0 for found in self.first):
             return
         for place in range(len(self.first[0])):
             values = {found[place] for found in self.first}

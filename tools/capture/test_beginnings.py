@@ -8,7 +8,7 @@ from unittest import mock
 from . import annotating, asking, frames, streams, watching
 from .test_frames import AC, ACK, CC, CN, CR, DT, SYN, Frames, Room, packet, pcap_of, stream_of, whole
 from .test_honest import Judge as Strict
-from .test_passing import call, needs_osi
+from .test_passing import call, judged, needs_osi
 
 MIDDLE = "begins in the middle"
 # Units of class 2: two CRs, the second of which also offers class 0, what may answer them, and what is of an earlier connection.
@@ -86,13 +86,58 @@ class Beginnings(unittest.TestCase):
             self.assertRegex(str(why), f"^{said}")
 
 
+class Again(unittest.TestCase):
+    """A session on the transport connection of one that has ended: X.225 allows it, if the unit that ended it says so."""
+
+    KEPT = (("0903110100", "0a00"), ("", "0c06110100320102"), ("0903110102", "0a02c100"), ("1903110102", "1a00"))
+    ENDED = (("0900", "0a00"), ("0903110101", "0a00"), ("", "0c03320102"), ("1903110103", "1a00"), ("0903110100", "0800"))
+
+    @staticmethod
+    def made(call, answer):
+        """The frames of a session that ends so, and another one; and the number of the frame with the second CN."""
+        made = Frames().open() if call else Frames().begin().send("left", CR).send("right", CC).send("left", CN)
+        for side, octets in (("left", call), ("right", answer)):
+            if octets:
+                made.send(side, packet(b"\2\xf0\x80" + bytes.fromhex(octets)))
+        return made.send("left", CN).send("right", AC).put("left").frames, len(made.frames) - 2
+
+    @needs_osi
+    def test_it_is_judged_up_to_there(self):
+        for units in self.KEPT:
+            frames_made, number = self.made(*units)
+            report = judged(frames_made)
+            said = f"judged up to frame {number}, with which left opens another session on the same transport connection"
+            self.assertEqual((report.status, report.judged.limit), (3, said), units)
+        for units in self.ENDED:
+            report = judged(self.made(*units)[0])
+            self.assertEqual((report.status, report.judged.limit), (1, None), units)
+
+    def test_a_watch_says_so(self):
+        told = mock.Mock(kind=mock.Mock(), rule=mock.Mock(), connection=None)
+        told.__str__ = lambda each: "left 1 broke packet 70 Connect BadState"
+        told.kind.name, told.rule.name = "BROKE", "BAD_STATE"
+        for units in self.KEPT + self.ENDED:
+            frames_made, number = self.made(*units)
+            found = []
+
+            def feed(_, side, octets, found=found):
+                found.append(octets)
+                return [told] if octets == CN and found.count(CN) == 2 else []
+            with mock.patch.object(Judge, "feed", feed):
+                out = watched(frames_made)
+            said = f"both kept the protocol, judged up to frame {number}, with which left opens another session" \
+                if units in self.KEPT else f"frame {number}, [0-9.]+ seconds: left 1 broke"
+            self.assertRegex(out, said)
+
+
 class Silent(Room):
     """Nothing passed, since the first octets of a side are lost."""
 
     @needs_osi
     def test_the_stream_is_named(self):
         made = whole()[0]
-        for lost, said in (((0, 3), f"the first {len(CR)} octets of left are lost, at frame 3"), ((1, 2, 3, 4), f"the first {len(CR)} octets of left are lost, at frame 2"),
+        for lost, said in (((0, 3), f"the first {len(CR)} octets of left are lost, at frame 3"),
+                           ((1, 2, 3, 4), f"the first {len(CR)} octets of left are lost, at frame 2"),
                            ((1, 4), f"the first {len(CC)} octets of right are lost, at frame 4")):
             kept = [frame for place, frame in enumerate(made) if place not in lost]
             status, out, err = call(kept, "judge")

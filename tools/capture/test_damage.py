@@ -11,7 +11,7 @@ from unittest import mock
 from ladders import judged, reading, script, tapped
 
 from . import asking, frames, judging, pcap, processes, program, reports, sums, test_honest, test_judging, test_unsure, tshark, watching
-from .test_frames import AC, ACK, CC, CN, CR, DT, IPV4, IPV6, SYN, Frames, Room, data, pcap_of
+from .test_frames import AC, ACK, CC, CN, CR, DN, DT, IPV4, IPV6, SYN, Frames, Room, data, pcap_of
 from .test_unsure import blamed
 
 WRONG, LATER = data(b"\1\0\1\0wrong"), data(b"\1\0\1\0" + bytes(range(90)))
@@ -156,7 +156,7 @@ class Judged(Room):
                     with self.subTest(name, since=since, step=step):
                         own = [with_sum(frame, form(frame)) if place >= since and (place - since) % step == 0 else frame
                                for place, frame in enumerate(made)]
-                        self.is_blamed(own, since == 1)
+                        self.is_blamed(own, form is pseudo and since == 1)
 
     def test_a_mixture_of_both(self):
         """The machine that captures sends without checksums, and what it receives was damaged; and the other way round."""
@@ -192,6 +192,11 @@ class Judged(Room):
             self.is_blamed(changed)
             self.is_not_blamed([spoiled(frame, random.Random(4)) if place == 12 else frame for place, frame in enumerate(changed, 1)],
                                DAMAGED.format(12, "left"))
+
+    def test_a_short_capture_with_other_addresses(self):
+        """The called side sent two segments."""
+        made = Frames().begin().send("left", CR).send("right", CC).send("left", CN, WRONG).frames
+        self.is_blamed([moved(right(frame), self.OTHERS) for frame in made])
 
     def test_a_capture_with_other_addresses_of_a_machine_that_sends_without_checksums(self):
         for made, others in ((talk(), self.OTHERS), (talk(IPV6), self.OTHERS_6)):
@@ -316,13 +321,30 @@ class Ladders(Room):
         self.assertEqual((said, notes), ("both kept the protocol\n", [f"Judged up to frame {number}, whose one octet may be that of a "
                                                                        "keepalive of left."]))
 
+    def test_another_session_on_the_transport_connection_of_one_that_has_ended(self):
+        made = Frames().open().send("left", data(bytes.fromhex("0903110100"))).send("right", DN).send("left", CN).put("right").frames
+        said = "left 1 broke packet 47 Connect BadState\nleft broke the protocol first, packet 47: Connect BadState\n"
+
+        def judge(text):
+            """Blames whoever sends two CN."""
+            return said if text.count("0d0c0506") > 1 else "both kept the protocol\n"
+        source, found = reading.surely(reading.by_name(self.write(pcap_of(made)), 102, None), judge, True)
+        self.assertEqual((len(source.pieces), found(tapped.text_of(source.pieces))), (6, "both kept the protocol\n"))
+        self.assertEqual(source.notes, ["Judged up to frame 10, with which left opens another session on the same transport connection."])
+
     def test_what_is_not_judged(self):
         for made, said in ((talk()[5:], "begins in the middle, at frame 1"), (test_honest.Honest.multipath(), asking.MULTIPATH),
                            ([frame for frame in talk() if frame[12:16] == LEFT], asking.ALONE)):
             self.assertEqual(self.drawn(made)[1], f"not judged: {said}\n")
 
 
-class Sums(unittest.TestCase):
+def right_sum(frame):
+    """The TCP checksum of a datagram."""
+    at = addresses_of(frame)[1] + 16
+    return int.from_bytes(right(frame)[at:at + 2], "big")
+
+
+class Sums(Room):
     """What is kept of checksums."""
 
     def test_what_is_kept_has_a_bound(self):
@@ -332,6 +354,12 @@ class Sums(unittest.TestCase):
             found.note(frame, (frame % 7 and frame, 1), 10)
         self.assertEqual((len(found.hurt), found.wrong + found.right), (sums.MOST, 3 * sums.MOST - 1))
         self.assertEqual([found.is_hurt(frame) for frame in (1, 2, 7, 2 * sums.MOST, 3 * sums.MOST)], [False, True, False, True, True])
+
+    def test_frames_without_octets_are_not_kept(self):
+        found = sums.Sums()
+        for frame in range(2 * sums.MOST):
+            found.note(frame, (frame + 1, 3 * frame + 7), 0)
+        self.assertEqual((len(found.hurt), found.later, found.wrong), (0, None, 2 * sums.MOST))
 
     def test_a_number_that_a_few_checksums_are_wrong_by_is_no_change_of_all(self):
         """As of a card that spoils the same bit of each frame with octets, but not those without."""
@@ -345,16 +373,12 @@ class Sums(unittest.TestCase):
         if not tshark.is_there():
             self.skipTest("tshark is not installed")
         chance = random.Random(6)
+        forms = (*FORMS.values(), lambda frame: chance.randrange(2 ** 16))
         for addresses in (None, IPV6):
-            made = talk(addresses)
-            for form in (*FORMS.values(), lambda frame: chance.randrange(2 ** 16)):
-                room = Room()
-                room.setUp()
-                path = room.write(pcap_of([with_sum(frame, form(frame)) if place % 3 else frame for place, frame in enumerate(made)]))
-                both = [[(each.frame, each.sum, each.most) for each in found] for found in
-                        (frames.segments(path, lambda: None, True), tshark.segments(path, has_sums=True))]
-                room.room.cleanup()
-                self.assertEqual(*both)
+            path = self.write(pcap_of([with_sum(frame, form(frame)) for frame in talk(addresses) for form in (right_sum, *forms)]))
+            both = [[(each.frame, each.sum, each.most) for each in found] for found in
+                    (frames.segments(path, lambda: None, True), tshark.segments(path, has_sums=True))]
+            self.assertEqual(*both)
 
 
 if __name__ == "__main__":

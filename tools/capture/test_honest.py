@@ -453,7 +453,8 @@ class Foreign(unittest.TestCase):
             self.assertIsNone(self.kind(*opened, ("left", data(octets)), ("right", AC)))
         self.assertIsNone(self.kind(*opened, ("left", CN), ("right", data(b"OK\r\n"))))
         for octets in (b"\x10\2\0\1\2", b"\x0e\7\1", b"\x19\0\0", b"\x0c\3\0\0"):
-            self.assertEqual(self.kind(*opened, ("left", data(bytes(9))), ("right", data(octets))), "a protocol whose data begins with 0000")
+            said = self.kind(*opened, ("left", data(bytes(9))), ("right", data(octets)))
+            self.assertEqual(said, "a protocol whose data begins with 0000")
             self.assertEqual(self.kind(*opened, ("right", data(octets)), ("right", data(octets))),
                              f"a protocol whose data begins with {octets[:2].hex()}")
 
@@ -463,6 +464,20 @@ class Foreign(unittest.TestCase):
         for wrong in (data(CN[7:] + b"\0"), data(CN[7:8] + b"\x0d" + CN[9:]), data(CN[7:8] + b"\xff\0\x0c" + CN[9:] + b"\0")):
             self.assertIsNone(self.kind(*opened, ("left", wrong)))
             self.assertIsNone(self.kind(*opened, ("left", wrong), ("right", AB)))
+
+    def test_a_connect_in_small_parts(self):
+        """Each data unit has some octets of the TSDU."""
+        def parts(unit, size):
+            return b"".join(packet(b"\2\xf0" + (b"\0" if at + size < len(unit) else b"\x80") + unit[at:at + size])
+                            for at in range(7, len(unit), size))
+        for size in (1, 2, 3, 20):
+            sent = ("left", CR), ("right", CC), ("left", parts(CN, size)), ("right", parts(AC, size))
+            self.assertIsNone(self.kind(*sent))
+            self.assertIsNone(self.kind(*sent[:3]))
+            made = Frames().begin()
+            for side, octets in sent:
+                made.send(side, octets)
+            self.assertIsNone(asking.why_not(stream_of(made.frames)))
 
     def test_empty_data_before_anything_else(self):
         """Some controllers answer the CC with an empty data unit."""

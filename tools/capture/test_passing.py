@@ -7,7 +7,7 @@ import tempfile
 import unittest
 from unittest import mock
 
-from ladders import script, tapped
+from ladders import reading, script, tapped
 from ladders.program import main as ladder
 
 from . import asking, judging, kinds, listing, middle, outcome, program, streams, tshark
@@ -358,6 +358,28 @@ class Middles(unittest.TestCase):
         self.assertIn("begins in the middle, at frame 1", call(frames, "list")[1])
         self.assertTrue(call(frames, "show")[1].startswith("begins in the middle, at frame 1\n"))
 
+    def test_the_rest_of_a_tsdu_is_no_fault(self):
+        """Of the first TSDU of each direction, and in class 2 of each reference; later ones, and those of transport, no history excuses."""
+        rows = ["packet 0 length 31 code f0", "  DT number 0 eot 0 octets 24",
+                "packet 31 length 31 code f0", "  DT number 0 eot 1 octets 24", "    tsdu 48", "    fault 0 UnknownSi",
+                "packet 62 length 10 code f0", "  DT number 0 eot 1 octets 3", "    tsdu 3", "    fault 0 UnknownSi",
+                "packet 72 length 7 code 33", "  fault 1 UnknownCode"]
+        wanted = [*rows[:5], listing.REST, *rows[6:]]
+        self.assertEqual(list(listing.from_middle(rows)), wanted)
+        both = [row for reference in ("0001", "0002") for row in
+                (f"  DT dst {reference} number 0 eot 1 octets 3", "    fault 1 LengthPastEnd 2")]
+        self.assertEqual(list(listing.from_middle(both + both)), [both[0], listing.REST, both[2], listing.REST, *both])
+
+    @needs_osi
+    def test_a_capture_that_begins_within_a_tsdu(self):
+        parts = [packet(b"\x02\xf0" + (b"\x80" if last else b"\0") + bytes(range(40, 90))) for last in (False, False, True)]
+        made = Frames().open().send("right", *parts).talk(2).send("right", data(b"\x77\0")).put("left").frames[8:]
+        shown = call(made, "show")[1]
+        self.assertEqual((shown.count("perhaps the rest of a TSDU"), shown.count("fault 0 UnknownSi")), (1, 1))
+        source = reading.of_network(middle.Middle(stream_of(made)), False)
+        self.assertIn("perhaps the rest", source.listed({"left": "", "right": "\n".join(listing.shown(OSI, tapped.octets_of(
+            source.pieces, "right")))})["right"])
+
 
 class Ladders(unittest.TestCase):
     """osi-ladders draws a stream as osi-capture reads it."""
@@ -516,6 +538,12 @@ class Status(unittest.TestCase):
         self.assertEqual((status, "both kept the protocol" in out, out.count("osi show lists at most 40")), (0, True, 2), out)
 
     @needs_osi
+    def test_an_address_may_be_written_in_any_form(self):
+        for text, wanted in (("192.0.2.1", "192.0.2.1"), ("2001:DB8:0::01", "2001:db8::1"), ("[2001:db8::1]", "2001:db8::1")):
+            self.assertEqual(judging.address(text), wanted)
+        with self.assertRaisesRegex(BadInput, "--host plant7: it is no address"):
+            judging.address("plant7")
+
     def test_streams_and_hosts_are_chosen(self):
         frames = [whole()[0], whole()[0], whole()[0]]
         self.assertEqual(call(frames, "judge", "--stream", "0", "--stream", "2")[1].count("both kept"), 2)

@@ -7,7 +7,7 @@ import subprocess
 import unittest
 from unittest import mock
 
-from ladders import judged
+from ladders import judged, program as ladders_program
 
 from . import asking, listing, processes, program
 from .test_frames import Frames, Room, pcap_of
@@ -73,6 +73,21 @@ class Sources(Room):
                 status, out, err = self.call(job, "-", b"\1\2\3" * 50)
                 self.assertEqual((status, out, err.startswith("osi-capture: standard input: "), err.count("\n")), (2, "", True, 1), err)
                 self.assertNotIn(self.room.name, err.replace(self.path("input"), ""))
+
+    def test_a_ladder_is_drawn_of_them(self):
+        for path in (self.capture, self.text):
+            with open(path, "rb") as file:
+                octets = file.read()
+            found = [self.pieces(name, octets) for name in (path, "-", None)]
+            self.assertEqual(found[1:], found[:1] * 2)
+            self.assertEqual({side for side, *_ in found[0]}, {"left", "right"})
+
+    def pieces(self, name, octets):
+        """What osi-ladders draws of a name; standard input has some octets."""
+        options = ladders_program.words().parse_args([name] if name else [])
+        with open(self.write(octets, "input"), "rb") as file, mock.patch.object(asking.sys, "stdin", mock.Mock(buffer=file)):
+            source, _ = ladders_program.source_of(options.file, options)
+        return [(piece.side, piece.octets, piece.frame, piece.time) for piece in source.pieces]
 
     def test_a_text_and_its_capture_are_the_way_back(self):
         self.assertEqual(self.call("join", self.text)[0], 0)

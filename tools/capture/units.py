@@ -10,12 +10,13 @@ TRANSPORT_DISCONNECT, REASON = 17, 50
 
 
 class Unit:
-    """A unit: its name, where its packet begins and ends in its direction, and its reason if it has one."""
+    """A unit: its name, where its packet begins and ends in its direction, its reason if it has one, and whether it says that the
+    transport connection is kept for another session (bit 1 of transport disconnect is 0; X.225 section 8.3)."""
 
-    __slots__ = ("name", "start", "end", "reason")
+    __slots__ = ("name", "start", "end", "reason", "keeps")
 
-    def __init__(self, name, start, end, reason=None):
-        self.name, self.start, self.end, self.reason = name, start, end, reason
+    def __init__(self, name, start, end, reason=None, keeps=False):
+        self.name, self.start, self.end, self.reason, self.keeps = name, start, end, reason, keeps
 
 
 class Reader:
@@ -58,10 +59,11 @@ def of_session(tsdu, start, end):
     if len(tsdu) < 2:
         return None
     name, values = SESSION.get(tsdu[0]), {}
-    if name in ("AB", "RF"):
+    if name in ("AB", "RF", "FN"):
         values = parameters(tsdu)
-    reason = {"AB": values.get(TRANSPORT_DISCONNECT), "RF": values.get(REASON)}.get(name)
-    return Unit(name, start, end, reason[0] if reason else None) if name else None
+    disconnect = values.get(TRANSPORT_DISCONNECT)
+    reason = {"AB": disconnect, "RF": values.get(REASON)}.get(name)
+    return Unit(name, start, end, reason[0] if reason else None, bool(disconnect) and not disconnect[0] & 1) if name else None
 
 
 def parameters(unit):

@@ -257,11 +257,19 @@ class Fed(Watched):
             self.found = "not judged: the capture begins in the middle of a connection", None
         elif rule == "LIMIT":
             self.limit = self.limit or "not judged further: more passed than a judge of the library keeps"
+        if self.is_another(str(told).endswith("Connect BadState")):
+            return
         line = None
         if kind in ("BROKE", "LEAVES"):
             line = f"frame {piece.frame}, {piece.time - self.begin:.6f} seconds: {self.line_of(told)}"
         status = judging.BROKE if kind == "BROKE" else judging.PARTLY
         self.waiting.append((source, piece.start + len(piece.octets), status, piece.frame, line, self.fed))
+
+    def is_another(self, is_second_connect):
+        """Whether what was found is only another session on the same transport connection; then the stream is judged up to there."""
+        if is_second_connect and self.follower.again:
+            self.limit = self.limit or f"judged up to {streams.Another(*self.follower.again)}"
+        return is_second_connect and self.follower.again is not None
 
     def tell(self, is_end):
         """Tells what is found of octets that are acknowledged, or at the end of all; not of those that were sent again as others, nor what
@@ -401,6 +409,8 @@ class Piped(Fed):
         why = kinds.why_not(self)
         if why:
             self.found = f"not judged: {why}", None
+            return
+        if self.is_another(outcome.is_second_connect(fields)):
             return
         side = streams.SIDES[source != self.left]
         end, frame, when = self.places[side].of(int(fields["offset"])) or (0, 0, None)

@@ -13,7 +13,7 @@ TRANSPORT = re.compile(
     rf"|DR dst {REFERENCE} src {REFERENCE} reason \d+|DC dst {REFERENCE} src {REFERENCE}"
     rf"|DT (dst {REFERENCE} )?number \d+ eot [01] octets \d+|AK credit \d+ dst {REFERENCE} number \d+"
     rf"|ER dst {REFERENCE} cause \d+|fault \d+ \w+)")
-INSIDE = re.compile(r"    (tsdu \d+|fault \d+ \w+( \d+)?)")
+INSIDE = re.compile(r"    (tsdu \d+|fault \d+ \w+( \d+)?|perhaps the rest of a TSDU that began before)")
 # The session unit of the other side that has to come before each of these.
 ANSWERS = {"AC": "CN", "RF": "CN", "RA": "RS", "MAA": "MAP", "MIA": "MIP", "DN": "FN", "NF": "FN", "AA": "AB"}
 

@@ -181,12 +181,13 @@ def named_listings(options):
 
 def source_of(name, options):
     """A capture, and the title in its file, if it has one; or None and a text that is no capture."""
-    source = reading.by_name(name, options.port, options.stream, options.upper)
+    path = asking.local(name or "-")
+    source = reading.by_name(path, options.port, options.stream, options.upper)
     if source is not None:
         return source, None
     if options.stream is not None:
         raise BadInput("--stream is for a pcap or pcapng")
-    text = read_text(name)
+    text = read_text(path)
     is_capture = options.judge or reading.is_capture(text)
     return (reading.Source(tapped.read(text)), title_of_capture(text)) if is_capture else (None, text)
 
@@ -202,7 +203,7 @@ def picture_of_file(options, progress):
         raise BadInput("--script goes with a transcript, and this is a capture")
     pieces = source.pieces if source.ends else reading.by_caller(source.pieces)
     title = readable(options.title or text or named(options.file, "a capture of both sides"))
-    listings = listings_of(pieces, options.osi, named_listings(options), progress)
+    listings = source.listed(listings_of(pieces, options.osi, named_listings(options), progress))
     return finished(tapped.picture_of(pieces, listings, title, options.connection, options.first, options.last, source.upper), source)
 
 
@@ -223,7 +224,7 @@ def judged_capture(options, progress):
     if source.stream is not None and not told:
         source, judge = reading.surely(source, judge, not options.ignore_checksums)
     pieces = source.pieces
-    listings = listings_of(pieces, options.osi, named_listings(options), progress)
+    listings = source.listed(listings_of(pieces, options.osi, named_listings(options), progress))
     if options.states:
         return judged.told(pieces, listings, judge)
     title = readable(options.title or said or named(options.judge, "a capture of both sides"))
@@ -319,7 +320,7 @@ def main(arguments=None):
     except (BadInput, OSError) as error:
         progress.end()
         said = error if isinstance(error, BadInput) else f"{error.filename or 'standard output'}: {error.strerror}"
-        print(f"osi-ladders: {' '.join(str(said).split())}", file=sys.stderr)
+        print(f"osi-ladders: {asking.line_of(said)}", file=sys.stderr)
         if isinstance(error, BrokenPipeError):
             os.dup2(os.open(os.devnull, os.O_WRONLY), sys.stdout.fileno())
         return 2

@@ -2,7 +2,7 @@
 import os
 import re
 
-from capture import asking, damage, middle, streams, texts, tshark
+from capture import asking, damage, listing, middle, outcome, streams, texts, tshark
 
 from . import captures, tapped, verdicts
 from .transcript import SIDES, BadInput
@@ -23,11 +23,23 @@ def is_network(name):
 
 
 class Source:
-    """The pieces of a capture; the addresses of its sides, notes on where it begins and ends, and the stream, if it is one of a network;
-    and what tshark calls the layers above, by frame."""
+    """The pieces of a capture; the addresses of its sides, notes on where it begins and ends, and the stream, if it is one of a network,
+    and whether it begins in the middle; and what tshark calls the layers above, by frame."""
+
+    is_middle = False
 
     def __init__(self, pieces, ends=None, notes=(), upper=None, stream=None):
         self.pieces, self.ends, self.notes, self.upper, self.stream = pieces, ends or {}, list(notes), upper, stream
+
+    def up_to(self, place, gap):
+        """The part of a capture of a network before a piece, because of a gap."""
+        return Source(self.pieces[:place], self.ends, [f"Judged up to {gap}."], self.upper, self.stream)
+
+    def listed(self, listings):
+        """The listings of both sides. In what begins in the middle, the rest of a TSDU is no fault."""
+        if not self.is_middle:
+            return listings
+        return {side: "".join(f"{row}\n" for row in listing.from_middle(text.splitlines())) for side, text in listings.items()}
 
 
 def pieces_of(stream):
@@ -55,7 +67,9 @@ def of_network(view, has_upper):
     gap = stream.gap()
     notes += [f"Shown up to {gap}."] if gap else []
     upper = tshark.upper(stream.path, stream.number) if has_upper else None
-    return Source(pieces_of(view), {side: asking.named(end) for side, end in stream.by_end().items()}, notes, upper, stream)
+    made = Source(pieces_of(view), {side: asking.named(end) for side, end in stream.by_end().items()}, notes, upper, stream)
+    made.is_middle = isinstance(view, middle.Middle)
+    return made
 
 
 def surely(source, judge, has_sums):
@@ -65,13 +79,21 @@ def surely(source, judge, has_sums):
     why = asking.why_not(stream)
     if why:
         return source, lambda text: f"not judged: {why}\n"
-    found = damage.first_unsure(stream)
-    if found is None or verdicts.printed(judge(tapped.text_of(source.pieces))).first is None:
-        return source, judge
-    place, gap = found
-    if gap.side not in {piece.side for piece in source.pieces[:place]}:
-        return source, lambda text: f"not judged: {asking.of_nothing(gap)}\n"
-    return Source(source.pieces[:place], source.ends, [f"Judged up to {gap}."], source.upper, stream), judge
+    unsure, another = damage.first_unsure(stream), outcome.another(stream.by_side())
+    if unsure and first_break(source, judge):
+        place, gap = unsure
+        if gap.side not in {piece.side for piece in source.pieces[:place]}:
+            return source, lambda text: f"not judged: {asking.of_nothing(gap)}\n"
+        source = source.up_to(place, gap)
+    if another and another[0] < len(source.pieces) and outcome.is_second_connect(first_break(source, judge)):
+        source = source.up_to(*another)
+    return source, judge
+
+
+def first_break(source, judge):
+    """The fields of what a judge says of the side that broke the protocol first; none if no side did."""
+    verdict = verdicts.printed(judge(tapped.text_of(source.pieces)))
+    return verdict.last if verdict.first else {}
 
 
 def by_caller(pieces):

@@ -174,7 +174,7 @@ def described(step):
     named = [told for told in (of_session(row) for row in units) if told]
     if not named:
         named = [row.strip().split(" ")[0] + (", unfinished" if " eot 0 " in row else "") for row in packet.lines[1:2]]
-        named += [row.strip() for row in units if row.strip().startswith("fault")]
+        named += [row.strip() for row in units if row.strip().startswith(("fault", "perhaps"))]
     return f"{packet.lines[0].split(' ')[1]}: " + with_part(" ".join(named), step)
 
 
