@@ -47,8 +47,9 @@ pub use Rattle.osi_carrier.proofs.effects.what_is_in_front_changes_nothing.{apar
 pub use Rattle.osi_carrier.proofs.references.rows_after_a_change.{push_other, put_other, without_other}
 pub use Rattle.osi_carrier.proofs.references.what_a_change_leaves_there.{beyond, push_here, put_here, found as row_here, without_here}
 pub use Rattle.osi_carrier.proofs.stream.a_carrier_does_what_its_packets_do.{back_joined}
+pub use Rattle.osi_carrier.proofs.written.what_is_put_is_written.{call_written, outcome_over, outcome_quiet, state_is, unit_written}
 pub use Rattle.osi_carrier.specs.Calls.{asks, class_error, closed_on, closed_with, closes as closes_in, ended_by, fresh_state, link_of}
-pub use Rattle.osi_carrier.specs.Calls.{may_connect, open_link, sent, sent_all}
+pub use Rattle.osi_carrier.specs.Calls.{may_connect, open_link, put_asking, put_closed, put_closing, put_sent, put_together, sent, sent_all}
 pub use Rattle.osi_carrier.specs.Happenings.{Happening}
 pub use Rattle.osi_carrier.specs.Negotiation.{acceptance, agreed_size, confirmed, opened_link, proposal, proposal_by, proposes_zero}
 pub use Rattle.osi_carrier.specs.Negotiation.{unit_octets}
@@ -57,13 +58,15 @@ pub use Rattle.osi_carrier.specs.Packets.{Carrying, Feeds, FindsNoMemory, FindsN
 pub use Rattle.osi_carrier.specs.Packets.{TakesPackets, acts_by, waits}
 pub use Rattle.osi_carrier.specs.Pump.{pumped, written_by}
 pub use Rattle.osi_carrier.specs.React.{accepts, answers as answers_by, answers_request, before_class, breaks as breaks_in, denies}
-pub use Rattle.osi_carrier.specs.React.{handed_out, has_peer, in_class, in_two, in_zero, is_full, leaves, opens, react, react_by, reacts}
+pub use Rattle.osi_carrier.specs.React.{handed_out, has_peer, in_class, in_two, in_zero, is_full, leaves, opens, outcome, put_for, react}
+pub use Rattle.osi_carrier.specs.React.{react_by, reacts}
 pub use Rattle.osi_carrier.specs.React.{taking, to_asked, to_closing, to_connection, to_linked, to_only, to_reference, to_unknown}
 pub use Rattle.osi_carrier.specs.Rising.{RiseBy}
 pub use Rattle.osi_carrier.specs.Rows.{Rows, put, value_at, without}
 pub use Rattle.osi_carrier.specs.Runs.{Call, Calls, UserCall, packet as arrived, breaks, calling, carried_in, closes as closes_call}
-pub use Rattle.osi_carrier.specs.Runs.{connects, does, feeding, put_back, sends, sends_all, told_in, used_in, user, user_does}
-pub use Rattle.osi_carrier.specs.State.{Connection as Live, State, asked, closing, ends, fails, linked, packets}
+pub use Rattle.osi_carrier.specs.Runs.{connects, does, feeding, put_back, put_by, sends, sends_all, told_in, used_in, user, user_does}
+pub use Rattle.osi_carrier.specs.State.{Connection as Live, Outcome as CarrierOutcome, State, asked, closing, ends, fails, linked, packets}
+pub use Rattle.osi_carrier.specs.State.{puts_none}
 pub use Rattle.osi_carrier.specs.declared.ends.CarrierFault.TheVariants.{Tpdu, UnexpectedUnit}
 pub use Rattle.osi_carrier.specs.declared.ends.EndReason.{EndReason}
 pub use Rattle.osi_carrier.specs.declared.ends.EndReason.TheVariants.{Fault, NoMemory}
@@ -106,8 +109,5 @@ pub use Rattle.osi_fair.specs.Lines.{after_finding, answering_line, answers, beg
 pub use Rattle.osi_fair.specs.Lines.{moves, opened_half, opened_line, passes_other, passes_own, units_put, units_taken}
 pub use Rattle.osi_fair.specs.Naming.{HoldsOfOne, Passing, all_passed, packet, passes, rubbish, unit}
 pub use Rattle.osi_fair.specs.Pieces.{IsFed, units_by, units_in}
-pub use Rattle.osi_fair.specs.Putting.{put_at, put_before, put_by, put_closed, put_closing, put_for, put_for_request, put_for_selection}
-pub use Rattle.osi_fair.specs.Putting.{put_in, put_in_two, put_in_zero, put_leaving, put_linked, put_only, put_sent, put_taking, put_to}
-pub use Rattle.osi_fair.specs.Putting.{put_together, refusal}
 pub use Rattle.osi_fair.specs.Wholes.{Becomes, Event, HappenAlong, Happens, MayCall, Whole, arrives, begin, begins_other, begins_own, calls}
 pub use Rattle.osi_fair.specs.Wholes.{passes_rubbish}

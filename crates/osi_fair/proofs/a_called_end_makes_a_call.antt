@@ -1,15 +1,15 @@
 -- The user of a whole called end makes a call: it sends TSDUs on an open connection, closes one, or ends the carrier.
 -- For the law on a whole called end.
 use Rattle.osi_fair.proofs.Vocabulary.{[], ap, arith, Bool, false, if◌then◌else◌, is_some, length, List, None, Option, refl, Some, subst}
-use Rattle.osi_fair.proofs.Vocabulary.{sym, true, ℕ, ◌++◌, ◌∙◌, ◌∷◌, ◌≡◌, ◌≤◌, eqb-true, append-nil, AllByRecursion, ◌==◌, Value, all_given}
-use Rattle.osi_fair.proofs.Vocabulary.{longest_tsdu, Standing, with_tsdu, Class, Two, Local, orderly_closed, orderly_ended, orderly_sent}
+use Rattle.osi_fair.proofs.Vocabulary.{sym, true, ℕ, ◌++◌, ◌∙◌, ◌∷◌, ◌≡◌, ◌≤◌, eqb-true, append-nil, AllByRecursion, ◌==◌, Value}
+use Rattle.osi_fair.proofs.Vocabulary.{longest_tsdu, Standing, with_tsdu, Two, Local, orderly_closed, orderly_ended, orderly_sent}
 use Rattle.osi_fair.proofs.Vocabulary.{orderly_sent_all, put_other, put_here, closed_with, closes_in, ended_by, open_link, sent, sent_all}
 use Rattle.osi_fair.proofs.Vocabulary.{IsOrderly, pumped, value_at, breaks, closes_call, connects, sends, sends_all, user_does, UserCall}
-use Rattle.osi_fair.proofs.Vocabulary.{closing, ends as ends_as, linked, EndReason, Follows, link_now, put_by, put_closed, put_closing}
-use Rattle.osi_fair.proofs.Vocabulary.{put_sent, put_together, MayCall, Whole, State}
+use Rattle.osi_fair.proofs.Vocabulary.{closing, ends as ends_as, linked, EndReason, Follows, link_now, put_by, put_closing, put_sent}
+use Rattle.osi_fair.proofs.Vocabulary.{put_together, MayCall, Whole, State}
 use Rattle.osi_carrier.specs.Calls.{sent_on}
 use Rattle.osi_fair.proofs.small_facts_that_many_lemmas_use.{none_of}
-use Rattle.osi_fair.proofs.what_becomes_of_a_called_end.{IsCalled, Same, called_still, units_no_cc}
+use Rattle.osi_fair.proofs.what_becomes_of_a_called_end.{IsCalled, Same, called_still, none_by_call}
 use Rattle.osi_fair.proofs.a_carrier_follows_lines.{follows_closed, follows_sent}
 use Rattle.osi_fair.proofs.calls_of_a_line_join.{follows_together, still_open}
 use Rattle.osi_fair.proofs.each_connection_of_a_called_end.{Called}
@@ -65,23 +65,6 @@ pub all_none : (r : ℕ) (tsdus : List (List ℕ)) (s : State) → open_link r s
 all_none r [] s h = (refl, refl)
 all_none r (tsdu ∷ tsdus) s h = grind (arith, all_none r tsdus s h)
 
--- ---- units that are no CCs
-
-sent_no_cc : (tsdu : List ℕ) (o : Option (ℕ × Standing)) → AllByRecursion IsNoCc (put_sent tsdu o)
-sent_no_cc tsdu None = tt
-sent_no_cc tsdu (Some (peer, link)) = units_no_cc peer (all_given (with_tsdu link tsdu))
-
-join_no_cc : (xs ys : List Value) → AllByRecursion IsNoCc xs → AllByRecursion IsNoCc ys → AllByRecursion IsNoCc (xs ++ ys)
-join_no_cc [] ys a b = b
-join_no_cc (x ∷ xs) ys (one, more) b = (one, join_no_cc xs ys more b)
-
-together_no_cc : (r : ℕ) (tsdus : List (List ℕ)) (s : State) → AllByRecursion IsNoCc (put_together r tsdus s)
-together_no_cc r [] s = tt
-together_no_cc r (tsdu ∷ tsdus) s = grind (arith, join_no_cc, sent_no_cc, together_no_cc r tsdus (sent r tsdu s))
-
-closed_no_cc : (r reason peer : ℕ) (k : Option Class) → k ≡ Some Two → AllByRecursion IsNoCc (put_closed r reason peer k)
-closed_no_cc r reason peer k e = grind arith
-
 -- ---- any call
 
 module _ (local : Local) (w : Whole) (f : Called local w) (c : IsCalled local w.end) where
@@ -121,7 +104,7 @@ module _ (local : Local) (w : Whole) (f : Called local w) (c : IsCalled local w.
       let (lasts, there) = open_is r peer (pumped (with_tsdu link tsdu)) (sent r tsdu s) (still_open r peer tsdu s link e) in
       talks_so (sent r tsdu s) (put_sent tsdu (open_link r s)) r peer link (pumped (with_tsdu link tsdu)) was here
       (λ m other. rows_sent m r tsdu (open_link r s) s other) (same_sent r tsdu (open_link r s) s) (orderly_sent r tsdu s c.orderly)
-      (λ q k row. follows_sent r q tsdu s k (open_of r q k s was row) short) there (sent_no_cc tsdu (open_link r s))
+      (λ q k row. follows_sent r q tsdu s k (open_of r q k s was row) short) there (none_by_call (sends r tsdu) s)
 
   together_by : (r : ℕ) (tsdus : List (List ℕ)) (o : Option (ℕ × Standing)) → open_link r s ≡ o →
       AllByRecursion (λ (tsdu : List ℕ). length tsdu ≤ longest_tsdu) tsdus → Made (sent_all r tsdus s) (put_together r tsdus s)
@@ -132,7 +115,7 @@ module _ (local : Local) (w : Whole) (f : Called local w) (c : IsCalled local w.
       let (lasts, there) = open_is r peer l (sent_all r tsdus s) after in
       talks_so (sent_all r tsdus s) (put_together r tsdus s) r peer link l was here (λ m other. rows_all m r tsdus s other)
       (same_all r tsdus s) (orderly_sent_all r tsdus s c.orderly)
-      (λ q k row. follows_together r q tsdus s k (open_of r q k s was row) short) there (together_no_cc r tsdus s)
+      (λ q k row. follows_together r q tsdus s k (open_of r q k s was row) short) there (none_by_call (sends_all r tsdus) s)
 
   closes_by : (r reason : ℕ) (o : Option (ℕ × Standing)) → open_link r s ≡ o →
       Made (closed_with r reason s) (put_closing r reason (open_link r s) s.class)
@@ -149,7 +132,7 @@ module _ (local : Local) (w : Whole) (f : Called local w) (c : IsCalled local w.
         line_steps local w f t units w.coming f.came r peer link here was rows same.given (λ m other. refl) (λ p. refl)
             (grind (arith, follows_closed, open_of))
             (λ q k row. shuts (ap link_now there)) f.come f.few f.untagged
-            (grind (arith, closed_no_cc))
+            (none_by_call (closes_call r reason) s)
             (λ strays last. timely_calls s t w.coming w.judge.connections (values f.tagged) (given_same same.given)
             (λ m k. row_lives t r rows (ap is_some there) m (m == r) refl k) (f.timely strays was)),
         grind (arith, called_still, orderly_closed r reason s c.orderly),

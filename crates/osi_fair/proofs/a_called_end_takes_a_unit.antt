@@ -1,15 +1,15 @@
 -- A whole called end takes a unit: a CR, a unit for an open connection or for one that is not open, or one for which it ends.
 -- For the law on a whole called end.
-use Rattle.osi_fair.proofs.Vocabulary.{[], ap, arith, Bool, false, if◌then◌else◌, inl, inr, is_some, List, None, Option, refl, Some, subst}
-use Rattle.osi_fair.proofs.Vocabulary.{sym, true, ℕ, ◌++◌, ◌+◌, ◌-◌, ◌<◌, ◌∙◌, ◌∷◌, ◌≡◌, ◌≤◌, ◌⊎◌, eq-eqb, eqb-true, ltb-false, ltb-true}
-use Rattle.osi_fair.proofs.Vocabulary.{append-nil, AllByRecursion, IsSome, slice_get, ◌&&◌, ◌==◌, ◌||◌, acknowledge, confirm, Connect}
-use Rattle.osi_fair.proofs.Vocabulary.{data0, data2, destination_of, disconnect, disconnected, error, request, Value, Standing, accept}
-use Rattle.osi_fair.proofs.Vocabulary.{refuse, selected_by, Selection, Class, Two, Zero, Local, orderly_unit, push_other, beyond, push_here}
+use Rattle.osi_fair.proofs.Vocabulary.{[], ap, arith, Bool, false, inl, inr, is_some, List, None, Option, refl, Some, subst, sym, true, ℕ}
+use Rattle.osi_fair.proofs.Vocabulary.{◌++◌, ◌+◌, ◌-◌, ◌<◌, ◌∙◌, ◌∷◌, ◌≡◌, ◌≤◌, ◌⊎◌, eq-eqb, eqb-true, ltb-false, ltb-true, append-nil}
+use Rattle.osi_fair.proofs.Vocabulary.{AllByRecursion, IsSome, slice_get, ◌&&◌, ◌==◌, ◌||◌, acknowledge, confirm, Connect, data0, data2}
+use Rattle.osi_fair.proofs.Vocabulary.{destination_of, disconnect, disconnected, error, request, Value, Standing, accept, refuse}
+use Rattle.osi_fair.proofs.Vocabulary.{selected_by, Selection, Class, Two, Zero, Local, orderly_unit, push_other, beyond, push_here}
 use Rattle.osi_fair.proofs.Vocabulary.{without_here, acceptance, opened_link, unit_octets, AreUpTo, IsOrderly, RiseFrom, accepts}
-use Rattle.osi_fair.proofs.Vocabulary.{answers_by, answers_request, before_class, denies, has_peer, in_class, in_two, is_full, react_by}
-use Rattle.osi_fair.proofs.Vocabulary.{to_closing, to_connection, to_unknown, Rows, value_at, asked, closing, Live, fails, linked}
-use Rattle.osi_fair.proofs.Vocabulary.{UnexpectedUnit, EndReason, is_live, is_refused, Connection, Left, HoldsOfOne, put_at, put_before}
-use Rattle.osi_fair.proofs.Vocabulary.{put_for, put_for_request, put_for_selection, put_in, refusal, Whole, State}
+use Rattle.osi_fair.proofs.Vocabulary.{answers_by, answers_request, before_class, denies, has_peer, in_class, is_full, to_closing}
+use Rattle.osi_fair.proofs.Vocabulary.{to_connection, to_unknown, Rows, value_at, asked, closing, Live, fails, linked, UnexpectedUnit}
+use Rattle.osi_fair.proofs.Vocabulary.{EndReason, is_live, is_refused, Connection, Left, HoldsOfOne, put_for, Whole, State, outcome}
+use Rattle.osi_fair.proofs.Vocabulary.{CarrierOutcome, puts_none, outcome_over, outcome_quiet, state_is, to_linked}
 unfoldable use Rattle.osi_carrier.specs.React.{react}
 use Rattle.osi_fair.proofs.small_facts_that_many_lemmas_use.{and_false, differ, first_is, number_is, or_first, or_last}
 use Rattle.osi_fair.proofs.a_called_end_answers_a_cr.{Place, is_accepted, is_refused as refuses_it, place}
@@ -17,7 +17,7 @@ use Rattle.osi_fair.proofs.a_called_end_selects_class_zero.{Selecting}
 use Rattle.osi_fair.proofs.all_are_judged_unless_one_broke.{IsJudged}
 use Rattle.osi_fair.proofs.what_an_end_does_in_class_zero.{IsInZero, some_is as same_row, talks as goes_on}
 use Rattle.osi_fair.proofs.what_holds_of_one_item.{HoldsOfEach}
-use Rattle.osi_fair.proofs.a_carrier_follows_lines.{follows_open, put_is, react_is}
+use Rattle.osi_fair.proofs.a_carrier_follows_lines.{follows_open, outcome_at}
 use Rattle.osi_fair.proofs.how_a_unit_of_right_passes.{Head, head_of, no_list}
 use Rattle.osi_fair.proofs.each_connection_of_a_called_end.{Asked, Among, Called, IsDc, IsFor, IsNoCr, Stand, Untagged, answers}
 use Rattle.osi_fair.proofs.each_connection_of_a_called_end.{comes, past, refuses, runs}
@@ -27,8 +27,8 @@ use Rattle.osi_fair.proofs.what_a_called_end_leaves_alone.{is_over, left_alone}
 use Rattle.osi_fair.proofs.what_is_live_at_a_called_end.{IsLive, Timely, shuts_of, timely_takes}
 use Rattle.osi_fair.proofs.which_units_are_for_a_connection.{first_kept, first_left, named_not, named_so, those}
 use Rattle.osi_fair.proofs.what_becomes_of_a_called_end.{above_up, rows_none, IsCalled, Same, called_still, no_row, touch_rows, touch_none}
-use Rattle.osi_fair.proofs.what_becomes_of_a_called_end.{touch_lives, push_lives, linked_no_cc, OpenSo, open_so, dc_follows}
-use Rattle.osi_fair.proofs.what_becomes_of_a_called_end.{closing_touches, closing_same}
+use Rattle.osi_fair.proofs.what_becomes_of_a_called_end.{touch_lives, push_lives, none_but_cr, OpenSo, open_so, dc_follows}
+use Rattle.osi_fair.proofs.what_becomes_of_a_called_end.{closing_touches, closing_puts, closing_same}
 use Rattle.osi_fair.proofs.a_called_end_makes_a_call.{given_same, same_peer}
 use Rattle.osi_fair.proofs.a_dt_of_class_zero_passes.{unlike}
 use Rattle.osi_fair.proofs.each_connection_has_its_line.{IsNoCc}
@@ -47,14 +47,6 @@ given_so n given source reason user k = grind arith
 
 ended_some : (o : Option EndReason) (reason : EndReason) → o ≡ Some reason → IsSome o
 ended_some o reason e = ap is_some e
-
-reacts_on : (u : Value) (s : State) → s.ended ≡ None → react u s ≡ in_class s.class u s
-unfolding react
-reacts_on u s was = ap (λ (e : Option EndReason). react_by (is_some e) u s) was
-
-reacts_not : (u : Value) (s : State) → is_some s.ended ≡ true → react u s ≡ s
-unfolding react
-reacts_not u s over = ap (λ (b : Bool). react_by b u s) over
 
 not_above : (m n : ℕ) → (n < m → ⊥) → m ≤ n
 not_above m n h = grind (arith, ltb-true, ltb-false)
@@ -75,7 +67,7 @@ accepted_none : (m given : ℕ) (k : Live) (rows : Rows Live) → value_at (give
 accepted_none m given k rows none h settled there = grind (arith, same_row, push_here, eqb-true, push_other, unlike)
 
 closing_gone : (n q p : ℕ) (k : Standing) (u : Value) (s : State) → value_at n s.live ≡ Some (closing q) → RiseFrom 0 s.live →
-    value_at n (to_closing n u s).live ≡ Some (linked p k) → ⊥
+    value_at n (to_closing n u s).state.live ≡ Some (linked p k) → ⊥
 closing_gone n q p k u s here rise row = grind (arith, without_here)
 
 -- ---- the unit, and what comes after it
@@ -104,9 +96,17 @@ module _ (local : Local) (w : Whole) (f : Called local w) (c : IsCalled local w.
   abbrev Taken : Type 0
   Taken = Called local (After t (put_for u s)) × IsCalled local t
 
-  -- by what the end is then, and what it puts
-  by_both : (e : State) (units : List Value) → t ≡ e → put_for u s ≡ units → Called local (After e units) × IsCalled local e → Taken
-  by_both e units is puts h = grind arith
+  abbrev did : CarrierOutcome
+  did = outcome u s
+
+  t_is : (x : CarrierOutcome) → did ≡ x → t ≡ x.state
+  t_is x is = state_is u s ∙ ap (λ (y : CarrierOutcome). y.state) is
+
+  -- by what is done with it
+  by_both : (x : CarrierOutcome) → did ≡ x → Called local (After x.state x.put) × IsCalled local x.state → Taken
+  by_both x is h =
+      subst (λ (e : State). Called local (After e did.put) × IsCalled local e) (sym (state_is u s))
+      (subst (λ (y : CarrierOutcome). Called local (After y.state y.put) × IsCalled local y.state) (sym is) h)
 
   head : Head u later f.came
   head = head_of u later f.came (sym come ∙ f.come)
@@ -132,11 +132,11 @@ module _ (local : Local) (w : Whole) (f : Called local w) (c : IsCalled local w.
   asks_later : (p : ℕ) → units_at p f.came ≡ [] → units_at p head.later ≡ []
   asks_later p h = tail_none p head.o u head.later (ap (λ (l : List Placed). units_at p l) (sym head.is) ∙ h)
 
-  over_so : (e : State) → t ≡ e → put_for u s ≡ [] → is_some e.ended ≡ true → Same s e → e.live ≡ [] → Taken
-  over_so e is puts over same live = by_both e [] is puts (
+  over_so : (e : State) → did ≡ puts_none e → is_some e.ended ≡ true → Same s e → e.live ≡ [] → Taken
+  over_so e is over same live = by_both (puts_none e) is (
     subst (λ (l : List Value). Called local (record w { end = e; put = l; coming = later })) (sym (append-nil w.put))
         (is_over local w f e later head.later over same.given asks_later head.values_are few_all.1 untagged_all.1),
-    called_still local s e same (subst IsOrderly is (orderly_unit u s c.orderly))
+    called_still local s e same (subst IsOrderly (t_is (puts_none e) is) (orderly_unit u s c.orderly))
         (λ m h. no_row (value_at m e.live) asked (ap (λ (l : Rows Live). value_at m l) live) h)
         (λ m q l h. no_row (value_at m e.live) (linked q l) (ap (λ (r : Rows Live). value_at m r) live) h) c,
   )
@@ -146,21 +146,20 @@ module _ (local : Local) (w : Whole) (f : Called local w) (c : IsCalled local w.
   asks_request : {A : Type 0} (x : Connect) → u ≡ request x → ((p : ℕ) → f.came ≡ (Some p, request x) ∷ head.later → A) → A
   asks_request x e k = grind (arith, untag_by, head, untagged_all)
 
-  denies_so : (was : s.ended ≡ None) (x : Connect) (reason : ℕ) → u ≡ request x → t ≡ denies reason x.source s →
-      put_for u s ≡ refusal reason x.source → Taken
-  denies_so was x reason e is puts = asks_request x e (λ p came. by_both (denies reason x.source s) (refusal reason x.source) is puts (
-    refuses_it local w f was p x head.later came later head.values_are few_all.1 (denies reason x.source s) reason refl refl
-        (λ none last. timely_then was (denies reason x.source s) (given_same refl) (λ m k other. k) none),
-    called_still local s (denies reason x.source s) (record { caller = refl; local_is = refl; class = refl; given = refl })
-        (subst IsOrderly is (orderly_unit u s c.orderly)) c.none c.two c,
+  denies_so : (was : s.ended ≡ None) (x : Connect) (reason : ℕ) → u ≡ request x → did ≡ denies reason x.source s → Taken
+  denies_so was x reason e is = asks_request x e (λ p came. by_both (denies reason x.source s) is (
+    refuses_it local w f was p x head.later came later head.values_are few_all.1 (denies reason x.source s).state reason refl refl
+        (λ none last. timely_then was (denies reason x.source s).state (given_same refl) (λ m k other. k) none),
+    called_still local s (denies reason x.source s).state (record { caller = refl; local_is = refl; class = refl; given = refl })
+        (subst IsOrderly (t_is (denies reason x.source s) is) (orderly_unit u s c.orderly)) c.none c.two c,
   ))
 
   accepts_so : (was : s.ended ≡ None) (x : Connect) (size : Option ℕ) → u ≡ request x → selected_by x s.local ≡ accept Two size →
-      t ≡ accepts Two size x s → put_for u s ≡ put_for_selection x (accept Two size) s.class s → Taken
-  accepts_so was x size e selected is puts = asks_request x e (λ p came.
-      let a = accepts Two size x s in
+      did ≡ accepts Two size x s → Taken
+  accepts_so was x size e selected is = asks_request x e (λ p came.
+      let a = (accepts Two size x s).state in
       let none : value_at (s.given + 1) s.live ≡ None = beyond (s.given + 1) s.given s.live c.orderly.up_to (omega arith) in
-      by_both a (put_for_selection x (accept Two size) s.class s) is puts (
+      by_both (accepts Two size x s) is (
         subst (λ (l : Local). Called local (After a (confirm x.source (acceptance Two size x l (s.given + 1)) ∷ []))) (sym c.local_is)
             (is_accepted local w f was p x head.later came later head.values_are few_all.1 a size
             (ap (λ (l : Local). selected_by x l) (sym c.local_is) ∙ selected) refl
@@ -177,7 +176,7 @@ module _ (local : Local) (w : Whole) (f : Called local w) (c : IsCalled local w.
           caller = c.caller;
           local_is = c.local_is;
           class = inr refl;
-          orderly = subst IsOrderly is (orderly_unit u s c.orderly);
+          orderly = subst IsOrderly (t_is (accepts Two size x s) is) (orderly_unit u s c.orderly);
           none = λ m there. accepted_none m s.given (linked x.source (opened_link Two size s.local x.credit)) s.live none c.none (λ k. cc)
               there;
           two = λ m q l there. refl;
@@ -193,26 +192,33 @@ module _ (local : Local) (w : Whole) (f : Called local w) (c : IsCalled local w.
     pub was : s.ended ≡ None
     pub selected : selected_by x s.local ≡ accept Zero size
     pub none : s.class ≡ None
-    pub end_is : t ≡ accepts Zero size x s
-    pub puts : put_for u s ≡ confirm x.source (acceptance Zero size x s.local (s.given + 1)) ∷ []
+    pub is : did ≡ accepts Zero size x s
 
   zero_so : (was : s.ended ≡ None) (x : Connect) (size : Option ℕ) → u ≡ request x → selected_by x s.local ≡ accept Zero size →
-      (k : Option Class) → s.class ≡ k → t ≡ answers_by x (accept Zero size) s.class s →
-      put_for u s ≡ put_for_selection x (accept Zero size) s.class s → Taken ⊎ SelectsZero
-  zero_so was x size e selected k none is puts = grind (arith, denies_so)
+      (k : Option Class) → s.class ≡ k → did ≡ answers_by x (accept Zero size) s.class s → Taken ⊎ SelectsZero
+  zero_so was x size e selected None none is = inr (record {
+    x = x;
+    size = size;
+    is_cr = e;
+    was = was;
+    selected = selected;
+    none = none;
+    is = is ∙ ap (λ (k : Option Class). answers_by x (accept Zero size) k s) none;
+  })
+  zero_so was x size e selected (Some class) none is =
+      inl (denies_so was x 136 e (is ∙ ap (λ (k : Option Class). answers_by x (accept Zero size) k s) none))
 
   selects_so : (was : s.ended ≡ None) (x : Connect) (a : Selection) → u ≡ request x → selected_by x s.local ≡ a →
-      t ≡ answers_by x a s.class s → put_for u s ≡ put_for_selection x a s.class s → Taken ⊎ SelectsZero
-  selects_so was x (refuse reason) e selected is puts = inl (denies_so was x reason e is puts)
-  selects_so was x (accept Two size) e selected is puts = inl (accepts_so was x size e selected is puts)
-  selects_so was x (accept Zero size) e selected is puts = zero_so was x size e selected s.class refl is puts
+      did ≡ answers_by x a s.class s → Taken ⊎ SelectsZero
+  selects_so was x (refuse reason) e selected is = inl (denies_so was x reason e is)
+  selects_so was x (accept Two size) e selected is = inl (accepts_so was x size e selected is)
+  selects_so was x (accept Zero size) e selected is = zero_so was x size e selected s.class refl is
 
   request_so : (was : s.ended ≡ None) (x : Connect) (a b : Bool) → u ≡ request x → has_peer x.source s.live ≡ a → is_full s ≡ b →
-      t ≡ answers_request x s → put_for u s ≡ put_for_request x s → Taken ⊎ SelectsZero
-  request_so was x true b e has full is puts = grind (arith, denies_so was x 131 e (grind arith) (grind arith))
-  request_so was x false true e has full is puts = grind (arith, denies_so was x 1 e (grind arith) (grind arith))
-  request_so was x false false e has full is puts =
-      grind (arith, selects_so was x (selected_by x s.local) e refl (grind arith) (grind arith))
+      did ≡ answers_request x s → Taken ⊎ SelectsZero
+  request_so was x true b e has full is = grind (arith, denies_so was x 131 e (grind arith))
+  request_so was x false true e has full is = grind (arith, denies_so was x 1 e (grind arith))
+  request_so was x false false e has full is = grind (arith, selects_so was x (selected_by x s.local) e refl (grind arith))
 
   -- ---- a unit for a connection
 
@@ -238,11 +244,8 @@ module _ (local : Local) (w : Whole) (f : Called local w) (c : IsCalled local w.
     asks_same : (p : ℕ) → units_at p head.later ≡ units_at p f.came
     asks_same p = grind (arith, asked_by_place, at_first, head)
 
-    to_n : t ≡ to_connection n (value_at n s.live) u s
-    to_n = react_is u s n two was dest
-
-    puts_n : put_for u s ≡ put_at n (value_at n s.live) u s.class
-    puts_n = put_is u s n two was dest
+    at_n : (o : Option Live) → value_at n s.live ≡ o → did ≡ to_connection n o u s
+    at_n o here = outcome_at u s n o two was dest here
 
     took_by : (peer : ℕ) (k : Standing) → value_at n s.live ≡ Some (linked peer k) → (line : List Value) → Among line (u ∷ those n later) →
         Took n peer s t later (put_for u s) line
@@ -253,7 +256,7 @@ module _ (local : Local) (w : Whole) (f : Called local w) (c : IsCalled local w.
     -- the end has it open
     at_open : (q : ℕ) (l : Standing) → value_at n s.live ≡ Some (linked q l) → Taken
     at_open q l here =
-        let is = to_n ∙ ap (λ (o : Option Live). to_connection n o u s) here in
+        let is = t_is (to_linked n q l u s) (at_n (Some (linked q l)) here) in
         let a : OpenSo u n q s t = subst (λ (e : State). OpenSo u n q s e) (sym is) (open_so n q l u s here two c.orderly.rise dest) in
         let lasts : t.ended ≡ None = a.ended ∙ was in (
           line_steps local w f t (put_for u s) later head.later n q l here was (λ m other. touch_rows u n s t a.touch lasts m other)
@@ -261,8 +264,7 @@ module _ (local : Local) (w : Whole) (f : Called local w) (c : IsCalled local w.
               others_n asks_same (λ peer k row line among. took_by peer k row line (subst (Among line) first_n among))
               (λ peer k row. subst (λ (i : ℕ). Leaves n i t) (same_peer q peer l k (sym here ∙ row)) a.leaves_so)
               head.values_are few_all.1 untagged_all.1
-              (subst (AllByRecursion IsNoCc) (sym (puts_n ∙ ap (λ (o : Option Live). put_at n o u s.class) here))
-              (linked_no_cc n q l u s.class two))
+              (none_but_cr u s not_request)
               (λ none last. timely_then was t (given_same a.same.given) (λ m k other. touch_lives u n s t a.touch last m k other) none),
           called_still local s t a.same (orderly_unit u s c.orderly) (touch_none u n s t a.touch c.orderly.rise c.none) (λ m p k h. two) c,
         )
@@ -270,24 +272,25 @@ module _ (local : Local) (w : Whole) (f : Called local w) (c : IsCalled local w.
     -- it is closing
     at_closing : (q : ℕ) → value_at n s.live ≡ Some (closing q) → Taken
     at_closing q here =
-        let is = to_n ∙ ap (λ (o : Option Live). to_connection n o u s) here in
-        let e = to_closing n u s in
+        let e = (to_closing n u s).state in
+        let is : did ≡ puts_none e = at_n (Some (closing q)) here ∙ closing_puts n u s in
         let (same, ended) = closing_same n u s in
         let touch = closing_touches n u s dest in
         let lasts = ended ∙ was in
-        by_both e [] is (puts_n ∙ ap (λ (o : Option Live). put_at n o u s.class) here) (
+        by_both (puts_none e) is (
           left_alone local w f e [] later head.later n u (λ p k row. absurd (cc (sym here ∙ row)))
               (λ p k row. closing_gone n q p k u s here c.orderly.rise row) was
               (λ m other. touch_rows u n s e touch lasts m other) same.given first_n others_n asks_same f.shut (λ r h. inl h) (λ r h. h)
               (λ r h. subst (λ (i : ℕ). r ≤ i) (sym same.given) (f.shut_given r h)) tt head.values_are few_all.1 untagged_all.1 tt
               (λ none last. timely_then was e (given_same same.given) (λ m k other. touch_lives u n s e touch last m k other) none),
-          called_still local s e same (subst IsOrderly is (orderly_unit u s c.orderly)) (touch_none u n s e touch c.orderly.rise c.none)
+          called_still local s e same (subst IsOrderly (t_is (puts_none e) is) (orderly_unit u s c.orderly))
+              (touch_none u n s e touch c.orderly.rise c.none)
               (λ m p k h. two) c,
         )
 
     -- it is gone, and the unit is a DC
-    at_gone : value_at n s.live ≡ None → t ≡ s → put_for u s ≡ [] → Taken
-    at_gone here is puts = by_both s [] is puts (
+    at_gone : value_at n s.live ≡ None → did ≡ puts_none s → Taken
+    at_gone here is = by_both (puts_none s) is (
       left_alone local w f s [] later head.later n u (λ p k row. no_row (value_at n s.live) (linked p k) here row)
           (λ p k row. no_row (value_at n s.live) (linked p k) here row) was (λ m other. refl) refl first_n others_n asks_same f.shut
           (λ r h. inl h) (λ r h. h) (λ r h. f.shut_given r h) tt head.values_are few_all.1 untagged_all.1 tt
@@ -297,13 +300,14 @@ module _ (local : Local) (w : Whole) (f : Called local w) (c : IsCalled local w.
 
     -- it is gone, and the unit is a DR
     at_dr : (source reason : ℕ) (user : List ℕ) → u ≡ disconnect n source reason user → value_at n s.live ≡ None →
-        t ≡ to_unknown (disconnect n source reason user) s → put_for u s ≡ disconnected source n ∷ [] → Taken
-    at_dr source reason user e here is puts =
-        let a = to_unknown (disconnect n source reason user) s in
+        did ≡ to_unknown (disconnect n source reason user) s → Taken
+    at_dr source reason user e here is =
+        let x = to_unknown (disconnect n source reason user) s in
+        let a = x.state in
         let dr : IsFor s.given (disconnect n source reason user) = subst (IsFor s.given) e few_all.0 in
         let (given, one) = given_so n s.given source reason user (dr n refl) in
         let strays = gone_dr was n source reason user e here w.judge.course.disconnects.strays refl in
-        by_both a (disconnected source n ∷ []) is puts (
+        by_both x is (
           left_alone local w f a (disconnected source n ∷ []) later head.later n u
               (λ p k row. no_row (value_at n s.live) (linked p k) here row)
               (λ p k row. no_row (value_at n s.live) (linked p k) here row) was (λ m other. refl) refl first_n others_n asks_same
@@ -324,7 +328,7 @@ module _ (local : Local) (w : Whole) (f : Called local w) (c : IsCalled local w.
               head.values_are few_all.1 untagged_all.1 (λ m x k. absurd (cc k), tt)
               (λ none last. timely_then was a (given_same refl) (λ m k other. k) none),
           called_still local s a (record { caller = refl; local_is = refl; class = refl; given = refl })
-              (subst IsOrderly is (orderly_unit u s c.orderly)) c.none c.two c,
+              (subst IsOrderly (t_is x is) (orderly_unit u s c.orderly)) c.none c.two c,
         )
 
     unknown : (v : Value) → u ≡ v → value_at n s.live ≡ None → Taken
@@ -332,16 +336,10 @@ module _ (local : Local) (w : Whole) (f : Called local w) (c : IsCalled local w.
     unknown (disconnect destination source reason user) e here =
         let same : destination ≡ n = number_is destination n (ap destination_of (sym e) ∙ dest) in
         let v_is = e ∙ ap (λ (i : ℕ). disconnect i source reason user) same in
-        at_dr source reason user v_is here
-        (to_n ∙ ap (λ (o : Option Live). to_connection n o u s) here ∙ ap (λ (v : Value). to_unknown v s) v_is)
-        (puts_n ∙ ap (λ (o : Option Live). put_at n o u s.class) here ∙ ap (λ (v : Value). put_at n None v s.class) v_is)
-    unknown (disconnected destination source) e here =
-        at_gone here (to_n ∙ ap (λ (o : Option Live). to_connection n o u s) here ∙ ap (λ (v : Value). to_unknown v s) e)
-        (puts_n ∙ ap (λ (o : Option Live). put_at n o u s.class) here ∙ ap (λ (v : Value). put_at n None v s.class) e)
-    unknown x e here = over_so (to_unknown x s)
-        (to_n ∙ ap (λ (o : Option Live). to_connection n o u s) here ∙ ap (λ (v : Value). to_unknown v s) e)
-        (puts_n ∙ ap (λ (o : Option Live). put_at n o u s.class) here ∙ ap (λ (v : Value). put_at n None v s.class) e)
-        refl (record { caller = refl; local_is = refl; class = refl; given = refl }) refl
+        at_dr source reason user v_is here (at_n None here ∙ ap (λ (v : Value). to_unknown v s) v_is)
+    unknown (disconnected destination source) e here = at_gone here (at_n None here ∙ ap (λ (v : Value). to_unknown v s) e)
+    unknown x e here = over_so (to_unknown x s).state (at_n None here ∙ ap (λ (v : Value). to_unknown v s) e) refl
+        (record { caller = refl; local_is = refl; class = refl; given = refl }) refl
 
     by_row : (o : Option Live) → value_at n s.live ≡ o → Taken
     by_row None here = unknown u refl here
@@ -351,34 +349,20 @@ module _ (local : Local) (w : Whole) (f : Called local w) (c : IsCalled local w.
 
   -- ---- any unit
 
-  wrong_so : (was : s.ended ≡ None) (v : Value) → u ≡ v → (e : State) → t ≡ e → put_for u s ≡ [] → e ≡ fails UnexpectedUnit s → Taken
-  wrong_so was v is e to puts fail = over_so e to puts (ap (λ (x : State). is_some x.ended) fail) (record {
-    caller = ap (λ (x : State). x.is_caller) fail;
-    local_is = ap (λ (x : State). x.local) fail;
-    class = ap (λ (x : State). x.class) fail;
-    given = ap (λ (x : State). x.given) fail;
-  }) (ap (λ (x : State). x.live) fail)
+  wrong_so : did ≡ puts_none (fails UnexpectedUnit s) → Taken
+  wrong_so is = over_so (fails UnexpectedUnit s) is refl (record { caller = refl; local_is = refl; class = refl; given = refl }) refl
 
-  on : (was : s.ended ≡ None) → t ≡ in_class s.class u s
-  on was = reacts_on u s was
+  on : (was : s.ended ≡ None) → did ≡ in_class s.class u s
+  on was = outcome_quiet u s was
 
-  puts_on : (was : s.ended ≡ None) → put_for u s ≡ put_in s.class u s
-  puts_on was = ap (λ (e : Option EndReason). if is_some e then [] else put_in s.class u s) was
-
-  before_by : (was : s.ended ≡ None) → (v : Value) → u ≡ v → t ≡ before_class false v s → put_for u s ≡ put_before false v s →
-      Taken ⊎ SelectsZero
-  before_by was (request x) e to puts = request_so was x (has_peer x.source s.live) (is_full s) e refl refl to puts
-  before_by was v e to puts = grind (arith, wrong_so was v e (before_class false v s) to puts refl)
+  before_by : (was : s.ended ≡ None) → (v : Value) → u ≡ v → did ≡ before_class false v s → Taken ⊎ SelectsZero
+  before_by was (request x) e to = request_so was x (has_peer x.source s.live) (is_full s) e refl refl to
+  before_by was v e to = inl (wrong_so to)
 
   two_by : (was : s.ended ≡ None) → s.class ≡ Some Two → (v : Value) → u ≡ v → Taken ⊎ SelectsZero
-  two_by was two (request x) e =
-      request_so was x (has_peer x.source s.live) (is_full s) e refl refl
-      (grind (arith, on))
-      (grind (arith, puts_on))
+  two_by was two (request x) e = request_so was x (has_peer x.source s.live) (is_full s) e refl refl (grind (arith, on))
   two_by was two (data0 end user) e =
-      inl (wrong_so was (data0 end user) e (in_two false (data0 end user) s)
-      (grind (arith, on))
-      (grind (arith, puts_on)) refl)
+      inl (wrong_so (grind (arith, on)))
   two_by was two (confirm destination x) e = inl (by_row was two destination (ap destination_of e) (value_at destination s.live) refl)
   two_by was two (disconnect destination source reason user) e = inl (by_row was two destination (ap destination_of e)
       (value_at destination s.live) refl)
@@ -391,11 +375,11 @@ module _ (local : Local) (w : Whole) (f : Called local w) (c : IsCalled local w.
   two_by was two (error destination cause) e = inl (by_row was two destination (ap destination_of e) (value_at destination s.live) refl)
 
   by_class : (was : s.ended ≡ None) → (s.class ≡ None) ⊎ (s.class ≡ Some Two) → Taken ⊎ SelectsZero
-  by_class was (inl none) = grind (arith, on, puts_on, before_by)
+  by_class was (inl none) = grind (arith, on, before_by)
   by_class was (inr two) = two_by was two u refl
 
   pub takes_so : Taken ⊎ SelectsZero
-  takes_so = grind (arith, by_class, over_so, reacts_not, ended_some)
+  takes_so = grind (arith, by_class, over_so, outcome_over, ended_some)
 
   -- ---- class 0 is selected
 
@@ -460,7 +444,7 @@ module _ (local : Local) (w : Whole) (f : Called local w) (c : IsCalled local w.
       live_none : s.live ≡ []
       live_none = rows_none s.given s.live (c.none_given z.none) c.orderly.rise c.orderly.up_to
 
-      zero_end : IsInZero (unit_octets z.size - 3) (accepts Zero z.size z.x s) 0 []
+      zero_end : IsInZero (unit_octets z.size - 3) (accepts Zero z.size z.x s).state 0 []
       zero_end = goes_on (s.given + 1) z.x.source (opened_link Zero z.size s.local z.x.credit) refl
           (ap (λ (l : Rows Live). l ++ (s.given + 1, linked z.x.source (opened_link Zero z.size s.local z.x.credit)) ∷ []) live_none)
           (record { flow = refl; size = refl }) refl
@@ -476,13 +460,13 @@ module _ (local : Local) (w : Whole) (f : Called local w) (c : IsCalled local w.
         asked = here.asked;
         selected = ap (λ (l : Local). selected_by z.x l) (sym c.local_is) ∙ z.selected;
         more = [];
-        put = ap (λ (l : List Value). l ++ put_for u s) (f.put ∙ none_put) ∙ z.puts;
+        put = ap (λ (l : List Value). l ++ put_for u s) (f.put ∙ none_put) ∙ ap (λ (x : CarrierOutcome). x.put) z.is;
         seen = λ b. absurd (f.some b none_put);
         class = class_none z;
         class_seen = seen_none;
         unused = grind (arith, above_up, values);
         others = λ i e at other. other_one i e at other (f.stands i e at);
-        end = subst (λ (x : State). IsInZero (unit_octets z.size - 3) x 0 []) (sym z.end_is) zero_end;
+        end = subst (λ (x : State). IsInZero (unit_octets z.size - 3) x 0 []) (sym (t_is (accepts Zero z.size z.x s) z.is)) zero_end;
       }
 
     pub selects_zero : Selecting local (After t (put_for u s))

@@ -1,17 +1,16 @@
 -- A calling end in class 0: what holds once the CC has passed that selects it, as the end takes that CC, as it goes on, and as units
 -- pass. For the laws on whole calling ends.
-use Rattle.osi_fair.proofs.Vocabulary.{Disconnects}
-use Rattle.osi_fair.proofs.Vocabulary.{[], ap, arith, Bool, false, IfSome, if◌then◌else◌, length, List, None, Option, option_map, refl, set}
-use Rattle.osi_fair.proofs.Vocabulary.{Some, subst, sym, true, ℕ, ◌++◌, ◌+◌, ◌-◌, ◌^◌, ◌∙◌, ◌∷◌, ◌≡◌, ◌≤◌, ◌⊎◌, pow-le-pow_right, eqb-true}
-use Rattle.osi_fair.proofs.Vocabulary.{slice_get-map, min, not, position, slice_get, ◌&&◌, ◌==◌, ◌||◌, size_code, confirm, Connect, data0}
-use Rattle.osi_fair.proofs.Vocabulary.{disconnected, error, IsConnect, request, Value, longest_tsdu, Class, Two, Zero, Local, agreed_size}
-use Rattle.osi_fair.proofs.Vocabulary.{opened_link, unit_octets, opens, react, to_connection, put, Rows, value_at, user_does, UserCall}
-use Rattle.osi_fair.proofs.Vocabulary.{asked, Live, linked, is_applied, reach_of, begins, is_closed, is_closing, is_live, is_named, is_open}
-use Rattle.osi_fair.proofs.Vocabulary.{is_over, is_refused, at_found, at_place, class_for, connection_after, course_after}
-use Rattle.osi_fair.proofs.Vocabulary.{course_after_none, found_on, is_stopped, none_told, one_told, Outcome, packet_begins, reached}
-use Rattle.osi_fair.proofs.Vocabulary.{refused, refused_reach, route_in, route_zero, routed, sent_on, Traffic, takes, Connection, Offer}
-use Rattle.osi_fair.proofs.Vocabulary.{Course, Left, Right, Finding, Broke, Kept, NotJudged, Reach, Half, Phase, rubbish, unit as passing}
-use Rattle.osi_fair.proofs.Vocabulary.{put_at, put_by, put_for, MayCall, has_broken, State}
+use Rattle.osi_fair.proofs.Vocabulary.{Disconnects, [], ap, arith, Bool, false, IfSome, if◌then◌else◌, length, List, None, Option}
+use Rattle.osi_fair.proofs.Vocabulary.{option_map, refl, set, Some, subst, sym, true, ℕ, ◌++◌, ◌+◌, ◌-◌, ◌^◌, ◌∙◌, ◌∷◌, ◌≡◌, ◌≤◌, ◌⊎◌}
+use Rattle.osi_fair.proofs.Vocabulary.{pow-le-pow_right, eqb-true, slice_get-map, min, not, position, slice_get, ◌&&◌, ◌==◌, ◌||◌}
+use Rattle.osi_fair.proofs.Vocabulary.{size_code, confirm, Connect, data0, disconnected, error, IsConnect, request, Value, longest_tsdu}
+use Rattle.osi_fair.proofs.Vocabulary.{Class, Two, Zero, Local, agreed_size, opened_link, unit_octets, opens, react, to_connection, put}
+use Rattle.osi_fair.proofs.Vocabulary.{Rows, value_at, user_does, UserCall, asked, Live, linked, is_applied, reach_of, begins, is_closed}
+use Rattle.osi_fair.proofs.Vocabulary.{is_closing, is_live, is_named, is_open, is_over, is_refused, at_found, at_place, class_for}
+use Rattle.osi_fair.proofs.Vocabulary.{connection_after, course_after, course_after_none, found_on, is_stopped, none_told, one_told}
+use Rattle.osi_fair.proofs.Vocabulary.{Outcome, packet_begins, reached, refused, refused_reach, route_in, route_zero, routed, sent_on}
+use Rattle.osi_fair.proofs.Vocabulary.{Traffic, takes, Connection, Offer, Course, Left, Right, Finding, Broke, Kept, NotJudged, Reach, Half}
+use Rattle.osi_fair.proofs.Vocabulary.{Phase, rubbish, unit as passing, put_by, put_for, MayCall, has_broken, State}
 use Rattle.osi_rules.specs.declared.findings.Reach.TheVariants as reach
 use Rattle.osi_rules.specs.declared.findings.Rule.TheVariants as rule
 use Rattle.osi_fair.proofs.small_facts_that_many_lemmas_use.{differ, item_is, live_not_over, no_two, both, or_first}
@@ -56,7 +55,7 @@ abbrev pub limit_of : Connect → State → ℕ
 limit_of x s = unit_octets (agreed_size x.parameters.size s.local) - 3
 
 opens_by : (n r : ℕ) (x : Connect) (s : State) → (r == n) ≡ true → IsCalling (one r) s → (two zero : Bool) → two ≡ false →
-    IsInZero (limit_of x s) (opens n x (if two then Some Two else (if zero then Some Zero else None)) s) 0 []
+    IsInZero (limit_of x s) (opens n x (if two then Some Two else (if zero then Some Zero else None)) s).state 0 []
 opens_by n r x s e is true zero h = absurd (cc h)
 opens_by n r x s e is false false h = over refl tt
 opens_by n r x s e is false true h =
@@ -66,7 +65,7 @@ opens_by n r x s e is false true h =
     (record { flow = refl; size = refl }) refl
 
 to_one : (n r : ℕ) (x : Connect) (s : State) (b : Bool) → (r == n) ≡ b → IsCalling (one r) s → (x.class == 2) ≡ false →
-    IsInZero (limit_of x s) (to_connection n (if b then Some asked else None) (confirm n x) s) 0 []
+    IsInZero (limit_of x s) (to_connection n (if b then Some asked else None) (confirm n x) s).state 0 []
 to_one n r x s true e is zero = search (arith, opens_by, no_two)
 to_one n r x s false e is zero = over refl tt
 
@@ -75,8 +74,8 @@ pub confirm_takes : (n r : ℕ) (x : Connect) (s : State) → IsCalling (one r) 
     Puts (λ t. IsInZero (limit_of x s) t 0 []) (confirm n x) s
 confirm_takes n r x s is zero =
     puts (λ t. IsInZero (limit_of x s) t 0 []) (one r) (confirm n x) s is
-    (ap (λ (rows : Rows Live). put_at n (value_at n rows) (confirm n x) s.class) is.live ∙ (grind arith))
-    (subst (λ (rows : Rows Live). IsInZero (limit_of x s) (to_connection n (value_at n rows) (confirm n x) s) 0 []) (sym is.live)
+    (ap (λ (rows : Rows Live). (to_connection n (value_at n rows) (confirm n x) s).put) is.live ∙ (grind arith))
+    (subst (λ (rows : Rows Live). IsInZero (limit_of x s) (to_connection n (value_at n rows) (confirm n x) s).state 0 []) (sym is.live)
     (to_one n r x s (r == n) refl is zero))
 
 -- ---- the CC passes

@@ -5,10 +5,10 @@ use Rattle.osi_fair.proofs.Vocabulary.{refl, Result, Some, subst, sym, ℕ, ◌+
 use Rattle.osi_fair.proofs.Vocabulary.{AllByRecursion, flat_map, destination_of, disconnect, Value, drained_moves, all_given, longest_tsdu}
 use Rattle.osi_fair.proofs.Vocabulary.{Given, Standing, taken, unit_of, with_tsdu, give_out, hand_in, hand_out, Move, MovesAlong, take_in}
 use Rattle.osi_fair.proofs.Vocabulary.{LinkFault, Class, Two, put_here, without_here, closed_with, link_of, open_link, sent, RiseFrom}
-use Rattle.osi_fair.proofs.Vocabulary.{pumped, written_by, handed_out, leaves, taking, to_linked, to_reference, put, value_at, closing}
+use Rattle.osi_fair.proofs.Vocabulary.{pumped, written_by, handed_out, leaves, taking, to_linked, put, value_at, closing}
 use Rattle.osi_fair.proofs.Vocabulary.{Live as Connection, linked, packets, Direction, Follows, link_now, Act, ActsAlong, answers}
-use Rattle.osi_fair.proofs.Vocabulary.{closes_with as closes, HandsInShort, ignores, Line, moves, units_put, units_taken, put_at}
-use Rattle.osi_fair.proofs.Vocabulary.{put_closing, put_for, put_leaving, put_linked, put_sent, put_taking, State}
+use Rattle.osi_fair.proofs.Vocabulary.{closes_with as closes, HandsInShort, ignores, Line, moves, units_put, units_taken, put_closing}
+use Rattle.osi_fair.proofs.Vocabulary.{put_for, put_sent, State, outcome, to_closing, to_connection, CarrierOutcome}
 use Rattle.osi_carrier.specs.Calls.{sent_on}
 unfoldable use Rattle.osi_carrier.specs.React.{react}
 
@@ -130,30 +130,33 @@ hands_front : (old link : Standing) (unit : Value) (whole : List (List ℕ)) →
     Front old (handed_out link) (take_in unit ∷ hands_of whole) (unit ∷ [])
 hands_front old link unit whole e h = grind arith
 
+-- what is done with a unit, by what it puts
+abbrev FollowsBy : (r peer : ℕ) → List Value → State → CarrierOutcome → Type 0
+FollowsBy r peer taken s x = Follows r peer taken x.put s x.state
+
 module _ (r peer : ℕ) (s : State) (link : Standing) (here : value_at r s.live ≡ Some (linked peer link)) (two : s.class ≡ Some Two) where
   follows_taking : (unit : Value) (result : Result Standing LinkFault) → taken link unit ≡ result →
-      Follows r peer (unit ∷ []) (put_taking r peer result s.class) s (taking r peer result s)
+      FollowsBy r peer (unit ∷ []) s (taking r peer result s)
   follows_taking unit (Ok after) e =
-      follows_pump r peer s (taking r peer (Ok after) s) link (handed_out after) (take_in unit
+      follows_pump r peer s (taking r peer (Ok after) s).state link (handed_out after) (take_in unit
       ∷ hands_of after.ends.joining.whole) (unit ∷ [])
       (hands_front link after unit after.ends.joining.whole refl e) here
       (put_here r (linked peer (pumped (handed_out after))) (linked peer link) s.live here) refl
   follows_taking unit (Err fault) e = search (arith, put_here, closes_follows)
 
   follows_disconnect : (destination source reason : ℕ) (user : List ℕ) → RiseFrom 0 s.live →
-      Follows r peer (disconnect destination source reason user ∷ []) (put_leaving r peer s.class) s (leaves r peer reason s.class s)
+      FollowsBy r peer (disconnect destination source reason user ∷ []) s (leaves r peer reason s.class s)
   follows_disconnect destination source reason user rise =
-      let gone : value_at r (leaves r peer reason (Some Two) s).live ≡ None = without_here r s.live rise in
-      subst (λ (c : Option Class). Follows r peer (disconnect destination source reason user ∷ []) (put_leaving r peer c) s
-      (leaves r peer reason c s)) (sym two)
+      let gone : value_at r (leaves r peer reason (Some Two) s).state.live ≡ None = without_here r s.live rise in
+      subst (λ (c : Option Class). FollowsBy r peer (disconnect destination source reason user ∷ []) s (leaves r peer reason c s))
+      (sym two)
       (record {
         acts = answers (disconnect destination source reason user) ∷ [];
         outgoing = refl;
         along = grind arith;
       })
 
-  follows_linked : (unit : Value) → RiseFrom 0 s.live →
-      Follows r peer (unit ∷ []) (put_linked r peer link unit s.class) s (to_linked r peer link unit s)
+  follows_linked : (unit : Value) → RiseFrom 0 s.live → FollowsBy r peer (unit ∷ []) s (to_linked r peer link unit s)
   follows_linked unit rise = search (arith, follows_disconnect, follows_taking)
 
 -- ---- a unit for a connection that is closing
@@ -167,24 +170,33 @@ ignores_follows r peer unit s new before after outgoing = record {
   along = grind (arith, append-nil);
 }
 
+closing_follows : (r peer : ℕ) (unit : Value) (s : State) → RiseFrom 0 s.live → value_at r s.live ≡ Some (closing peer) →
+    FollowsBy r peer (unit ∷ []) s (to_closing r unit s)
+closing_follows r peer unit s rise here = search (arith, ignores_follows, without_here)
+
 -- ---- by reference
 
-pub react_is : (unit : Value) (s : State) (r : ℕ) → s.class ≡ Some Two → s.ended ≡ None → destination_of unit ≡ Some r →
-    react unit s ≡ to_reference r unit s
-unfolding react
-react_is unit s r two lasts e = grind arith
+pub outcome_is : (unit : Value) (s : State) (r : ℕ) → s.class ≡ Some Two → s.ended ≡ None → destination_of unit ≡ Some r →
+    outcome unit s ≡ to_connection r (value_at r s.live) unit s
+outcome_is unit s r two lasts e = grind arith
 
-pub put_is : (unit : Value) (s : State) (r : ℕ) → s.class ≡ Some Two → s.ended ≡ None → destination_of unit ≡ Some r →
-    put_for unit s ≡ put_at r (value_at r s.live) unit s.class
-put_is unit s r two lasts e = grind arith
+-- at this connection
+pub outcome_at : (unit : Value) (s : State) (r : ℕ) (o : Option Connection) → s.class ≡ Some Two → s.ended ≡ None →
+    destination_of unit ≡ Some r → value_at r s.live ≡ o → outcome unit s ≡ to_connection r o unit s
+outcome_at unit s r o two lasts e here =
+    outcome_is unit s r two lasts e ∙ ap (λ (c : Option Connection). to_connection r c unit s) here
 
 pub follows_open : (unit : Value) (s : State) (r peer : ℕ) (link : Standing) → RiseFrom 0 s.live → s.class ≡ Some Two → s.ended ≡ None →
     value_at r s.live ≡ Some (linked peer link) → destination_of unit ≡ Some r →
     Follows r peer (unit ∷ []) (put_for unit s) s (react unit s)
+unfolding react
 follows_open unit s r peer link rise two lasts here e =
-    grind (arith, react_is unit s r two lasts e, put_is unit s r two lasts e, follows_linked r peer s link here two unit rise)
+    subst (FollowsBy r peer (unit ∷ []) s) (sym (outcome_at unit s r (Some (linked peer link)) two lasts e here))
+    (follows_linked r peer s link here two unit rise)
 
 pub follows_closed_one : (unit : Value) (s : State) (r peer : ℕ) → RiseFrom 0 s.live → s.class ≡ Some Two → s.ended ≡ None →
     value_at r s.live ≡ Some (closing peer) → destination_of unit ≡ Some r → Follows r peer (unit ∷ []) (put_for unit s) s (react unit s)
+unfolding react
 follows_closed_one unit s r peer rise two lasts here e =
-    grind (arith, react_is unit s r two lasts e, put_is unit s r two lasts e, ignores_follows, without_here)
+    subst (FollowsBy r peer (unit ∷ []) s) (sym (outcome_at unit s r (Some (closing peer)) two lasts e here))
+    (closing_follows r peer unit s rise here)

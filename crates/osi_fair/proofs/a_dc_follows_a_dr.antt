@@ -1,33 +1,24 @@
 -- An end sends a DC only after it was sent a DR, which had passed when the packet of the DC began: so the judge knows it, as long as
 -- the other side is judged. For the laws on whole ends.
-use Rattle.osi_fair.proofs.Vocabulary.{arith, [], ap, Bool, Err, false, if◌then◌else◌, List, map, None, not, Ok, Option, refl, Result, Some}
-use Rattle.osi_fair.proofs.Vocabulary.{subst, sym, true, ℕ, ◌++◌, ◌∙◌, ◌∷◌, ◌≡◌, ◌≢◌, AllByRecursion, position, slice_get, ◌||◌, ◌&&◌}
-use Rattle.osi_fair.proofs.Vocabulary.{acknowledge, confirm, Connect, destination_of, data0, data2, disconnect, disconnected, error}
-use Rattle.osi_fair.proofs.Vocabulary.{request, Value}
-use Rattle.osi_fair.proofs.Vocabulary.{all_given, ack, Given, part0, part2, Standing, with_tsdu, Class, Two, Zero, open_link, sent}
-use Rattle.osi_fair.proofs.Vocabulary.{Live, Rows, State, UserCall, react, user_does, Local, is_applied, reach_by, reach_of, first_failed}
-use Rattle.osi_fair.proofs.Vocabulary.{is_live, is_named, other, asks_by, asks_of, at_found, at_place, class_for, course_after}
-use Rattle.osi_fair.proofs.Vocabulary.{course_after_none, found_on, has_broken, has_disconnected, is_stopped, is_stray, knows_disconnect}
-use Rattle.osi_fair.proofs.Vocabulary.{may_answer, none_told, noted, Outcome, packet_begins, reached, refused, refused_reach, request_tests}
-use Rattle.osi_fair.proofs.Vocabulary.{route, route_in, routed, Traffic, takes, unnamed_told, with_disconnect, Connection, Course}
-use Rattle.osi_fair.proofs.Vocabulary.{Direction}
-use Rattle.osi_fair.proofs.Vocabulary.{Left, Right, Disconnects, Finding, Broke, Kept, NotJudged, Outside, TooMany, Reach, Route, Asks}
-use Rattle.osi_fair.proofs.Vocabulary.{Named}
-use Rattle.osi_fair.proofs.Vocabulary.{Only, Unnamed, passes, Passing, rubbish, unit as passing, put_at, put_before, put_by, put_closing}
-use Rattle.osi_fair.proofs.Vocabulary.{put_for, put_for_request, put_for_selection, put_in, put_in_two, put_in_zero, put_linked, put_only}
-use Rattle.osi_fair.proofs.Vocabulary.{put_sent, put_taking, put_to, put_together, arrives, begin, begins_other, begins_own, calls, Event}
-use Rattle.osi_fair.proofs.Vocabulary.{HappenAlong, Happens, passes_rubbish, Whole}
-use Rattle.osi_carrier.specs.Pump.{written_by}
-use Rattle.osi_carrier.specs.React.{handed_out}
+use Rattle.osi_fair.proofs.Vocabulary.{arith, [], ap, Bool, false, if◌then◌else◌, List, None, not, Option, refl, Some, subst, sym, true, ℕ}
+use Rattle.osi_fair.proofs.Vocabulary.{◌++◌, ◌∙◌, ◌∷◌, ◌≡◌, ◌≢◌, AllByRecursion, position, slice_get, ◌||◌, ◌&&◌, acknowledge, confirm}
+use Rattle.osi_fair.proofs.Vocabulary.{Connect, data0, data2, disconnect, disconnected, error, request, Value, Given, Class, Two, Zero}
+use Rattle.osi_fair.proofs.Vocabulary.{State, UserCall, react, user_does, Local, is_applied, reach_by, reach_of, first_failed, is_live}
+use Rattle.osi_fair.proofs.Vocabulary.{is_named, other, asks_by, asks_of, at_found, at_place, class_for, course_after, course_after_none}
+use Rattle.osi_fair.proofs.Vocabulary.{found_on, has_broken, has_disconnected, is_stopped, is_stray, knows_disconnect, may_answer}
+use Rattle.osi_fair.proofs.Vocabulary.{none_told, noted, Outcome, packet_begins, reached, refused, refused_reach, request_tests, route}
+use Rattle.osi_fair.proofs.Vocabulary.{route_in, routed, Traffic, takes, unnamed_told, with_disconnect, Connection, Course, Direction, Left}
+use Rattle.osi_fair.proofs.Vocabulary.{Right, Disconnects, Finding, Broke, Kept, NotJudged, Outside, TooMany, Reach, Route, Asks, Named}
+use Rattle.osi_fair.proofs.Vocabulary.{Only, Unnamed, passes, Passing, rubbish, unit as passing, put_by, put_for, arrives, begin}
+use Rattle.osi_fair.proofs.Vocabulary.{begins_other, begins_own, calls, Event, HappenAlong, Happens, passes_rubbish, Whole}
 use Rattle.osi_class.specs.Link.{unit_of}
-use Rattle.osi_class.specs.Negotiation.{Selection}
-use Rattle.osi_class.specs.declared.faults.LinkFault.{LinkFault}
 use Rattle.osi_fair.specs.Wholes.{passes_other, passes_own}
 use Rattle.osi_rules.specs.Traffic.{unnamed}
 use Rattle.osi_rules.specs.declared.findings.Reach.TheVariants as reach
 use Rattle.osi_rules.specs.declared.findings.Rule.TheVariants as rule
 use Rattle.osi_fair.proofs.each_connection_has_its_line.{all_so}
-use Rattle.osi_fair.proofs.what_a_whole_end_takes.{all_join}
+use Rattle.osi_fair.proofs.small_facts_that_many_lemmas_use.{all_join}
+use Rattle.osi_fair.proofs.what_a_carrier_puts.{Confirms, accepts_any, put_by_so, put_for_so}
 use Rattle.osi_fair.proofs.what_lasts_at_the_judge.{lasts_passing}
 use Rattle.osi_fair.proofs.which_units_are_for_a_connection.{is_dc}
 
@@ -40,79 +31,18 @@ is_dr v = false
 abbrev IsNoDc : Value → Type 0
 IsNoDc v = is_dc v ≡ false
 
-given_no_dc : (peer : ℕ) (gs : List Given) → AllByRecursion IsNoDc (map (unit_of peer) gs)
-given_no_dc peer [] = tt
-given_no_dc peer (part0 end octets ∷ gs) = (refl, given_no_dc peer gs)
-given_no_dc peer (part2 number end octets ∷ gs) = (refl, given_no_dc peer gs)
-given_no_dc peer (ack number credit ∷ gs) = (refl, given_no_dc peer gs)
+given_no_dc : (peer : ℕ) (g : Given) → IsNoDc (unit_of peer g)
+given_no_dc peer g = grind arith
 
-written_no_dc : (peer : ℕ) (link : Standing) → AllByRecursion IsNoDc (written_by peer link)
-written_no_dc peer link = given_no_dc peer (all_given link)
-
-taking_no_dc : (r peer : ℕ) (t : Result Standing LinkFault) (held : Option Class) → AllByRecursion IsNoDc (put_taking r peer t held)
-taking_no_dc r peer (Ok link) held = written_no_dc peer (handed_out link)
-taking_no_dc r peer (Err fault) None = tt
-taking_no_dc r peer (Err fault) (Some Zero) = tt
-taking_no_dc r peer (Err fault) (Some Two) = (refl, tt)
-
-linked_no_dc : (r peer : ℕ) (link : Standing) (u : Value) (held : Option Class) → is_dr u ≡ false →
-    AllByRecursion IsNoDc (put_linked r peer link u held)
-linked_no_dc r peer link u held h = grind (arith, taking_no_dc)
-
-at_no_dc : (r : ℕ) (o : Option Live) (u : Value) (held : Option Class) → is_dr u ≡ false → AllByRecursion IsNoDc (put_at r o u held)
-at_no_dc r o u held h = grind (arith, linked_no_dc)
-
-to_no_dc : (o : Option ℕ) (u : Value) (s : State) → is_dr u ≡ false → AllByRecursion IsNoDc (put_to o u s)
-to_no_dc o u s h = grind (arith, at_no_dc)
-
-only_no_dc : (rows : Rows Live) (u : Value) (s : State) → is_dr u ≡ false → AllByRecursion IsNoDc (put_only rows u s)
-only_no_dc [] u s h = tt
-only_no_dc ((r, connection) ∷ rows) u s h = at_no_dc r (Some connection) u s.class h
-
-selection_no_dc : (c : Connect) (x : Selection) (held : Option Class) (s : State) → AllByRecursion IsNoDc (put_for_selection c x held s)
-selection_no_dc c x held s = grind arith
-
-request_no_dc : (c : Connect) (s : State) → AllByRecursion IsNoDc (put_for_request c s)
-request_no_dc c s = grind (arith, selection_no_dc)
-
-before_no_dc : (b : Bool) (u : Value) (s : State) → is_dr u ≡ false → AllByRecursion IsNoDc (put_before b u s)
-before_no_dc b u s h = grind (arith, to_no_dc, request_no_dc)
-
-zero_no_dc : (b : Bool) (u : Value) (s : State) → is_dr u ≡ false → AllByRecursion IsNoDc (put_in_zero b u s)
-zero_no_dc b u s h = grind (arith, only_no_dc)
-
-two_no_dc : (b : Bool) (u : Value) (s : State) → is_dr u ≡ false → AllByRecursion IsNoDc (put_in_two b u s)
-two_no_dc true u s h = to_no_dc (destination_of u) u s h
-two_no_dc false (request c) s h = request_no_dc c s
-two_no_dc false (confirm n c) s h = to_no_dc (Some n) (confirm n c) s h
-two_no_dc false (disconnect n source reason user) s h = absurd (cc h)
-two_no_dc false (disconnected n source) s h = to_no_dc (Some n) (disconnected n source) s h
-two_no_dc false (data0 end user) s h = to_no_dc None (data0 end user) s h
-two_no_dc false (data2 n number end user) s h = to_no_dc (Some n) (data2 n number end user) s h
-two_no_dc false (acknowledge credit n number) s h = to_no_dc (Some n) (acknowledge credit n number) s h
-two_no_dc false (error n cause) s h = to_no_dc (Some n) (error n cause) s h
-
-in_no_dc : (k : Option Class) (u : Value) (s : State) → is_dr u ≡ false → AllByRecursion IsNoDc (put_in k u s)
-in_no_dc k u s h = grind (arith, before_no_dc, zero_no_dc, two_no_dc)
+none_for : (u : Value) → is_dr u ≡ false → Confirms IsNoDc u
+none_for (disconnect destination source reason user) h = absurd (cc h)
+none_for u h = tt
 
 for_no_dc : (u : Value) (s : State) → is_dr u ≡ false → AllByRecursion IsNoDc (put_for u s)
-for_no_dc u s h = grind (arith, in_no_dc)
-
-sent_no_dc : (tsdu : List ℕ) (o : Option (ℕ × Standing)) → AllByRecursion IsNoDc (put_sent tsdu o)
-sent_no_dc tsdu None = tt
-sent_no_dc tsdu (Some (peer, link)) = written_no_dc peer (with_tsdu link tsdu)
-
-together_no_dc : (r : ℕ) (tsdus : List (List ℕ)) (s : State) → AllByRecursion IsNoDc (put_together r tsdus s)
-together_no_dc r [] s = tt
-together_no_dc r (tsdu ∷ tsdus) s =
-    all_join IsNoDc (put_sent tsdu (open_link r s)) (put_together r tsdus (sent r tsdu s)) (sent_no_dc tsdu (open_link r s))
-    (together_no_dc r tsdus (sent r tsdu s))
-
-closing_no_dc : (r reason : ℕ) (o : Option (ℕ × Standing)) (k : Option Class) → AllByRecursion IsNoDc (put_closing r reason o k)
-closing_no_dc r reason o k = grind arith
+for_no_dc u s h = put_for_so IsNoDc given_no_dc (λ m n reason. refl) s u (accepts_any IsNoDc s (λ m x. refl) u) (none_for u h)
 
 by_no_dc : (call : UserCall) (s : State) → AllByRecursion IsNoDc (put_by call s)
-by_no_dc call s = grind (arith, sent_no_dc, together_no_dc, closing_no_dc)
+by_no_dc call s = put_by_so IsNoDc given_no_dc (λ m n reason. refl) (λ x. refl) call s
 
 -- ---- what a unit changes of what is noted
 

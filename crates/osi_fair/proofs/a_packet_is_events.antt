@@ -1,12 +1,11 @@
 -- What a carrier does with a packet, with or without enough memory, or with several, and what its user does, is events of its whole end.
 -- For the law of that name.
-use Rattle.osi_fair.proofs.Vocabulary.{arith, [], ap, append_assoc, Err, if◌then◌else◌, inl, inr, List, None, Ok, refl, Result, subst, sym}
-use Rattle.osi_fair.proofs.Vocabulary.{ℕ, ◌++◌, ◌∙◌, ◌∷◌, ◌≡◌, ◌⊎◌, flat_map-append, append-nil, packet_of, units_of, Value, written}
-use Rattle.osi_fair.proofs.Vocabulary.{TpduFault, acts_by, RunsOut, react, reacts, breaks, user_does, UserCall, ends, packets, Tpdu}
-use Rattle.osi_fair.proofs.Vocabulary.{EndReason, Fault, NoMemory, Direction, units_by, put_by, put_for, arrives, Becomes, calls, Event}
-use Rattle.osi_fair.proofs.Vocabulary.{HappenAlong, MayCall, Whole, State}
+use Rattle.osi_fair.proofs.Vocabulary.{arith, [], ap, append_assoc, Err, inl, inr, List, None, Ok, refl, Result, subst, sym, ℕ, ◌++◌, ◌∙◌}
+use Rattle.osi_fair.proofs.Vocabulary.{◌∷◌, ◌≡◌, ◌⊎◌, flat_map-append, append-nil, packet_of, units_of, Value, written, TpduFault, acts_by}
+use Rattle.osi_fair.proofs.Vocabulary.{RunsOut, react, reacts, breaks, user_does, UserCall, ends, packets, Tpdu, EndReason, Fault, NoMemory}
+use Rattle.osi_fair.proofs.Vocabulary.{Direction, units_by, put_by, put_for, arrives, Becomes, calls, Event, HappenAlong, MayCall, Whole}
+use Rattle.osi_fair.proofs.Vocabulary.{State, call_written, unit_written}
 use Rattle.osi_carrier.specs.Packets.{Acts}
-use Rattle.osi_fair.proofs.what_a_carrier_puts.{call_writes, unit_writes}
 
 packets_join : (xs ys : List Value) → packets (xs ++ ys) ≡ packets xs ++ packets ys
 packets_join xs ys = flat_map-append (λ (unit : Value). packet_of (written unit)) xs ys
@@ -58,7 +57,7 @@ module _ (d : Direction) where
       put = put_for u w.end;
       coming = later;
       along = (record w { end = react u w.end; put = w.put ++ put_for u w.end; coming = later }, (u, e, refl), refl);
-      outgoing = unit_writes u w.end;
+      outgoing = unit_written u w.end;
     },
     refl,
   )
@@ -79,7 +78,7 @@ module _ (d : Direction) where
     put = put_by call w.end;
     coming = w.coming;
     along = (record w { end = user_does call w.end; put = w.put ++ put_by call w.end }, (may, refl), refl);
-    outgoing = call_writes call w.end;
+    outgoing = call_written call w.end;
   }
 
   pub call_so : (call : UserCall) (w : Whole) → MayCall call w.end → (b : Becomes d w (user_does call w.end)) × (b.coming ≡ w.coming)

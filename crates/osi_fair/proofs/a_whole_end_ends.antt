@@ -2,15 +2,15 @@
 -- For the law on a whole end.
 use Rattle.osi_fair.proofs.Vocabulary.{Right, [], arith, Bool, false, is_some, List, None, refl, Some, true, ℕ, ◌++◌, ◌∙◌, ◌∷◌, ◌≡◌, ◌≤◌}
 use Rattle.osi_fair.proofs.Vocabulary.{◌⊎◌, append-nil, AllByRecursion, Value, Local, IsOrderly, in_two, react, user_does, UserCall}
-use Rattle.osi_fair.proofs.Vocabulary.{Connection, put_by, put_for, put_in_two, MayCall, Whole, Connect, request, subst, sym, State}
+use Rattle.osi_fair.proofs.Vocabulary.{Connection, put_by, put_for, MayCall, Whole, Connect, request, subst, sym, State, state_is}
 use Rattle.osi_fair.proofs.small_facts_that_many_lemmas_use.{none_of as no_end}
 use Rattle.osi_fair.proofs.a_request_of_a_whole_end_is_new.{Newer, unit_gives}
 use Rattle.osi_fair.proofs.a_whole_end_makes_a_call.{end_calls, nothing_so, same_up}
 use Rattle.osi_fair.proofs.a_whole_end_takes_a_unit.{end_takes}
-use Rattle.osi_fair.proofs.what_a_unit_leaves_at_a_calling_end.{two_puts, two_reacts}
+use Rattle.osi_fair.proofs.what_a_unit_leaves_at_a_calling_end.{two_outcome}
 use Rattle.osi_fair.proofs.each_connection_has_its_line.{followed_at, AreGiven, Followed, Following, all_so, over, AreSettled, IsAnswer}
 use Rattle.osi_fair.proofs.each_connection_has_its_line.{IsAsking}
-use Rattle.osi_fair.proofs.how_a_calling_end_asks.{Idle, over_calls, over_takes, put_is as put_calling, react_is as react_calling}
+use Rattle.osi_fair.proofs.how_a_calling_end_asks.{Idle, outcome_is, over_calls, over_takes}
 use Rattle.osi_fair.proofs.references_of_requests_rise.{all_gives, closed_gives, ended_gives, sent_gives}
 use Rattle.osi_fair.proofs.what_a_calling_end_still_has.{OffersTwo, SelectsTwo, all_last, over_not, sent_lasts}
 use Rattle.osi_fair.proofs.names_stay_apart_though_one_is_lost.{AreNamedApart}
@@ -23,11 +23,11 @@ use Rattle.osi_fair.proofs.what_is_live_at_a_called_end.{IsLive}
 never : {A : Type 0} (s t : State) → s.ended ≡ None → t.ended ≡ s.ended → is_some t.ended ≡ true → A
 never s t lasts e h = over_not t.ended h (e ∙ lasts)
 
-in_two_puts : (u : Value) (s : State) → s.ended ≡ None → is_some (in_two true u s).ended ≡ true → put_in_two true u s ≡ []
+in_two_puts : (u : Value) (s : State) → s.ended ≡ None → is_some (in_two true u s).state.ended ≡ true → (in_two true u s).put ≡ []
 in_two_puts u s lasts h = search arith
 
 ended_puts : (b : Bool) (u : Value) (s : State) → is_some s.ended ≡ b → OffersTwo s → is_some (react u s).ended ≡ true → put_for u s ≡ []
-ended_puts b u s e o h = grind (arith, over_takes, put_calling, react_calling, two_puts, in_two_puts, two_reacts, no_end)
+ended_puts b u s e o h = grind (arith, over_takes, outcome_is, two_outcome, in_two_puts, state_is, no_end)
 
 -- ---- the lines after the end
 

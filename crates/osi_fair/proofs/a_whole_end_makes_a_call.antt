@@ -9,7 +9,7 @@ use Rattle.osi_fair.proofs.Vocabulary.{IsOrderly, pumped, value_at, breaks, clos
 use Rattle.osi_fair.proofs.Vocabulary.{asked, closing, Live, linked, EndReason, Connection, Left, Follows, link_now, Line, put_closing}
 use Rattle.osi_fair.proofs.Vocabulary.{put_sent, put_together, MayCall, Whole, State, ltb-false, ltb-true}
 use Rattle.osi_carrier.specs.Calls.{sent_on}
-use Rattle.osi_fair.proofs.small_facts_that_many_lemmas_use.{differ}
+use Rattle.osi_fair.proofs.small_facts_that_many_lemmas_use.{all_join, differ}
 use Rattle.osi_fair.proofs.a_carrier_follows_lines.{follows_closed, follows_sent}
 use Rattle.osi_fair.proofs.a_request_of_a_whole_end_is_new.{Newer}
 use Rattle.osi_fair.proofs.no_two_open_connections_have_one_peer.{one_peer}
@@ -21,7 +21,7 @@ use Rattle.osi_fair.proofs.each_connection_has_its_line.{tracks_keep, tracks_on}
 use Rattle.osi_fair.proofs.how_a_connection_opens.{asked_so}
 use Rattle.osi_fair.proofs.references_of_requests_rise.{all_gives, closed_gives, sent_gives}
 use Rattle.osi_fair.proofs.what_a_calling_end_still_has.{OffersTwo}
-use Rattle.osi_fair.proofs.what_a_whole_end_takes.{Owner, Puts, all_join, leads_more, of_line, settled_more, some_more, units_ask}
+use Rattle.osi_fair.proofs.what_a_whole_end_takes.{Owner, Puts, leads_more, of_line, settled_more, some_more, units_ask}
 use Rattle.osi_fair.proofs.what_a_whole_end_takes.{units_owned, units_settled}
 use Rattle.osi_fair.proofs.names_stay_apart_though_one_is_lost.{AreNamedApart}
 use Rattle.osi_fair.proofs.a_unit_of_a_whole_end_passes.{all_two}

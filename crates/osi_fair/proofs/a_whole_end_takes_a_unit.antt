@@ -4,23 +4,23 @@ use Rattle.osi_fair.proofs.Vocabulary.{Right, arith, [], ap, Bool, false, inl, i
 use Rattle.osi_fair.proofs.Vocabulary.{true, ℕ, ◌++◌, ◌∙◌, ◌∷◌, ◌≡◌, ◌≤◌, ◌⊎◌, ◌==◌, append-nil, AllByRecursion, slice_get, confirm}
 use Rattle.osi_fair.proofs.Vocabulary.{Connect, disconnected, Value, Standing, Two, Local, changes_one, agreed_size, opened_link, IsOrderly}
 use Rattle.osi_fair.proofs.Vocabulary.{to_connection, value_at, asked, closing, Live, linked, Connection, Left, link_now, ignores, Line}
-use Rattle.osi_fair.proofs.Vocabulary.{put_at, put_for, Whole, without_here, State, beyond, ltb-false, ltb-true}
+use Rattle.osi_fair.proofs.Vocabulary.{put_for, Whole, without_here, State, beyond, ltb-false, ltb-true, outcome, CarrierOutcome, state_is}
 use Rattle.std.proofs.lemmas.List.{append_assoc}
 unfoldable use Rattle.osi_carrier.specs.React.{react}
-use Rattle.osi_fair.proofs.small_facts_that_many_lemmas_use.{differ, number_is as same_number, number_is}
+use Rattle.osi_fair.proofs.small_facts_that_many_lemmas_use.{all_join, differ, number_is as same_number, number_is}
 use Rattle.osi_fair.proofs.a_carrier_follows_lines.{follows_open}
 use Rattle.osi_fair.proofs.a_request_of_a_whole_end_is_new.{unit_gives}
 use Rattle.osi_fair.proofs.each_connection_has_its_line.{followed_at, Followed, Following, IsAnswer, IsNoCc, IsSpare, Row, Tracked, asks}
 use Rattle.osi_fair.proofs.each_connection_has_its_line.{closes, is_tracked, over, talks, tracks_keep, tracks_on}
 use Rattle.osi_fair.proofs.what_a_calling_end_still_has.{OffersTwo, SelectsTwo, unit_after}
-use Rattle.osi_fair.proofs.what_a_whole_end_takes.{Puts, all_join, leads_more, nothing, of_line, of_none, taken_so}
+use Rattle.osi_fair.proofs.what_a_whole_end_takes.{Puts, leads_more, nothing, of_line, of_none, taken_so}
 use Rattle.osi_fair.proofs.names_stay_apart_though_one_is_lost.{AreNamedApart}
 use Rattle.osi_fair.proofs.what_the_other_side_closes.{IsDr, IsSane, closed_by}
 use Rattle.osi_fair.proofs.which_units_are_for_a_connection.{AllOurs, all_ours, picked_first, is_dc, is_ours, last_ours, named_so, names}
 use Rattle.osi_fair.proofs.which_units_are_for_a_connection.{picked_more, picked_other, ours, ours_is, picked_join, those}
 use Rattle.osi_fair.proofs.what_a_unit_leaves_at_a_calling_end.{Asks, Closes, Linked, Named, asked_so, dr_closes, drops, early_dc}
 use Rattle.osi_fair.proofs.what_a_unit_leaves_at_a_calling_end.{early_parts, ends, linked_so, named_by, no_answer, opened, or_strays}
-use Rattle.osi_fair.proofs.what_a_unit_leaves_at_a_calling_end.{spare_none, stays, still, unknown_so}
+use Rattle.osi_fair.proofs.what_a_unit_leaves_at_a_calling_end.{asked_puts, spare_none, stays, still, unknown_so}
 use Rattle.osi_fair.proofs.what_is_live_at_a_called_end.{IsLive}
 
 none_first : (xs ys : List Value) → xs ++ ys ≡ [] → xs ≡ []
@@ -53,6 +53,16 @@ module _ (local : Local) (w : Whole) (f : Followed local w) (sane : IsSane w.jud
   abbrev after : Whole
   after = record w { end = t; put = w.put ++ units; coming = later }
 
+  -- it is for a connection, whatever that is
+  at : (o : Option Live) → value_at n s.live ≡ o → outcome u s ≡ to_connection n o u s
+  at o here = k.is ∙ ap (λ (x : Option Live). to_connection n x u s) here
+
+  t_at : (o : Option Live) → value_at n s.live ≡ o → t ≡ (to_connection n o u s).state
+  t_at o here = state_is u s ∙ ap (λ (x : CarrierOutcome). x.state) (at o here)
+
+  units_at : (o : Option Live) → value_at n s.live ≡ o → units ≡ (to_connection n o u s).put
+  units_at o here = ap (λ (x : CarrierOutcome). x.put) (at o here)
+
   rows : (m : ℕ) → (m ≡ n → ⊥) → value_at m t.live ≡ value_at m s.live
   rows m other = (changes_one u s lasts).others m (λ e. other (e ∙ (grind arith)))
 
@@ -67,7 +77,7 @@ module _ (local : Local) (w : Whole) (f : Followed local w) (sane : IsSane w.jud
   MineLinked = (peer : ℕ) (link : Standing) → value_at n t.live ≡ Some (linked peer link) → Tracked cs n × (t.class ≡ Some Two)
 
   asked_dc : is_dc u ≡ true → value_at n s.live ≡ Some asked → value_at n t.live ≡ Some asked
-  asked_dc dc here = grind arith
+  asked_dc dc here = grind (arith, t_at (Some asked) here)
 
   -- as it takes the unit it begins to await no CC
   abbrev AskedBefore : Type 0
@@ -157,15 +167,15 @@ module _ (local : Local) (w : Whole) (f : Followed local w) (sane : IsSane w.jud
 
   no_dr : value_at n s.live ≡ None → (IsDr u → ⊥) → Followed local after
   no_dr here not_dr =
-      let same = unknown_so u s t n k.dest (k.is ∙ ap (λ (o : Option Live). to_connection n o u s) here) lasts not_dr in
-      let none = k.puts ∙ ap (λ (o : Option Live). put_at n o u s.class) here ∙ (grind arith) in
+      let same = unknown_so u s t n k.dest (t_at None here) lasts not_dr in
+      let none = units_at None here ∙ (grind arith) in
       let there : value_at n t.live ≡ None = ap (λ (x : State). value_at n x.live) same ∙ here in
       all (not_asked None there (λ e. cc e))
       (λ p c at tracked g is. closed_row (no_spares none) None None here 0 (inr refl) there 0 (inr refl) c g is g.row)
       (λ peer link h. absurd (cc (sym there ∙ h))) (nothing none)
 
   at_gone : value_at n s.live ≡ None → Followed local after
-  at_gone here = grind (arith, no_dr, same_number, is_dc, answered, or_strays, dr_closes)
+  at_gone here = grind (arith, t_at None here, units_at None here, no_dr, same_number, is_dc, answered, or_strays, dr_closes)
 
   by_closing : (q : ℕ) → value_at n s.live ≡ Some (closing q) → units ≡ [] → Closes n q s t → Followed local after
   by_closing q here none (stays same) =
@@ -180,7 +190,8 @@ module _ (local : Local) (w : Whole) (f : Followed local w) (sane : IsSane w.jud
       (λ peer link h. absurd (cc (sym there ∙ h))) (nothing none)
 
   at_closing : (q : ℕ) → value_at n s.live ≡ Some (closing q) → Followed local after
-  at_closing q here = grind (arith, by_closing, without_here)
+  at_closing q here =
+      grind (arith, t_at (Some (closing q)) here, units_at (Some (closing q)) here, by_closing, without_here)
 
   -- ---- its CC
 
@@ -241,9 +252,9 @@ module _ (local : Local) (w : Whole) (f : Followed local w) (sane : IsSane w.jud
 
   at_asked : value_at n s.live ≡ Some asked → Followed local after
   at_asked here =
-      by_asked here (k.puts ∙ ap (λ (o : Option Live). put_at n o u s.class) here)
+      by_asked here (units_at (Some asked) here ∙ asked_puts n u s)
       (asked_so n u s t offers (grind (arith, same_number)) orderly.rise here k.dest
-      (k.is ∙ ap (λ (o : Option Live). to_connection n o u s) here) lasts)
+      (t_at (Some asked) here) lasts)
 
   -- ---- an open connection
 
@@ -279,7 +290,7 @@ module _ (local : Local) (w : Whole) (f : Followed local w) (sane : IsSane w.jud
       let own = last_ours g.r g.peer g.line.put units (tracks_keep g.r g.peer line tracks).ours in
       let none = spare_none g.spare g.line.link l g.gone is in
       let is_linked = linked_so n g.peer l u s t (ap (λ (i : ℕ). value_at i s.live) (sym same) ∙ r) two orderly.rise
-      (k.is ∙ ap (λ (o : Option Live). to_connection n o u s) (ap (λ (i : ℕ). value_at i s.live) (sym same) ∙ r)) in
+      (t_at _ (ap (λ (i : ℕ). value_at i s.live) (sym same) ∙ r)) in
       record {
         grown = record {
           r = g.r;
@@ -321,7 +332,7 @@ module _ (local : Local) (w : Whole) (f : Followed local w) (sane : IsSane w.jud
       let ((p, c, at, tracked, left), two) = f.linked was n peer link here in
       let g = f.lines p c at tracked in
       let mine = grown_by peer link here two p c at g (sym g.left ∙ left) g.row in
-      all (still_open (linked_so n peer link u s t here two orderly.rise (k.is ∙ ap (λ (o : Option Live). to_connection n o u s) here)))
+      all (still_open (linked_so n peer link u s t here two orderly.rise (t_at (Some (linked peer link)) here)))
       (λ i x there is_there h same. (grown_by peer link here two i x there h same h.row).grown)
       (λ q l h. ((p, c, at, tracked, left), grind (arith, unit_after)))
       (of_line (record { p = p; c = c; at = at; tracked = tracked; left = left; own = mine.own })

@@ -5,7 +5,8 @@ use Rattle.osi_fair.proofs.Vocabulary.{ℕ, ◌+◌, ◌∙◌, ◌∷◌, ◌�
 use Rattle.osi_fair.proofs.Vocabulary.{Standing, Local, class_error, link_of, may_connect, open_link, sent_all, proposal, before_class}
 use Rattle.osi_fair.proofs.Vocabulary.{to_connection, Rows, value_at, breaks, closes_call as closes, connects, sends, sends_all}
 use Rattle.osi_fair.proofs.Vocabulary.{user as by_user, user_does, UserCall, asked, Live as Connection, ends, EndReason, OpenError}
-use Rattle.osi_fair.proofs.Vocabulary.{offer_of, Offer, asks_with, put_at, put_before, put_by, put_for, put_together, MayCall}
+use Rattle.osi_fair.proofs.Vocabulary.{offer_of, Offer, asks_with, put_by, put_for, put_together, MayCall, outcome, CarrierOutcome}
+use Rattle.osi_fair.proofs.Vocabulary.{puts_none}
 unfoldable use Rattle.osi_carrier.specs.React.{react}
 use Rattle.osi_carrier.specs.State.{State}
 use Rattle.osi_fair.proofs.small_facts_that_many_lemmas_use.{and_second, or_last}
@@ -26,22 +27,20 @@ one r = (r, asked) ∷ []
 
 -- ---- a unit, while no class is selected
 
-module _ (rows : Rows Connection) (unit : Value) (s : State) (is : IsCalling rows s) where
-  pub react_is : react unit s ≡ before_class true unit s
-  unfolding react
-  react_is = grind arith
-
-  pub put_is : put_for unit s ≡ put_before true unit s
-  put_is = grind arith
+pub outcome_is : (rows : Rows Connection) (unit : Value) (s : State) → IsCalling rows s → outcome unit s ≡ before_class true unit s
+outcome_is rows unit s is = grind arith
 
 -- the end has put nothing, and is so after the unit
 pub record Puts (P : State → Type 0) (unit : Value) (s : State) : Type 0 where
   pub put : put_for unit s ≡ []
   pub after : P (react unit s)
 
-pub puts : (P : State → Type 0) (rows : Rows Connection) (unit : Value) (s : State) → IsCalling rows s → put_before true unit s ≡ [] →
-    P (before_class true unit s) → Puts P unit s
-puts P rows unit s is none h = record { put = put_is rows unit s is ∙ none; after = subst P (sym (react_is rows unit s is)) h }
+pub puts : (P : State → Type 0) (rows : Rows Connection) (unit : Value) (s : State) → IsCalling rows s →
+    (before_class true unit s).put ≡ [] → P (before_class true unit s).state → Puts P unit s
+unfolding react
+puts P rows unit s is none h =
+    subst (λ (x : CarrierOutcome). x.put ≡ [] → P x.state → Puts P unit s) (outcome_is rows unit s is)
+    (λ put after. record { put = put; after = after }) none h
 
 pub dc_ends : (rows : Rows Connection) (unit : Value) (s : State) → IsDc unit → IsCalling rows s → Puts IsOver unit s
 dc_ends rows (disconnected destination source) s h is = puts IsOver rows (disconnected destination source) s is refl refl
@@ -61,26 +60,23 @@ value_one r s is = grind (arith, eq-eqb)
 abbrev pub Again : State → State → Type 0
 Again s t = IsCalling [] t × (t.local ≡ s.local)
 
-refused_takes : (r : ℕ) (unit : Value) (s : State) → IsCalling (one r) s →
-    put_before true unit s ≡ put_at r (value_at r s.live) unit s.class →
-    put_at r (Some asked) unit s.class ≡ [] → before_class true unit s ≡ to_connection r (value_at r s.live) unit s →
-    Again s (to_connection r (Some asked) unit s) → Puts (Again s) unit s
-refused_takes r unit s is a none b h =
-    puts (Again s) (one r) unit s is
-    (a ∙ ap (λ (o : Option Connection). put_at r o unit s.class) (value_one r s is) ∙ none)
-    (subst (Again s) (sym (b ∙ ap (λ (o : Option Connection). to_connection r o unit s) (value_one r s is))) h)
+refused_takes : (r : ℕ) (unit : Value) (s t : State) → IsCalling (one r) s →
+    before_class true unit s ≡ to_connection r (value_at r s.live) unit s → to_connection r (Some asked) unit s ≡ puts_none t →
+    Again s t → Puts (Again s) unit s
+refused_takes r unit s t is b e h =
+    let same = b ∙ ap (λ (o : Option Connection). to_connection r o unit s) (value_one r s is) ∙ e in
+    puts (Again s) (one r) unit s is (ap (λ (x : CarrierOutcome). x.put) same)
+    (subst (Again s) (sym (ap (λ (x : CarrierOutcome). x.state) same)) h)
 
 pub refusal_takes : (r : ℕ) (unit : Value) (s : State) → IsRefusal r unit → IsCalling (one r) s → Puts (Again s) unit s
 refusal_takes r (request c) s h is = absurd h
 refusal_takes r (disconnect destination source reason user) s e is =
-    refused_takes r (disconnect destination source reason user) s is
-    (ap (λ (n : ℕ). put_at n (value_at n s.live) (disconnect destination source reason user) s.class) e) refl
-    (ap (λ (n : ℕ). to_connection n (value_at n s.live) (disconnect destination source reason user) s) e)
+    refused_takes r (disconnect destination source reason user) s _ is
+    (ap (λ (n : ℕ). to_connection n (value_at n s.live) (disconnect destination source reason user) s) e) refl
     (record { lasts = is.lasts; caller = is.caller; class = is.class; live = (grind (arith, eq-eqb)) }, refl)
 refusal_takes r (error destination cause) s e is =
-    refused_takes r (error destination cause) s is
-    (ap (λ (n : ℕ). put_at n (value_at n s.live) (error destination cause) s.class) e) refl
-    (ap (λ (n : ℕ). to_connection n (value_at n s.live) (error destination cause) s) e)
+    refused_takes r (error destination cause) s _ is
+    (ap (λ (n : ℕ). to_connection n (value_at n s.live) (error destination cause) s) e) refl
     (record { lasts = is.lasts; caller = is.caller; class = is.class; live = (grind (arith, eq-eqb)) }, refl)
 refusal_takes r _ s h is = absurd h
 

@@ -130,3 +130,7 @@ some_same x y e = cc
 
 pub unequal : (m n : ℕ) (b : Bool) → (m == n) ≡ b → (m ≡ n → ⊥) → b ≡ false
 unequal m n b e h = grind (arith, eqb-true)
+
+pub all_join : (P : Value → Type 0) (xs ys : List Value) → AllByRecursion P xs → AllByRecursion P ys → AllByRecursion P (xs ++ ys)
+all_join P [] ys a b = b
+all_join P (x ∷ xs) ys (one, more) b = (one, all_join P xs ys more b)

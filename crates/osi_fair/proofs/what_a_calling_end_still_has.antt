@@ -73,53 +73,53 @@ pub not_zero : (x : Connect) (b : Bool) → (x.class == 2) ≡ true → ((x.clas
 not_zero x b h = no_two (x.class == 0) b (grind (arith, eqb-true))
 
 opens_after : (r : ℕ) (x : Connect) (s : State) → OffersTwo s → (x.class == 2) ≡ true →
-    After (confirm r x) s (opens r x (confirmed x s.local s.class) s)
+    After (confirm r x) s (opens r x (confirmed x s.local s.class) s).state
 opens_after r x s o two = grind (arith, has_put, after_end, not_zero)
 
 -- a CC closes nothing, whatever it names
-widen : (r n : ℕ) (x : Connect) (s : State) → After (confirm r x) s (opens r x (confirmed x s.local s.class) s) →
-    After (confirm n x) s (opens r x (confirmed x s.local s.class) s)
+widen : (r n : ℕ) (x : Connect) (s : State) → After (confirm r x) s (opens r x (confirmed x s.local s.class) s).state →
+    After (confirm n x) s (opens r x (confirmed x s.local s.class) s).state
 widen r n x s a = record { offers = a.offers; local = a.local; class = a.class; live = a.live }
 
 asked_after : (r : ℕ) (unit : Value) (s : State) → OffersTwo s → Selects unit → ((n : ℕ) → closed_by unit ≡ Some n → n ≡ r) →
-    After unit s (to_asked r unit s)
+    After unit s (to_asked r unit s).state
 asked_after r (confirm destination x) s o two is = widen r destination x s (opens_after r x s o (two destination x refl))
 asked_after r (disconnect destination source reason user) s o two is =
-    after_drop (disconnect destination source reason user) s (to_asked r (disconnect destination source reason user) s) r o refl refl refl
+    after_drop (disconnect destination source reason user) s _ r o refl refl refl
     (ap (λ (n : ℕ). Some n) (is destination refl)) refl
 asked_after r (disconnected destination source) s o two is = grind (arith, stays)
 asked_after r (error destination cause) s o two is =
-    after_drop (error destination cause) s (to_asked r (error destination cause) s) r o refl refl refl
+    after_drop (error destination cause) s (to_asked r (error destination cause) s).state r o refl refl refl
     (ap (λ (n : ℕ). Some n) (is destination refl)) refl
 asked_after r v s o two is = grind (arith, after_end)
 
 taking_after : (unit : Value) (r peer : ℕ) (result : Result Standing LinkFault) (s : State) → OffersTwo s →
-    After unit s (taking r peer result s)
+    After unit s (taking r peer result s).state
 taking_after unit r peer result s o = grind (arith, has_put, after_end)
 
 leaves_by : (unit : Value) (r peer reason : ℕ) (k : Option Class) (s : State) → OffersTwo s → closed_by unit ≡ Some r →
-    After unit s (leaves r peer reason k s)
-leaves_by unit r peer reason None s o e = after_end unit s (leaves r peer reason None s) o refl refl refl refl
-leaves_by unit r peer reason (Some Zero) s o e = after_end unit s (leaves r peer reason (Some Zero) s) o refl refl refl refl
-leaves_by unit r peer reason (Some Two) s o e = after_drop unit s (leaves r peer reason (Some Two) s) r o refl refl refl e refl
+    After unit s (leaves r peer reason k s).state
+leaves_by unit r peer reason None s o e = after_end unit s (leaves r peer reason None s).state o refl refl refl refl
+leaves_by unit r peer reason (Some Zero) s o e = after_end unit s (leaves r peer reason (Some Zero) s).state o refl refl refl refl
+leaves_by unit r peer reason (Some Two) s o e = after_drop unit s (leaves r peer reason (Some Two) s).state r o refl refl refl e refl
 
 linked_after : (r peer : ℕ) (link : Standing) (unit : Value) (s : State) → OffersTwo s → ((n : ℕ) → closed_by unit ≡ Some n → n ≡ r) →
-    After unit s (to_linked r peer link unit s)
+    After unit s (to_linked r peer link unit s).state
 linked_after r peer link (disconnect destination source reason user) s o is = search (arith, leaves_by)
 linked_after r peer link v s o is = search (arith, taking_after)
 
 closing_after : (r : ℕ) (unit : Value) (s : State) → OffersTwo s → ((n : ℕ) → closed_by unit ≡ Some n → n ≡ r) →
-    After unit s (to_closing r unit s)
+    After unit s (to_closing r unit s).state
 closing_after r (disconnect destination source reason user) s o is =
-    after_drop (disconnect destination source reason user) s (to_closing r (disconnect destination source reason user) s) r o refl refl refl
+    after_drop (disconnect destination source reason user) s _ r o refl refl refl
     (ap (λ (n : ℕ). Some n) (is destination refl)) refl
 closing_after r (disconnected destination source) s o is =
-    after_drop (disconnected destination source) s (to_closing r (disconnected destination source) s) r o refl refl refl
+    after_drop (disconnected destination source) s (to_closing r (disconnected destination source) s).state r o refl refl refl
     (ap (λ (n : ℕ). Some n) (is destination refl)) refl
 closing_after r v s o is = grind (arith, stays)
 
 connection_after : (r : ℕ) (o : Option Connection) (unit : Value) (s : State) → OffersTwo s → (o ≡ Some asked → Selects unit) →
-    ((n : ℕ) → closed_by unit ≡ Some n → n ≡ r) → After unit s (to_connection r o unit s)
+    ((n : ℕ) → closed_by unit ≡ Some n → n ≡ r) → After unit s (to_connection r o unit s).state
 connection_after r None unit s h two is = grind (arith, after_end)
 connection_after r (Some asked) unit s h two is = asked_after r unit s h (two refl) is
 connection_after r (Some (linked peer link)) unit s h two is = linked_after r peer link unit s h is
@@ -129,17 +129,17 @@ connection_after r (Some (closing peer)) unit s h two is = closing_after r unit 
 abbrev SelectsNow : State → Value → Type 0
 SelectsNow s unit = (m : ℕ) (x : Connect) → unit ≡ confirm m x → value_at m s.live ≡ Some asked → (x.class == 2) ≡ true
 
-before_after : (unit : Value) (s : State) → OffersTwo s → SelectsNow s unit → After unit s (before_class true unit s)
+before_after : (unit : Value) (s : State) → OffersTwo s → SelectsNow s unit → After unit s (before_class true unit s).state
 before_after unit s o two = grind (arith, connection_after, after_end)
 
-two_after : (unit : Value) (s : State) → OffersTwo s → SelectsNow s unit → After unit s (in_two true unit s)
+two_after : (unit : Value) (s : State) → OffersTwo s → SelectsNow s unit → After unit s (in_two true unit s).state
 two_after (confirm destination x) s o two = grind (arith, connection_after)
 two_after (disconnect destination source reason user) s o two = grind (arith, connection_after)
 two_after (disconnected destination source) s o two = grind (arith, connection_after)
 two_after (data2 destination number end user) s o two = grind (arith, connection_after)
 two_after (acknowledge credit destination number) s o two = grind (arith, connection_after)
 two_after (error destination cause) s o two = grind (arith, connection_after)
-two_after v s o two = after_end v s (in_two true v s) o refl refl refl refl
+two_after v s o two = after_end v s (in_two true v s).state o refl refl refl refl
 
 pub unit_after : (unit : Value) (s : State) → OffersTwo s → SelectsTwo s unit → After unit s (react unit s)
 unfolding react

@@ -5,10 +5,10 @@ use Rattle.osi_fair.proofs.Vocabulary.{Result, Some, sym, true, ℕ, ◌++◌, �
 use Rattle.osi_fair.proofs.Vocabulary.{destination_of, disconnect, disconnected, error, Value, Standing, LinkFault, Two, Zero, put_here}
 use Rattle.osi_fair.proofs.Vocabulary.{without_here, agreed_size, opened_link, proposes_zero, RiseFrom, pumped, handed_out, in_two, opens}
 use Rattle.osi_fair.proofs.Vocabulary.{taking, to_asked, to_connection, to_linked, to_unknown, value_at, asked, closing, Live, linked}
-use Rattle.osi_fair.proofs.Vocabulary.{put_at, put_for, put_in_two, State}
+use Rattle.osi_fair.proofs.Vocabulary.{State, outcome, state_is}
 unfoldable use Rattle.osi_carrier.specs.React.{react}
 use Rattle.osi_fair.proofs.small_facts_that_many_lemmas_use.{differ, first_is, no_list, number_is, rest_is}
-use Rattle.osi_fair.proofs.how_a_calling_end_asks.{IsCalling, put_is as put_calling, react_is as react_calling}
+use Rattle.osi_fair.proofs.how_a_calling_end_asks.{IsCalling, outcome_is}
 use Rattle.osi_fair.proofs.what_a_calling_end_still_has.{OffersTwo, Selects, not_zero, over_not}
 use Rattle.osi_fair.proofs.what_the_other_side_closes.{IsDr, closed_by}
 use Rattle.osi_fair.proofs.which_units_are_for_a_connection.{IsDc, is_dc}
@@ -19,27 +19,23 @@ use Rattle.osi_fair.proofs.which_units_are_for_a_connection.{IsDc, is_dc}
 pub record Named (u : Value) (s : State) : Type 0 where
   pub n : ℕ
   pub dest : destination_of u ≡ Some n
-  pub is : react u s ≡ to_connection n (value_at n s.live) u s
-  pub puts : put_for u s ≡ put_at n (value_at n s.live) u s.class
+  pub is : outcome u s ≡ to_connection n (value_at n s.live) u s
 
-pub two_reacts : (u : Value) (s : State) → OffersTwo s → s.ended ≡ None → s.class ≡ Some Two → react u s ≡ in_two true u s
-unfolding react
-two_reacts u s o lasts two = grind arith
-
-pub two_puts : (u : Value) (s : State) → OffersTwo s → s.ended ≡ None → s.class ≡ Some Two → put_for u s ≡ put_in_two true u s
-two_puts u s o lasts two = grind arith
+pub two_outcome : (u : Value) (s : State) → OffersTwo s → s.ended ≡ None → s.class ≡ Some Two → outcome u s ≡ in_two true u s
+two_outcome u s o lasts two = grind arith
 
 named_before : (u : Value) (s : State) → IsCalling s.live s → (react u s).ended ≡ None → Named u s
-named_before v s is lasts = grind (arith, react_calling, put_calling)
+named_before v s is lasts = grind (arith, outcome_is, state_is)
 
 pub named_by : (u : Value) (s : State) → OffersTwo s → s.ended ≡ None → (s.class ≡ None) ⊎ (s.class ≡ Some Two) → (react u s).ended ≡ None →
     Named u s
-named_by u s o was h lasts = grind (arith, named_before, two_reacts, two_puts)
+named_by u s o was h lasts = grind (arith, named_before, two_outcome, state_is)
 
 -- ---- what the end has after it
 
 -- a unit for a reference that is gone
-pub unknown_so : (u : Value) (s t : State) (n : ℕ) → destination_of u ≡ Some n → t ≡ to_unknown u s → t.ended ≡ None → (IsDr u → ⊥) → t ≡ s
+pub unknown_so : (u : Value) (s t : State) (n : ℕ) → destination_of u ≡ Some n → t ≡ (to_unknown u s).state → t.ended ≡ None →
+    (IsDr u → ⊥) → t ≡ s
 unknown_so u s t n d e lasts none = grind (arith, over_not)
 
 -- a unit for a connection that is closing
@@ -53,14 +49,14 @@ pub data Linked (n peer : ℕ) (t : State) : Type 0 where
   ends : (o : Option Live) → value_at n t.live ≡ o → (q : ℕ) → (o ≡ Some (closing q)) ⊎ (o ≡ None) → Linked n peer t
 
 linked_taking : (n peer : ℕ) (link : Standing) (result : Result Standing LinkFault) (s t : State) →
-    value_at n s.live ≡ Some (linked peer link) → s.class ≡ Some Two → t ≡ taking n peer result s → Linked n peer t
+    value_at n s.live ≡ Some (linked peer link) → s.class ≡ Some Two → t ≡ (taking n peer result s).state → Linked n peer t
 linked_taking n peer link (Ok after) s t here two e =
     still (pumped (handed_out after)) (grind (arith, put_here))
 linked_taking n peer link (Err fault) s t here two e =
     ends (Some (closing peer)) (grind (arith, put_here)) peer (inl refl)
 
 pub linked_so : (n peer : ℕ) (link : Standing) (u : Value) (s t : State) → value_at n s.live ≡ Some (linked peer link) →
-    s.class ≡ Some Two → RiseFrom 0 s.live → t ≡ to_linked n peer link u s → Linked n peer t
+    s.class ≡ Some Two → RiseFrom 0 s.live → t ≡ (to_linked n peer link u s).state → Linked n peer t
 linked_so n peer link (disconnect destination source reason user) s t here two rise e =
     ends None (grind (arith, without_here)) peer (inr refl)
 linked_so n peer link v s t here two rise e = search (arith, linked_taking)
@@ -74,7 +70,7 @@ pub data Asks (n : ℕ) (u : Value) (s t : State) : Type 0 where
   early_dc : is_dc u ≡ true → value_at n t.live ≡ Some asked → Asks n u s t
 
 opens_by : (n : ℕ) (x : Connect) (a z : Bool) (s t : State) → value_at n s.live ≡ Some asked → z ≡ false →
-    t ≡ opens n x (if a then Some Two else (if z then Some Zero else None)) s → t.ended ≡ None → Asks n (confirm n x) s t
+    t ≡ (opens n x (if a then Some Two else (if z then Some Zero else None)) s).state → t.ended ≡ None → Asks n (confirm n x) s t
 opens_by n x true z s t here none e lasts =
     let link = opened_link Two (agreed_size x.parameters.size s.local) s.local x.credit in
     opened x refl (ap (λ (y : State). value_at n y.live) e ∙ put_here n (linked x.source link) asked s.live here)
@@ -82,8 +78,11 @@ opens_by n x true z s t here none e lasts =
 opens_by n x false false s t here none e lasts = over_not t.ended (ap (λ (y : State). is_some y.ended) e) lasts
 opens_by n x false true s t here none e lasts = cc
 
+pub asked_puts : (n : ℕ) (u : Value) (s : State) → (to_asked n u s).put ≡ []
+asked_puts n u s = search arith
+
 pub asked_so : (n : ℕ) (u : Value) (s t : State) → OffersTwo s → Selects u → RiseFrom 0 s.live → value_at n s.live ≡ Some asked →
-    destination_of u ≡ Some n → t ≡ to_asked n u s → t.ended ≡ None → Asks n u s t
+    destination_of u ≡ Some n → t ≡ (to_asked n u s).state → t.ended ≡ None → Asks n u s t
 asked_so n (confirm destination x) s t o two rise here d e lasts =
     search (arith, opens_by, number_is destination n d, not_zero x (proposes_zero s.local s.class) (two destination x refl))
 asked_so n (disconnect destination source reason user) s t o two rise here d e lasts = grind (arith, without_here)

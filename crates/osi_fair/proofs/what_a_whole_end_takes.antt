@@ -4,7 +4,7 @@ use Rattle.osi_fair.proofs.Vocabulary.{Right, inl, inr, confirm, [], ap, arith, 
 use Rattle.osi_fair.proofs.Vocabulary.{true, ℕ, ◌++◌, ◌∙◌, ◌∷◌, ◌≡◌, ◌≢◌, ◌≤◌, eqb-true, append-nil, AllByRecursion, slice_get, ◌&&◌, ◌==◌}
 use Rattle.osi_fair.proofs.Vocabulary.{Connect, destination_of, disconnected, request, Value, Standing, Two, Local, value_at, asked, linked}
 use Rattle.osi_fair.proofs.Vocabulary.{Traffic, Connection, Half, Line, Whole, State}
-use Rattle.osi_fair.proofs.small_facts_that_many_lemmas_use.{first_is, rest_is, differ, no_list}
+use Rattle.osi_fair.proofs.small_facts_that_many_lemmas_use.{all_join, first_is, rest_is, differ, no_list}
 use Rattle.osi_fair.proofs.a_unit_of_a_whole_end_passes.{all_two}
 use Rattle.osi_fair.proofs.no_two_open_connections_have_one_peer.{one_peer}
 use Rattle.osi_fair.proofs.each_connection_has_its_line.{IsNoCc, followed_at, AreSettled, Followed, Following, IsAnswer, IsAsking, IsOwned}
@@ -22,10 +22,6 @@ use Rattle.osi_fair.proofs.a_dt_of_class_zero_passes.{unlike}
 all_under : (A : Type 0) (P : Value → Type 0) (vs : List Value) → (A → AllByRecursion P vs) → AllByRecursion (λ (v : Value). A → P v) vs
 all_under A P [] h = tt
 all_under A P (v ∷ vs) h = (λ a. (h a).0, all_under A P vs (λ a. (h a).1))
-
-pub all_join : (P : Value → Type 0) (xs ys : List Value) → AllByRecursion P xs → AllByRecursion P ys → AllByRecursion P (xs ++ ys)
-all_join P [] ys a b = b
-all_join P (x ∷ xs) ys (one, more) b = (one, all_join P xs ys more b)
 
 pub leads_more : (b : Bool) (f : Value → Bool) (put more : List Value) → (b ≡ true → put ≢ []) →
     (b && leads f put) ≡ (b && leads f (put ++ more))

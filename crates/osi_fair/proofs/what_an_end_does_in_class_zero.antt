@@ -6,8 +6,8 @@ use Rattle.osi_fair.proofs.Vocabulary.{AllByRecursion, ◌==◌, disconnect, req
 use Rattle.osi_fair.proofs.Vocabulary.{LinkFault, Class, Zero, closed_on, link_of, may_connect, open_link, sent, sent_all, pumped}
 use Rattle.osi_fair.proofs.Vocabulary.{written_by, handed_out, in_class, in_zero, react_by, taking, to_linked, to_only, put, Rows, value_at}
 use Rattle.osi_fair.proofs.Vocabulary.{breaks, closes_call, connects, sends, sends_all, user_does, UserCall, Live, ends as ends_as, linked}
-use Rattle.osi_fair.proofs.Vocabulary.{EndReason, put_by, put_closing, put_for, put_in, put_in_zero, put_linked, put_only, put_sent}
-use Rattle.osi_fair.proofs.Vocabulary.{put_taking, put_together, MayCall, arith, State}
+use Rattle.osi_fair.proofs.Vocabulary.{EndReason, put_by, put_closing, put_for, put_sent, put_together, MayCall, arith, State, outcome}
+use Rattle.osi_fair.proofs.Vocabulary.{CarrierOutcome, outcome_over}
 use Rattle.osi_carrier.specs.Calls.{sent_on}
 unfoldable use Rattle.osi_carrier.specs.React.{react}
 use Rattle.osi_fair.proofs.small_facts_that_many_lemmas_use.{differ}
@@ -83,59 +83,57 @@ module _ (limit : ℕ) (s : State) (begun : ℕ) (units : List Value) (z : IsInZ
   abbrev Goes : State → List Value → Type 0
   Goes t more = IsInZero limit t begun (units ++ more)
 
+  -- with what is done with a unit
+  abbrev GoesBy : CarrierOutcome → Type 0
+  GoesBy x = Goes x.state x.put
+
   -- it is as before
-  same_so : (t : State) (more : List Value) → t ≡ s → more ≡ [] → Goes t more
-  same_so t more is none = subst (λ (x : State). Goes x more) (sym is)
-      (subst (λ (l : List Value). Goes s l) (sym none) (subst (λ (l : List Value). IsInZero limit s begun l) (sym (append-nil units)) z))
+  same_so : Goes s []
+  same_so = subst (λ (l : List Value). IsInZero limit s begun l) (sym (append-nil units)) z
 
   -- it ends
-  ends_so : (t : State) (more : List Value) → more ≡ [] → is_some t.ended ≡ true → Goes t more
-  ends_so t more none gone = grind (arith, append-nil units, zero_puts limit s begun units z)
+  ends_so : (t : State) → is_some t.ended ≡ true → Goes t []
+  ends_so t gone = grind (arith, append-nil units, zero_puts limit s begun units z)
 
   -- the connection goes on
-  pumps_so : (t : State) (more : List Value) (r peer : ℕ) (old mid : Standing) → t.class ≡ Some Zero →
+  pumps_so : (t : State) (r peer : ℕ) (old mid : Standing) → t.class ≡ Some Zero →
       IsPlain limit mid → ((b : ℕ) → HaveRoom b old.ends.unsent → HaveRoom b mid.ends.unsent) →
       t.live ≡ (r, linked peer (pumped mid)) ∷ [] → PutsData limit (λ b. HaveRoom b old.ends.unsent) begun units →
-      more ≡ written_by peer mid → Goes t more
-  pumps_so t more r peer old mid class plain room live puts is = subst (λ (l : List Value). Goes t l) (sym is)
-      (gives_so limit peer r mid t begun units old plain room class live puts)
+      Goes t (written_by peer mid)
+  pumps_so t r peer old mid class plain room live puts = gives_so limit peer r mid t begun units old plain room class live puts
 
   -- ---- it takes a unit
 
   module _ (r peer : ℕ) (link : Standing) (class : s.class ≡ Some Zero) (live : s.live ≡ (r, linked peer link) ∷ [])
       (plain : IsPlain limit link) (puts : PutsData limit (λ b. HaveRoom b link.ends.unsent) begun units) where
-    taking_goes : (u : Value) (result : Result Standing LinkFault) → taken link u ≡ result →
-        Goes (taking r peer result s) (put_taking r peer result s.class)
+    taking_goes : (u : Value) (result : Result Standing LinkFault) → taken link u ≡ result → GoesBy (taking r peer result s)
     taking_goes u (Ok after) e =
         let a = takes_plain limit link after u plain e in
-        pumps_so (taking r peer (Ok after) s) (put_taking r peer (Ok after) s.class) r peer link (handed_out after) class
+        pumps_so (taking r peer (Ok after) s).state r peer link (handed_out after) class
         (record { flow = a.flow; size = a.limit ∙ plain.size }) (λ b h. subst (HaveRoom b) (sym a.unsent) h)
-        (grind (arith, put_one)) puts refl
+        (grind (arith, put_one)) puts
     taking_goes u (Err fault) e = grind (arith, ends_so)
 
-    linked_goes : (u : Value) → Goes (to_linked r peer link u s) (put_linked r peer link u s.class)
+    linked_goes : (u : Value) → GoesBy (to_linked r peer link u s)
     linked_goes (disconnect destination source reason user) = grind (arith, ends_so)
     linked_goes v = taking_goes v (taken link v) refl
 
-    only_goes : (u : Value) → Goes (to_only s.live u s) (put_only s.live u s)
-    only_goes u = subst (λ (l : Rows Live). Goes (to_only l u s) (put_only l u s)) (sym live) (linked_goes u)
+    only_goes : (u : Value) → GoesBy (to_only s.live u s)
+    only_goes u = subst (λ (l : Rows Live). GoesBy (to_only l u s)) (sym live) (linked_goes u)
 
     -- a calling end takes no CR
-    in_zero_goes : (is_caller : Bool) (u : Value) → Goes (in_zero is_caller u s) (put_in_zero is_caller u s)
+    in_zero_goes : (is_caller : Bool) (u : Value) → GoesBy (in_zero is_caller u s)
     in_zero_goes false u = only_goes u
-    in_zero_goes true (request x) = ends_so (in_zero true (request x) s) [] refl refl
+    in_zero_goes true (request x) = ends_so (in_zero true (request x) s).state refl
     in_zero_goes true v = only_goes v
 
-    by_end : (u : Value) (b : Bool) → Goes (react_by b u s) (if b then [] else put_in s.class u s)
-    by_end u false = subst (λ (k : Option Class). Goes (in_class k u s) (put_in k u s)) (sym class) (in_zero_goes s.is_caller u)
-    by_end u true = same_so s [] refl refl
+    by_end : (u : Value) (b : Bool) → GoesBy (react_by b u s)
+    by_end u false = subst (λ (k : Option Class). GoesBy (in_class k u s)) (sym class) (in_zero_goes s.is_caller u)
+    by_end u true = same_so
 
-  by_row : (u : Value) → IsInZero limit s begun units →
-      Goes (react_by (is_some s.ended) u s) (if is_some s.ended then [] else put_in s.class
-      u s)
+  by_row : (u : Value) → IsInZero limit s begun units → GoesBy (outcome u s)
   by_row u (talks r peer link class live plain puts) = by_end r peer link class live plain puts u (is_some s.ended)
-  by_row u (over gone puts) =
-      subst (λ (b : Bool). Goes (react_by b u s) (if b then [] else put_in s.class u s)) (sym gone) (same_so s [] refl refl)
+  by_row u (over gone puts) = subst GoesBy (sym (outcome_over u s gone)) same_so
 
   pub zero_takes : (u : Value) → Goes (react u s) (put_for u s)
   unfolding react
@@ -145,13 +143,13 @@ module _ (limit : ℕ) (s : State) (begun : ℕ) (units : List Value) (z : IsInZ
 
   closes_goes : (r reason : ℕ) (o : Option (ℕ × Standing)) → open_link r s ≡ o → IsInZero limit s begun units →
       Goes (closed_on r reason o s) (put_closing r reason o s.class)
-  closes_goes r reason None e row = same_so s [] refl refl
+  closes_goes r reason None e row = same_so
   closes_goes r reason (Some (peer, link)) e (over gone puts) = open_not r peer link s gone e
   closes_goes r reason (Some (peer, link)) e (talks q p k class live plain puts) = grind (arith, ends_so)
 
   breaks_goes : (reason : EndReason) (b : Bool) → Goes (if b then s else ends_as reason s) []
-  breaks_goes reason true = same_so s [] refl refl
-  breaks_goes reason false = ends_so (ends_as reason s) [] refl refl
+  breaks_goes reason true = same_so
+  breaks_goes reason false = ends_so (ends_as reason s) refl
 
   -- it asks for no other connection
   may_not : {A : Type 0} → may_connect s ≡ None → IsInZero limit s begun units → A
@@ -164,17 +162,17 @@ module _ (limit : ℕ) (s : State) (begun : ℕ) (units : List Value) (z : IsInZ
 
   sends_goes : (r : ℕ) (tsdu : List ℕ) (o : Option (ℕ × Standing)) → open_link r s ≡ o → length tsdu ≤ longest_tsdu →
       IsInZero limit s begun units → Goes (sent_on r tsdu o s) (put_sent tsdu o)
-  sends_goes r tsdu None e short row = same_so s [] refl refl
+  sends_goes r tsdu None e short row = same_so
   sends_goes r tsdu (Some (p, k)) e short (over gone puts) = open_not r p k s gone e
   sends_goes r tsdu (Some (p, k)) e short (talks q peer link class live plain puts) =
       let h = ended_not (is_some s.ended) (value_at r s.live) p k e in
       let (same, row) = row_is q r (linked peer link) (q == r) refl (value_at r ((q, linked peer link) ∷ [])) refl p k
       (ap (λ (l : Rows Live). link_of (value_at r l)) (sym live) ∙ h) in
       let (peer_is, link_is) = pair_so peer p link k row in
-      pumps_so (sent_on r tsdu (Some (p, k)) s) (put_sent tsdu (Some (p, k))) r p link (with_tsdu k tsdu) class
+      pumps_so (sent_on r tsdu (Some (p, k)) s) r p link (with_tsdu k tsdu) class
       (grind arith)
       (λ b room. subst (λ (x : Standing). HaveRoom b (with_tsdu x tsdu).ends.unsent) link_is (room_more b link.ends.unsent tsdu room short))
-      (grind (arith, put_one)) puts refl
+      (grind (arith, put_one)) puts
 
 zero_all : (limit : ℕ) (s : State) (begun : ℕ) (units : List Value) (r : ℕ) (tsdus : List (List ℕ)) → IsInZero limit s begun units →
     AllByRecursion (λ (tsdu : List ℕ). length tsdu ≤ longest_tsdu) tsdus →

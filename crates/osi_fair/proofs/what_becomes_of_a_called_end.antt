@@ -1,18 +1,18 @@
 -- What a called end has after it has taken a unit: its class, its references, and which of its connections are live.
 -- For the law on a whole called end.
-use Rattle.osi_fair.proofs.Vocabulary.{[], ap, arith, Bool, Err, false, is_some, List, map, None, Ok, Option, refl, Result, Some, subst}
-use Rattle.osi_fair.proofs.Vocabulary.{sym, true, ℕ, ◌++◌, ◌∙◌, ◌∷◌, ◌≡◌, ◌≤◌, ◌⊎◌, eqb-true, AllByRecursion, ◌==◌, acknowledge, confirm}
-use Rattle.osi_fair.proofs.Vocabulary.{data0, data2, destination_of, disconnect, disconnected, error, request, Value, Ends, Flow, all_given}
-use Rattle.osi_fair.proofs.Vocabulary.{Given, Standing, taken_by, unit_of, LinkFault, WrongForm, Class, Two, Local, push_other, put_other}
-use Rattle.osi_fair.proofs.Vocabulary.{without_other, row_here, push_here, put_here, without_here, AreUpTo, IsOrderly, RiseFrom, pumped}
-use Rattle.osi_fair.proofs.Vocabulary.{breaks_in, handed_out, taking, to_closing, to_connection, to_linked, put, Rows, value_at, without}
-use Rattle.osi_fair.proofs.Vocabulary.{asked, closing, Live, linked, packets, Follows, link_now, closes_with, put_for, put_linked}
-use Rattle.osi_fair.proofs.Vocabulary.{put_taking, State}
+use Rattle.osi_fair.proofs.Vocabulary.{[], ap, arith, Bool, Err, false, is_some, List, None, Ok, Option, refl, Result, Some, subst, sym}
+use Rattle.osi_fair.proofs.Vocabulary.{true, ℕ, ◌++◌, ◌∙◌, ◌∷◌, ◌≡◌, ◌≤◌, ◌⊎◌, eqb-true, AllByRecursion, ◌==◌, acknowledge, confirm, data0}
+use Rattle.osi_fair.proofs.Vocabulary.{data2, destination_of, disconnect, disconnected, error, request, Value, Ends, Flow, Given, Standing}
+use Rattle.osi_fair.proofs.Vocabulary.{taken_by, unit_of, LinkFault, WrongForm, Class, Two, Local, push_other, put_other, without_other}
+use Rattle.osi_fair.proofs.Vocabulary.{row_here, push_here, put_here, without_here, AreUpTo, IsOrderly, RiseFrom, pumped, breaks_in}
+use Rattle.osi_fair.proofs.Vocabulary.{handed_out, taking, to_closing, to_linked, put, Rows, value_at, without, asked, closing, Live}
+use Rattle.osi_fair.proofs.Vocabulary.{linked, packets, Follows, link_now, closes_with, put_for, State, UserCall, put_by, CarrierOutcome}
+use Rattle.osi_fair.proofs.Vocabulary.{puts_none, state_is, unit_written, Connect}
 unfoldable use Rattle.osi_carrier.specs.React.{react}
 use Rattle.osi_fair.proofs.each_connection_of_a_called_end.{AreAbove}
-use Rattle.osi_fair.proofs.a_carrier_follows_lines.{put_is, react_is}
+use Rattle.osi_fair.proofs.a_carrier_follows_lines.{outcome_at}
 use Rattle.osi_fair.proofs.what_a_called_end_does_to_its_lines.{Leaves, still}
-use Rattle.osi_fair.proofs.what_a_carrier_puts.{unit_writes}
+use Rattle.osi_fair.proofs.what_a_carrier_puts.{Confirms, accepts_none, confirms_any, put_by_so, put_for_so}
 use Rattle.osi_fair.proofs.what_is_live_at_a_called_end.{IsLive, shuts_of}
 use Rattle.osi_fair.proofs.a_run_of_calls_is_events.{no_end}
 use Rattle.osi_fair.proofs.a_dt_of_class_zero_passes.{unlike}
@@ -86,17 +86,21 @@ push_lives m r k rows live = grind (arith, push_other, unlike, eqb-true, push_he
 
 -- ---- units that are no CCs
 
-pub units_no_cc : (q : ℕ) (gs : List Given) → AllByRecursion IsNoCc (map (unit_of q) gs)
-units_no_cc q [] = tt
-units_no_cc q (g ∷ gs) = (grind arith, units_no_cc q gs)
+pub given_no_cc : (peer : ℕ) (g : Given) → IsNoCc (unit_of peer g)
+given_no_cc peer g = grind arith
 
-taking_no_cc : (n q : ℕ) (result : Result Standing LinkFault) (k : Option Class) → k ≡ Some Two →
-    AllByRecursion IsNoCc (put_taking n q result k)
-taking_no_cc n q (Ok link) k e = units_no_cc q (all_given (handed_out link))
-taking_no_cc n q (Err fault) k e = grind arith
+pub closing_no_cc : (m n reason : ℕ) → IsNoCc (disconnect m n reason [])
+closing_no_cc m n reason i x e = cc e
 
-pub linked_no_cc : (n q : ℕ) (l : Standing) (u : Value) (k : Option Class) → k ≡ Some Two → AllByRecursion IsNoCc (put_linked n q l u k)
-linked_no_cc n q l v k e = grind (arith, taking_no_cc)
+pub confirms_no_cc : (u : Value) → Confirms IsNoCc u
+confirms_no_cc u = confirms_any IsNoCc (λ m n i x e. cc e) u
+
+-- a CC is put only for a CR
+pub none_but_cr : (u : Value) (s : State) → ((x : Connect) → u ≡ request x → ⊥) → AllByRecursion IsNoCc (put_for u s)
+none_but_cr u s no_cr = put_for_so IsNoCc given_no_cc closing_no_cc s u (accepts_none IsNoCc s u no_cr) (confirms_no_cc u)
+
+pub none_by_call : (call : UserCall) (s : State) → AllByRecursion IsNoCc (put_by call s)
+none_by_call call s = put_by_so IsNoCc given_no_cc closing_no_cc (λ y i x e. cc e) call s
 
 -- ---- an open connection
 
@@ -108,7 +112,7 @@ pub record OpenSo (u : Value) (n q : ℕ) (s t : State) : Type 0 where
   pub leaves_so : Leaves n q t
 
 taking_so : (u : Value) (n q : ℕ) (l : Standing) (result : Result Standing LinkFault) (s : State) → value_at n s.live ≡ Some (linked q l) →
-    s.class ≡ Some Two → OpenSo u n q s (taking n q result s)
+    s.class ≡ Some Two → OpenSo u n q s (taking n q result s).state
 taking_so u n q l (Ok link) s here two = record {
   same = record { caller = refl; local_is = refl; class = refl; given = refl };
   ended = refl;
@@ -116,7 +120,7 @@ taking_so u n q l (Ok link) s here two = record {
   leaves_so = still (pumped (handed_out link)) (put_here n (linked q (pumped (handed_out link))) (linked q l) s.live here);
 }
 taking_so u n q l (Err fault) s here two =
-    subst (λ (k : Option Class). OpenSo u n q s (breaks_in n q fault k s)) (sym two) (record {
+    subst (λ (k : Option Class). OpenSo u n q s (breaks_in n q fault k s).state) (sym two) (record {
       same = record { caller = refl; local_is = refl; class = refl; given = refl };
       ended = refl;
       touch = puts_row (linked q l) (closing q) here (λ e. cc) refl;
@@ -124,7 +128,7 @@ taking_so u n q l (Err fault) s here two =
     })
 
 pub open_so : (n q : ℕ) (l : Standing) (u : Value) (s : State) → value_at n s.live ≡ Some (linked q l) → s.class ≡ Some Two →
-    RiseFrom 0 s.live → destination_of u ≡ Some n → OpenSo u n q s (to_linked n q l u s)
+    RiseFrom 0 s.live → destination_of u ≡ Some n → OpenSo u n q s (to_linked n q l u s).state
 open_so n q l (disconnect destination source reason user) s here two rise dest = grind (arith, shuts, without_here)
 open_so n q l v s here two rise dest = search (arith, taking_so)
 
@@ -137,23 +141,27 @@ pub dc_follows : (n q m i : ℕ) (k : Standing) (s : State) → value_at n s.liv
     destination_of (disconnected m i) ≡ Some n → Follows n q [] (put_for (disconnected m i) s) s (react (disconnected m i) s)
 dc_follows n q m i k s here two was dest =
     let u = disconnected m i in
-    let to = react_is u s n two was dest ∙ ap (λ (o : Option Live). to_connection n o u s) here
+    let is = outcome_at u s n (Some (linked q k)) two was dest here
     ∙ ap (λ (r : Result Standing LinkFault). taking n q r s) (dc_refused k.ends k.flow m i)
     ∙ ap (λ (c : Option Class). breaks_in n q WrongForm c s) two in
-    let units : put_for u s ≡ disconnect q n 133 [] ∷ [] = grind (arith, put_is, dc_refused) in
+    let to = state_is u s ∙ ap (λ (x : CarrierOutcome). x.state) is in
+    let units : put_for u s ≡ disconnect q n 133 [] ∷ [] = ap (λ (x : CarrierOutcome). x.put) is in
     let there : link_now (value_at n (react u s).live) ≡ None = grind (arith, put_here) in
     subst (λ (l : List Value). Follows n q [] l s (react u s)) (sym units) (record {
       acts = closes_with 133 [] ∷ [];
-      outgoing = unit_writes u s ∙ ap (λ (l : List Value). s.outgoing ++ packets l) units;
+      outgoing = unit_written u s ∙ ap (λ (l : List Value). s.outgoing ++ packets l) units;
       along = grind arith;
     })
 
 -- ---- a connection that is closing, or gone
 
-pub closing_touches : (n : ℕ) (u : Value) (s : State) → destination_of u ≡ Some n → Touch u n s (to_closing n u s)
+pub closing_touches : (n : ℕ) (u : Value) (s : State) → destination_of u ≡ Some n → Touch u n s (to_closing n u s).state
 closing_touches n u s dest = grind arith
 
-pub closing_same : (n : ℕ) (u : Value) (s : State) → Same s (to_closing n u s) × ((to_closing n u s).ended ≡ s.ended)
+pub closing_puts : (n : ℕ) (u : Value) (s : State) → to_closing n u s ≡ puts_none (to_closing n u s).state
+closing_puts n u s = grind arith
+
+pub closing_same : (n : ℕ) (u : Value) (s : State) → Same s (to_closing n u s).state × ((to_closing n u s).state.ended ≡ s.ended)
 closing_same n u s = grind arith
 
 -- ---- references

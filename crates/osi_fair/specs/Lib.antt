@@ -3,7 +3,6 @@ pub mod Lines
 pub mod Following
 pub mod Naming
 pub mod Asking
-pub mod Putting
 pub mod Wholes
 pub mod Pieces
 pub mod Calls

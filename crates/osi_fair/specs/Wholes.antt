@@ -6,13 +6,12 @@ use Rattle.osi_tpdu.specs.Value.{Value, HasFieldsInRange}
 use Rattle.osi_class.specs.Limits.{longest_tsdu}
 use Rattle.osi_class.specs.declared.terms.Local.{Local}
 use Rattle.osi_carrier.specs.Calls.{fresh_state, may_connect}
-use Rattle.osi_carrier.specs.React.{react}
-use Rattle.osi_carrier.specs.Runs.{UserCall, breaks, closes, connects, sends, sends_all, user_does}
+use Rattle.osi_carrier.specs.React.{put_for, react}
+use Rattle.osi_carrier.specs.Runs.{UserCall, breaks, closes, connects, put_by, sends, sends_all, user_does}
 use Rattle.osi_carrier.specs.State.{State, packets}
 use Rattle.osi_rules.specs.declared.directions.Direction.{Direction}
 use Rattle.osi_rules.specs.Sides.{other}
 use Rattle.osi_rules.specs.Traffic.{State as Traffic, fresh, packet_begins, refused, takes}
-use Rattle.osi_fair.specs.Putting.{put_by, put_for}
 
 pub record Whole : Type 0 where
   -- the carrier of the end

@@ -3,13 +3,13 @@
 ghost use Rattle.std.specs.Prelude.{◌≡◌, ◌≢◌, ◌≤◌, ◌⊎◌, ◌||◌, ℕ, Bool, true, false, List, [], ◌∷◌, ◌++◌, Option, Some, None, Ok, Err};
 ghost use Rattle.std.specs.Prelude.{length, option_map, position, slice_get, slice_set};
 ghost use Rattle.std.specs.List.{AllByRecursion, list_all, list_any};
-ghost use Rattle.osi_carrier.specs.Calls.{closed_with, fresh_state, open_link, sent, sent_all};
+ghost use Rattle.osi_carrier.specs.Calls.{closed_with, fresh_state, open_link, put_closing, put_sent, put_together, sent, sent_all};
 ghost use Rattle.osi_carrier.specs.Negotiation.{acceptance, agreed_size, opened_link, proposal};
 ghost use Rattle.osi_carrier.specs.Orderly.{IsOrderly};
 ghost use Rattle.osi_carrier.specs.Packets.{Acts as Takes, Carrying, Feeds};
-ghost use Rattle.osi_carrier.specs.React.{react};
+ghost use Rattle.osi_carrier.specs.React.{put_for, react};
 ghost use Rattle.osi_carrier.specs.Rows.{value_at};
-ghost use Rattle.osi_carrier.specs.Runs.{Act as Done, Call, UserCall, user_does};
+ghost use Rattle.osi_carrier.specs.Runs.{Act as Done, Call, UserCall, put_by, user_does};
 ghost use Rattle.osi_carrier.specs.State.{State, closing, linked, packets};
 ghost use Rattle.osi_class.specs.Limits.{longest_tsdu};
 ghost use Rattle.osi_class.specs.Link.{Standing};
@@ -41,7 +41,6 @@ ghost use Rattle.osi_fair.specs.Lines.{Act, Acts, ActsAlong, IsFair, IsOpened, I
 ghost use Rattle.osi_fair.specs.Lines.{finding_of};
 ghost use Rattle.osi_fair.specs.Lines.{opened_half, opened_line, passes_own};
 ghost use Rattle.osi_fair.specs.Pieces.{IsFed};
-ghost use Rattle.osi_fair.specs.Putting.{put_by, put_closing, put_for, put_sent, put_together};
 ghost use Rattle.osi_fair.specs.Wholes.{Becomes, Event, HappenAlong, MayCall, Whole, begin};
 
 /// What was right stays right if more of the other side had passed: before the packet of the unit began (`known`), or since
@@ -254,8 +253,8 @@ pub fn a_dc_follows_a_dr()
         is_stopped (other d) w.judge.course ≡ false → knows_disconnect d w.judge.course.disconnects ≡ true }
 {}
 
-/// The units that a carrier puts (`specs/Putting`) are what it writes, each in a packet of its own: as it takes a unit
-/// (`arrives`), and as its user makes a call (`calls`).
+/// The units that a carrier puts are what it writes, each in a packet of its own: as it takes a unit (`arrives`), and as its
+/// user makes a call (`calls`).
 pub fn what_a_carrier_puts()
     ensures arrives { (unit : Value) (s : State) → (react unit s).outgoing ≡ s.outgoing ++ packets (put_for unit s) }
     ensures calls { (call : UserCall) (s : State) → (user_does call s).outgoing ≡ s.outgoing ++ packets (put_by call s) }

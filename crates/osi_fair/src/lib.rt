@@ -34,7 +34,7 @@
 //!   and each DR closed nothing that doesn't just close an open connection: [`laws::what_belongs_to_no_open_connection`].
 //!
 //! - **A whole end** (`specs/Wholes`) is a carrier, what the judge knows, and the units between them; an `Event` is what may
-//!   happen to it. The units that it puts (`specs/Putting`) are what it writes: [`laws::what_a_carrier_puts`]. In any run of a
+//!   happen to it. The units that its carrier puts are what it writes: [`laws::what_a_carrier_puts`]. In any run of a
 //!   calling end no CR is blamed, as long as it is judged: [`laws::no_request_is_blamed`]. If it offers class 2 alone, a DR
 //!   that it takes for a reference which is gone closed nothing at the judge, so the DC with which it answers is not blamed:
 //!   [`laws::a_dr_for_what_is_gone_closed_nothing`]. And no unit of it that passes is blamed, of whatever connection and whatever

@@ -53,16 +53,20 @@ pub use Rattle.osi_carrier.proofs.effects.units_one_after_the_other.{react_over,
 pub use Rattle.osi_carrier.proofs.references.rows_after_a_change.{push_other, put_other}
 pub use Rattle.osi_carrier.proofs.references.what_a_change_leaves_there.{absent, beyond, push_here, put_here, without_here}
 pub use Rattle.osi_carrier.proofs.stream.a_piece_is_read_packet_by_packet.{acts_cases, packets_more}
+pub use Rattle.osi_carrier.proofs.written.what_is_put_is_written.{outcome_quiet, state_is, together_written, unit_written}
+pub use Rattle.osi_carrier.specs.Calls.{put_closing, put_sent, put_together}
 pub use Rattle.osi_carrier.specs.Calls.{class_error, closed_on, closed_with, closes, link_of, may_connect, open_link, or_else, room_error}
 pub use Rattle.osi_carrier.specs.Calls.{send_all_error, sent, sent_all, sent_on}
 pub use Rattle.osi_carrier.specs.Happenings.{Happening, opened as told_opened, tsdu}
 pub use Rattle.osi_carrier.specs.Negotiation.{acceptance, agreed_size, confirmed, opened_link, proposal, proposal_by}
 pub use Rattle.osi_carrier.specs.Orderly.{IsOrderly, RiseFrom, connection_by, connection_of, only_of}
 pub use Rattle.osi_carrier.specs.Pump.{pumped, written_by}
+pub use Rattle.osi_carrier.specs.React.{outcome, put_for}
 pub use Rattle.osi_carrier.specs.React.{answers, before_class, breaks, denies, handed_out, has_peer, in_class, in_two, in_zero, is_full}
 pub use Rattle.osi_carrier.specs.React.{leaves, opens as opens_by, react, reacts, settles, taking, to_asked, to_closing, to_connection}
 pub use Rattle.osi_carrier.specs.React.{to_linked, to_only, to_reference, to_unknown}
 pub use Rattle.osi_carrier.specs.Rows.{Rows, put, value_at, without}
+pub use Rattle.osi_carrier.specs.State.{Outcome, puts, puts_none}
 pub use Rattle.osi_carrier.specs.State.{Connection, State, asked, closing, linked, packets}
 pub use Rattle.osi_carrier.specs.declared.ends.EndReason.{EndReason}
 pub use Rattle.osi_carrier.specs.declared.ends.EndReason.TheVariants.{Broken, NoMemory}

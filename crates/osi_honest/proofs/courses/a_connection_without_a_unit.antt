@@ -1,19 +1,19 @@
 -- What becomes of a connection while no unit arrives: its session sends, and its link gives units for the peer; or its session closes it;
 -- or it stays as it is.
 -- For the course of a connection.
-use Rattle.osi_honest.proofs.Vocabulary.{[], ap, arith, Bool, false, inl, inr, is_some, List, map, None, Option, refl, Some}
-use Rattle.osi_honest.proofs.Vocabulary.{subst, sym, true, ℕ, ◌<◌, ◌==◌, ◌∙◌, ◌∷◌, ◌≡◌, eq-eqb, eqb-true, map-append, all_given, Given}
-use Rattle.osi_honest.proofs.Vocabulary.{Standing, unit_of, with_tsdu, Class, Zero, push_other, put_other, beyond, push_here, put_here}
-use Rattle.osi_honest.proofs.Vocabulary.{closed_with, closes, open_link, send_all_error, sent, sent_all, sent_on, Happening, IsOrderly}
-use Rattle.osi_honest.proofs.Vocabulary.{pumped, put, Rows, value_at, closing, Connection, linked, State as Carrier, SendError, Input}
-use Rattle.osi_honest.proofs.Vocabulary.{Listener, connects, has_given, hears, opens_line as opens, carrier_by, to_session, End, Line}
-use Rattle.osi_honest.proofs.Vocabulary.{answers_by, sent_unless, Request as Connect, GivesTo, Marked}
+use Rattle.osi_honest.proofs.Vocabulary.{[], ap, arith, Bool, false, inl, inr, is_some, List, map, None, Option, refl, Some, subst, sym}
+use Rattle.osi_honest.proofs.Vocabulary.{true, ℕ, ◌<◌, ◌==◌, ◌∙◌, ◌∷◌, ◌≡◌, eq-eqb, eqb-true, map-append, all_given, Given, Standing}
+use Rattle.osi_honest.proofs.Vocabulary.{unit_of, with_tsdu, Class, Zero, push_other, put_other, beyond, push_here, put_here, closed_with}
+use Rattle.osi_honest.proofs.Vocabulary.{closes, open_link, send_all_error, sent, sent_all, sent_on, Happening, IsOrderly, pumped, put}
+use Rattle.osi_honest.proofs.Vocabulary.{Rows, value_at, closing, Connection, linked, State as Carrier, SendError, Input, Listener}
+use Rattle.osi_honest.proofs.Vocabulary.{connects, has_given, hears, opens_line as opens, carrier_by, to_session, End, Line, answers_by}
+use Rattle.osi_honest.proofs.Vocabulary.{sent_unless, Request as Connect, GivesTo, Marked, put_sent, put_together}
 use Rattle.osi_honest.proofs.courses.how_long_a_connection_is_open.{Life, Rests, Stage, life_open, life_rests, stage_at, stage_by}
 use Rattle.osi_honest.proofs.courses.how_long_a_connection_is_open.{stage_there}
 use Rattle.osi_honest.proofs.courses.how_long_a_connection_is_open.Stage.{amid, past}
 use Rattle.osi_honest.proofs.courses.the_connections_of_each_class.{linked_at}
 use Rattle.osi_honest.proofs.courses.units_of_each_connection.{all_of_both, marked, none_marked, other_marked, unequal}
-use Rattle.osi_honest.proofs.courses.what_a_session_puts.{all_put, answer_puts, event_puts, move_puts, one_puts, opening_puts, put_unless}
+use Rattle.osi_honest.proofs.courses.what_a_session_puts.{answer_puts, event_puts, move_puts, opening_puts, put_unless}
 use Rattle.osi_honest.proofs.courses.what_a_session_puts.{session_puts, unlinked_unless}
 
 -- ---- another state of a connection
@@ -71,11 +71,11 @@ given_to r peer [] = tt
 given_to r peer (given ∷ units) = grind (arith, eq-eqb, given_to r peer units)
 
 one_gives : (r p : ℕ) (tsdu : List ℕ) (o : Option (ℕ × Standing)) (s : Carrier) → open_link r s ≡ o → stage_at r s ≡ amid p →
-    GivesTo r p (marked r (one_puts tsdu o))
+    GivesTo r p (marked r (put_sent tsdu o))
 one_gives r p tsdu None s e is = tt
 one_gives r p tsdu (Some (peer, link)) s e is = grind (arith, given_to r peer (all_given (with_tsdu link tsdu)))
 
-all_gives : (r p : ℕ) (tsdus : List (List ℕ)) (s : Carrier) → stage_at r s ≡ amid p → GivesTo r p (marked r (all_put r tsdus s))
+all_gives : (r p : ℕ) (tsdus : List (List ℕ)) (s : Carrier) → stage_at r s ≡ amid p → GivesTo r p (marked r (put_together r tsdus s))
 all_gives r p [] s is = tt
 all_gives r p (tsdu ∷ tsdus) s is =
     grind (arith, map-append, all_of_both, one_gives, all_gives r p tsdus (sent r tsdu s) (one_same r r tsdu (open_link r s) s refl ∙ is))

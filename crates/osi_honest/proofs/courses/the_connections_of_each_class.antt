@@ -35,22 +35,22 @@ put_one r x y = ap (λ (b : Bool). if b then (r, x) ∷ [] else (r, y) ∷ []) (
 -- ---- a unit in class 2
 
 module _ (s : Carrier) (is : s.class ≡ Some Two) where
-  two_accepts : (c : Connect) (selection : Selection) (held : Option Class) → held ≡ Some Two → ByClass (answers c selection held s)
+  two_accepts : (c : Connect) (selection : Selection) (held : Option Class) → held ≡ Some Two → ByClass (answers c selection held s).state
   two_accepts c selection held e = grind arith
 
-  two_connection : (r : ℕ) (o : Option Connection) (v : Value) → ByClass (to_connection r o v s)
+  two_connection : (r : ℕ) (o : Option Connection) (v : Value) → ByClass (to_connection r o v s).state
   two_connection r o v = grind arith
 
-  two_in : (b : Bool) (v : Value) → ByClass (in_two b v s)
+  two_in : (b : Bool) (v : Value) → ByClass (in_two b v s).state
   two_in b v = search (arith, two_accepts, two_connection)
 
 -- ---- a unit in class 0
 
 module _ (s : Carrier) (is : s.class ≡ Some Zero) where
-  zero_breaks : (r peer : ℕ) (fault : LinkFault) (held : Option Class) → held ≡ Some Zero → ByClass (breaks r peer fault held s)
+  zero_breaks : (r peer : ℕ) (fault : LinkFault) (held : Option Class) → held ≡ Some Zero → ByClass (breaks r peer fault held s).state
   zero_breaks r peer fault held e = grind arith
 
-  zero_leaves : (r peer reason : ℕ) (held : Option Class) → held ≡ Some Zero → ByClass (leaves r peer reason held s)
+  zero_leaves : (r peer reason : ℕ) (held : Option Class) → held ≡ Some Zero → ByClass (leaves r peer reason held s).state
   zero_leaves r peer reason held e = grind arith
 
   module _ (r peer : ℕ) (link : Standing) (flow : link.flow ≡ None) (live : s.live ≡ (r, linked peer link) ∷ []) where
@@ -60,18 +60,18 @@ module _ (s : Carrier) (is : s.class ≡ Some Zero) where
         zero r peer (pumped after) (class ∙ is) (gives_data after empty).1
         (then_live ∙ ap (put r (linked peer (pumped after))) live ∙ put_one r (linked peer (pumped after)) (linked peer link))
 
-    zero_taking : (v : Value) (result : Result Standing LinkFault) → taken link v ≡ result → ByClass (taking r peer result s)
-    zero_taking v (Ok after) e = zero_put (handed_out after) (settles r peer after s) (taken_zero link after v flow e) refl refl
+    zero_taking : (v : Value) (result : Result Standing LinkFault) → taken link v ≡ result → ByClass (taking r peer result s).state
+    zero_taking v (Ok after) e = zero_put (handed_out after) (settles r peer after s).state (taken_zero link after v flow e) refl refl
     zero_taking v (Err fault) e = zero_breaks r peer fault s.class is
 
-    zero_linked : (v : Value) → ByClass (to_linked r peer link v s)
+    zero_linked : (v : Value) → ByClass (to_linked r peer link v s).state
     zero_linked (disconnect destination source reason user) = zero_leaves r peer reason s.class is
     zero_linked v = zero_taking v (taken link v) refl
 
-    zero_only : (v : Value) → ByClass (to_only s.live v s)
-    zero_only v = subst (λ (rows : Rows Connection). ByClass (to_only rows v s)) (sym live) (zero_linked v)
+    zero_only : (v : Value) → ByClass (to_only s.live v s).state
+    zero_only v = subst (λ (rows : Rows Connection). ByClass (to_only rows v s).state) (sym live) (zero_linked v)
 
-  in_zero_by : (b : Bool) (v : Value) → ByClass (to_only s.live v s) → ByClass (in_zero b v s)
+  in_zero_by : (b : Bool) (v : Value) → ByClass (to_only s.live v s).state → ByClass (in_zero b v s).state
   in_zero_by true (request c) p = none refl
   in_zero_by false (request c) p = p
   in_zero_by true _ p = p
@@ -80,7 +80,7 @@ module _ (s : Carrier) (is : s.class ≡ Some Zero) where
 -- ---- a unit before a class is selected
 
 module _ (s : Carrier) (is : s.class ≡ None) where
-  first_opens : (r : ℕ) (c : Connect) (class : Option Class) → s.live ≡ (r, asked) ∷ [] → ByClass (opens r c class s)
+  first_opens : (r : ℕ) (c : Connect) (class : Option Class) → s.live ≡ (r, asked) ∷ [] → ByClass (opens r c class s).state
   first_opens r c None live = none refl
   first_opens r c (Some Two) live = two refl
   first_opens r c (Some Zero) live =
@@ -88,7 +88,7 @@ module _ (s : Carrier) (is : s.class ≡ None) where
       zero r c.source first refl refl (ap (put r (linked c.source first)) live ∙ put_one r (linked c.source first) asked)
 
   first_accepts : (c : Connect) (selection : Selection) (held : Option Class) → held ≡ None → s.live ≡ [] →
-      ByClass (answers c selection held s)
+      ByClass (answers c selection held s).state
   first_accepts c (refuse reason) held e live = none live
   first_accepts c (accept Two size) held e live = two refl
   first_accepts c (accept Zero size) (Some class) e live = none live
@@ -98,13 +98,13 @@ module _ (s : Carrier) (is : s.class ≡ None) where
 
   first_answers : (c : Connect) (in_use full : Bool) → s.live ≡ [] →
       ByClass (if in_use then denies 131 c.source s
-      else (if full then denies 1 c.source s else answers c (selected_by c s.local) s.class s))
+      else (if full then denies 1 c.source s else answers c (selected_by c s.local) s.class s)).state
   first_answers c true full live = none live
   first_answers c false true live = none live
   first_answers c false false live = first_accepts c (selected_by c s.local) s.class is live
 
   -- no connection has this reference
-  first_unknown : (v : Value) → ByClass s → ByClass (to_unknown v s)
+  first_unknown : (v : Value) → ByClass s → ByClass (to_unknown v s).state
   first_unknown (disconnect destination source reason user) (two e) = two e
   first_unknown (disconnect destination source reason user) (none e) = none e
   first_unknown (disconnect destination source reason user) (asks r class caller live) = asks r class caller live
@@ -114,22 +114,22 @@ module _ (s : Carrier) (is : s.class ≡ None) where
 
   -- one was requested
   module _ (r : ℕ) (caller : s.is_caller ≡ true) (live : s.live ≡ (r, asked) ∷ []) where
-    first_asked : (v : Value) → ByClass (to_asked r v s)
+    first_asked : (v : Value) → ByClass (to_asked r v s).state
     first_asked (confirm destination c) = first_opens r c (confirmed c s.local s.class) live
     first_asked (disconnect destination source reason user) = grind (arith, eq-eqb)
     first_asked (error destination cause) = grind (arith, eq-eqb)
     first_asked (disconnected destination source) = asks r is caller live
     first_asked _ = none refl
 
-    first_at : (d : ℕ) (o : Option Connection) (v : Value) → value_at d s.live ≡ o → ByClass (to_connection d o v s)
+    first_at : (d : ℕ) (o : Option Connection) (v : Value) → value_at d s.live ≡ o → ByClass (to_connection d o v s).state
     first_at d None v e = first_unknown v (asks r is caller live)
     first_at d (Some x) v e = by x (one_here d r asked x (ap (value_at d) (sym live) ∙ e))
       where
-        by : (y : Connection) → (r ≡ d) × (asked ≡ y) → ByClass (to_connection d (Some y) v s)
-        by asked same = subst (λ (n : ℕ). ByClass (to_asked n v s)) same.0 (first_asked v)
+        by : (y : Connection) → (r ≡ d) × (asked ≡ y) → ByClass (to_connection d (Some y) v s).state
+        by asked same = subst (λ (n : ℕ). ByClass (to_asked n v s).state) same.0 (first_asked v)
         by _ same = absurd (let k = same.1 in cc)
 
-    first_before : (v : Value) → ByClass (before_class true v s)
+    first_before : (v : Value) → ByClass (before_class true v s).state
     first_before (confirm d c) = first_at d (value_at d s.live) (confirm d c) refl
     first_before (disconnect d source reason user) = first_at d (value_at d s.live) (disconnect d source reason user) refl
     first_before (error d cause) = first_at d (value_at d s.live) (error d cause) refl
@@ -137,7 +137,7 @@ module _ (s : Carrier) (is : s.class ≡ None) where
 
   -- there is none
   module _ (live : s.live ≡ []) where
-    none_before : (b : Bool) (v : Value) → ByClass (before_class b v s)
+    none_before : (b : Bool) (v : Value) → ByClass (before_class b v s).state
     none_before true (confirm d c) = grind (arith, first_unknown)
     none_before true (disconnect d source reason user) = grind (arith, first_unknown)
     none_before true (error d cause) = grind (arith, first_unknown)
@@ -151,7 +151,7 @@ module _ (s : Carrier) (is : s.class ≡ None) where
 two_classes : {A : Type 0} (o x y : Option Class) → o ≡ x → o ≡ y → (x ≡ y → A) → A
 two_classes o x y a b differ = differ (sym a ∙ b)
 
-class_by : (v : Value) (s : Carrier) (o : Option Class) → s.class ≡ o → ByClass s → ByClass (in_class o v s)
+class_by : (v : Value) (s : Carrier) (o : Option Class) → s.class ≡ o → ByClass s → ByClass (in_class o v s).state
 class_by v s (Some Two) is p = two_in s is s.is_caller v
 class_by v s (Some Zero) is (two e) = two_classes s.class (Some Zero) (Some Two) is e (λ differ. absurd (cc))
 class_by v s (Some Zero) is (none live) = grind (arith, in_zero_by)
@@ -160,7 +160,7 @@ class_by v s (Some Zero) is (zero r peer link class flow live) = search (arith, 
 class_by v s None is (two e) = two_classes s.class None (Some Two) is e (λ differ. absurd (cc))
 class_by v s None is (none live) = none_before s is live s.is_caller v
 class_by v s None is (asks r class caller live) =
-    subst (λ (b : Bool). ByClass (before_class b v s)) (sym caller) (first_before s is r caller live v)
+    subst (λ (b : Bool). ByClass (before_class b v s).state) (sym caller) (first_before s is r caller live v)
 class_by v s None is (zero r peer link class flow live) = two_classes s.class None (Some Zero) is class (λ differ. absurd (cc))
 
 pub unit_class : (v : Value) (s : Carrier) → ByClass s → ByClass (react v s)

@@ -90,21 +90,21 @@ module _ (is_caller : Bool) (r : ℕ) where
 -- ---- a CC for a connection that awaits one
 
 cc_reference : {A : Type 0} (r : ℕ) (x : Connect) (s : Carrier) (o : Option Connection) → value_at r s.live ≡ Some asked → o ≡ Some asked →
-    (to_connection r o (confirm r x) s).ended ≡ None → value_at r (to_connection r o (confirm r x) s).live ≡ Some asked → A
+    (to_connection r o (confirm r x) s).state.ended ≡ None → value_at r (to_connection r o (confirm r x) s).state.live ≡ Some asked → A
 cc_reference r x s h was is lasts now = search (arith, never_lasts, put_here)
 
 cc_before : {A : Type 0} (b : Bool) (r : ℕ) (x : Connect) (s : Carrier) → value_at r s.live ≡ Some asked →
-    (before_class b (confirm r x) s).ended ≡ None → value_at r (before_class b (confirm r x) s).live ≡ Some asked → A
+    (before_class b (confirm r x) s).state.ended ≡ None → value_at r (before_class b (confirm r x) s).state.live ≡ Some asked → A
 cc_before true r x s was lasts now = cc_reference r x s (value_at r s.live) was was lasts now
-cc_before false r x s was lasts now = absurd (never_lasts (before_class false (confirm r x) s).ended refl lasts)
+cc_before false r x s was lasts now = absurd (never_lasts (before_class false (confirm r x) s).state.ended refl lasts)
 
 cc_two : {A : Type 0} (b : Bool) (r : ℕ) (x : Connect) (s : Carrier) → value_at r s.live ≡ Some asked →
-    (in_two b (confirm r x) s).ended ≡ None → value_at r (in_two b (confirm r x) s).live ≡ Some asked → A
+    (in_two b (confirm r x) s).state.ended ≡ None → value_at r (in_two b (confirm r x) s).state.live ≡ Some asked → A
 cc_two true r x s was lasts now = cc_reference r x s (value_at r s.live) was was lasts now
 cc_two false r x s was lasts now = cc_reference r x s (value_at r s.live) was was lasts now
 
 cc_class : {A : Type 0} (k : Option Class) (r : ℕ) (x : Connect) (s : Carrier) → (k ≡ Some Zero → ⊥) → value_at r s.live ≡ Some asked →
-    (in_class k (confirm r x) s).ended ≡ None → value_at r (in_class k (confirm r x) s).live ≡ Some asked → A
+    (in_class k (confirm r x) s).state.ended ≡ None → value_at r (in_class k (confirm r x) s).state.live ≡ Some asked → A
 cc_class None r x s not was lasts now = cc_before s.is_caller r x s was lasts now
 cc_class (Some Two) r x s not was lasts now = cc_two s.is_caller r x s was lasts now
 cc_class (Some Zero) r x s not was lasts now = absurd (not refl)

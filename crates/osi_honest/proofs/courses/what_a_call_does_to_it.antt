@@ -10,7 +10,7 @@ use Rattle.osi_honest.proofs.Vocabulary.{connect_error, connects, has_given, ter
 use Rattle.osi_honest.proofs.Vocabulary.{IsGranted, kept_at, to_session, user_does, UserCall, breaking, calling, connecting, disconnecting}
 use Rattle.osi_honest.proofs.Vocabulary.{End, fresh_line, session_in, Request as Connect, sends, Course, Deeds, Gone, IsOpen, IsShut}
 use Rattle.osi_honest.proofs.Vocabulary.{said_in, awaited, is_gone, is_open, unknown, closed, Marked, History, said_after, HasSerialIn}
-use Rattle.osi_honest.proofs.Vocabulary.{never, over}
+use Rattle.osi_honest.proofs.Vocabulary.{never, over, put_closing}
 use Rattle.osi_stack.specs.Calls.{breaks}
 use Rattle.osi_honest.specs.Talking as history
 use Rattle.osi_honest.proofs.ends.what_a_session_sends_fits.{still_begun, granted_proper}
@@ -19,7 +19,7 @@ use Rattle.osi_honest.proofs.courses.a_connection_without_a_unit.{connect_rests,
 use Rattle.osi_honest.proofs.courses.steps_of_a_course.{HasNone, HoldEach, StepAt, Steps, step_each, step_idle}
 use Rattle.osi_honest.proofs.courses.the_first_cc_opens_a_connection.{StaysGiven, first_of, given_more, session_given}
 use Rattle.osi_honest.proofs.courses.units_of_each_connection.{AreAccounted, marked, none_marked, nowhere, unequal}
-use Rattle.osi_honest.proofs.courses.what_a_session_puts.{Puts, closing_accounted, closing_puts, put_closing, puts_none, session_accounted}
+use Rattle.osi_honest.proofs.courses.what_a_session_puts.{Puts, closing_accounted, closing_puts, puts_none, session_accounted}
 use Rattle.osi_honest.proofs.courses.what_a_session_puts.{session_others, session_puts, session_written}
 use Rattle.osi_honest.proofs.courses.what_sessions_hear_of_it.{CourseAll, course_given}
 use Rattle.osi_honest.proofs.courses.what_a_link_takes_and_is_handed.{closed_leaves, closed_shut, link_shut}
@@ -136,7 +136,7 @@ module _ (is_caller : Bool) (r : ℕ) (moves : Deeds) (e : End) (lasts : e.carri
   -- ---- a connection is given up
 
   abbrev closed_puts : ℕ → List Value
-  closed_puts q = put_closing q (open_link q e.carrier) e.carrier
+  closed_puts q = put_closing q 128 (open_link q e.carrier) e.carrier.class
 
   gone_given : Gone is_caller r moves e → Course is_caller r moves (disconnects r e)
   gone_given (closed at calls is session speaks given shut) =
@@ -211,7 +211,7 @@ module _ (is_caller : Bool) (moves : ℕ → Deeds) (e : End) (lasts : e.carrier
       (λ r now has. ap (λ (n : ℕ). nat_lt 0 r && nat_le r n) (session_given q (called call) e) ∙ has)
       (λ r. call_steps is_caller r (moves r) e lasts q call (r == q) refl allowed serial (course r))
   user_steps (disconnecting q) allowed serial =
-      let put : List Marked = marked 0 (put_closing q (open_link q e.carrier) e.carrier) in
+      let put : List Marked = marked 0 (put_closing q 128 (open_link q e.carrier) e.carrier.class) in
       each_then (disconnects q e) put
       (subst (Puts e.carrier put) (sym (disconnect_carrier q e)) (closing_puts q e.carrier)) (closing_accounted q e.carrier)
       (λ r some. subst (λ (c : Carrier). Life is_caller r (stage_at r e.carrier) [] put (stage_at r c)) (sym (disconnect_carrier q e))

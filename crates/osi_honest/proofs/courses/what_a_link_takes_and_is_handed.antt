@@ -1,13 +1,13 @@
 -- What the link of a connection does as it takes a unit, and as its session hands in TSDUs; and what a session of another
 -- connection leaves of it.
 -- For the course of a connection.
-use Rattle.osi_honest.proofs.Vocabulary.{[], ap, Bool, drop, false, inl, inr, List, map, None, Ok, Option, refl, Some, sym}
-use Rattle.osi_honest.proofs.Vocabulary.{ℕ, ◌∙◌, ◌∷◌, ◌≡◌, ◌≢◌, ◌⊎◌, append-nil, map-append, may_be_followed, Value, drained_leaves}
-use Rattle.osi_honest.proofs.Vocabulary.{drained_moves, all_given, Joining, Standing, taken, unit_of, with_tsdu, hand_out, Move, MovesAlong}
-use Rattle.osi_honest.proofs.Vocabulary.{take_in, tsdus_in, tsdus_out, put_other, put_here, closed_on, closed_with, open_link, sent}
-use Rattle.osi_honest.proofs.Vocabulary.{sent_all, sent_on, pumped, written_by, handed_out, value_at, closing, linked, State as Carrier}
-use Rattle.osi_honest.proofs.Vocabulary.{SendError, answers_by, sent_unless, IsShut, units_given, units_taken, arith, flat_map-append}
-use Rattle.osi_honest.proofs.courses.what_a_session_puts.{all_put, one_puts}
+use Rattle.osi_honest.proofs.Vocabulary.{[], ap, Bool, drop, false, inl, inr, List, map, None, Ok, Option, refl, Some, sym, ℕ, ◌∙◌, ◌∷◌}
+use Rattle.osi_honest.proofs.Vocabulary.{◌≡◌, ◌≢◌, ◌⊎◌, append-nil, map-append, may_be_followed, Value, drained_leaves, drained_moves}
+use Rattle.osi_honest.proofs.Vocabulary.{all_given, Joining, Standing, taken, unit_of, with_tsdu, hand_out, Move, MovesAlong, take_in}
+use Rattle.osi_honest.proofs.Vocabulary.{tsdus_in, tsdus_out, put_other, put_here, closed_on, closed_with, open_link, sent, sent_all}
+use Rattle.osi_honest.proofs.Vocabulary.{sent_on, pumped, written_by, handed_out, value_at, closing, linked, State as Carrier, SendError}
+use Rattle.osi_honest.proofs.Vocabulary.{answers_by, sent_unless, IsShut, units_given, units_taken, arith, flat_map-append, put_sent}
+use Rattle.osi_honest.proofs.Vocabulary.{put_together}
 use Rattle.osi_honest.proofs.courses.what_calls_of_a_link_say.{HandsIn, gives, gives_none_in, gives_none_out, gives_units, gives_untaken}
 use Rattle.osi_honest.proofs.courses.what_calls_of_a_link_say.{hands_more, hands_one, one_in}
 
@@ -81,7 +81,7 @@ pub record Sends (r peer : ℕ) (link : Standing) (tsdus : List (List ℕ)) (old
   pub after : Standing
   pub hands : HandsIn link tsdus after moves
   pub here : value_at r new.live ≡ Some (linked peer after)
-  pub put : map (unit_of peer) (units_given moves) ≡ all_put r tsdus old
+  pub put : map (unit_of peer) (units_given moves) ≡ put_together r tsdus old
   pub same : IsSameBeside old new
 
 sends_none : (r peer : ℕ) (link : Standing) (c : Carrier) → value_at r c.live ≡ Some (linked peer link) → Sends r peer link [] c c
@@ -92,7 +92,7 @@ sends_one : (r peer : ℕ) (link : Standing) (tsdu : List ℕ) (c : Carrier) →
 sends_one r peer link tsdu c lasts here =
     grind (
       arith,
-      one_puts,
+      put_sent,
       one_in tsdu link,
       hands_one link tsdu,
       put_here r (linked peer (pumped (with_tsdu link tsdu))) (linked peer link) c.live here,
@@ -109,8 +109,8 @@ sends_more r peer link tsdu others old new a b =
       hands_more link a.after b.after (tsdu ∷ []) others a.moves b.moves a.hands b.hands,
       flat_map-append,
       map-append (unit_of peer) (units_given a.moves) (units_given b.moves),
-      append-nil (one_puts tsdu (open_link r old)),
-      one_puts tsdu (open_link r old),
+      append-nil (put_sent tsdu (open_link r old)),
+      put_sent tsdu (open_link r old),
     )
 
 pub sends_all : (r peer : ℕ) (link : Standing) (tsdus : List (List ℕ)) (c : Carrier) → c.ended ≡ None →

@@ -1,12 +1,12 @@
 -- The units that are put as something happens to a session, each with the connection whose link gave it: a session that sends hands
 -- TSDUs to its link, and one that closes its connection causes a DR.
 -- For the course of a connection.
-use Rattle.osi_honest.proofs.Vocabulary.{[], append_assoc, arith, Bool, false, List, None, Option, refl, Some, sym, true, ℕ, ◌++◌, ◌<◌, ◌∷◌}
-use Rattle.osi_honest.proofs.Vocabulary.{◌≡◌, ◌≢◌, ◌⊎◌, nat_tests, append-nil, map-append, disconnect, Value, all_given, Standing}
-use Rattle.osi_honest.proofs.Vocabulary.{with_tsdu, Class, Zero, closed_on, closes, open_link, send_all_error, sent, sent_all, Happening}
-use Rattle.osi_honest.proofs.Vocabulary.{written_by, value_at, packets, State as Carrier, SendError, tsdus_sent, broken, came, Input}
-use Rattle.osi_honest.proofs.Vocabulary.{Listener, linked_up as opened, session_react as react, has_given, hears, carrier_by, limit_for}
-use Rattle.osi_honest.proofs.Vocabulary.{to_session, End, Line, answers_by, sent_unless, all_units, Marked}
+use Rattle.osi_honest.proofs.Vocabulary.{[], arith, Bool, false, List, None, Option, refl, Some, sym, true, ℕ, ◌++◌, ◌<◌, ◌∷◌, ◌≡◌, ◌≢◌}
+use Rattle.osi_honest.proofs.Vocabulary.{◌⊎◌, nat_tests, append-nil, map-append, Value, all_given, Standing, with_tsdu, Class, closed_on}
+use Rattle.osi_honest.proofs.Vocabulary.{closes, open_link, send_all_error, sent, Happening, value_at, packets, State as Carrier, SendError}
+use Rattle.osi_honest.proofs.Vocabulary.{tsdus_sent, broken, came, Input, Listener, linked_up as opened, session_react as react, has_given}
+use Rattle.osi_honest.proofs.Vocabulary.{hears, carrier_by, limit_for, to_session, End, Line, answers_by, sent_unless, all_units, Marked}
+use Rattle.osi_honest.proofs.Vocabulary.{together_written, put_closing, put_sent, put_together}
 use Rattle.osi_carrier.specs.Happenings as told
 use Rattle.osi_carrier.specs.Orderly.{told_of}
 use Rattle.osi_session.specs.Listening.{refused}
@@ -17,32 +17,13 @@ use Rattle.osi_honest.proofs.courses.units_of_each_connection.{nowhere, plain_ac
 
 -- ---- the carrier
 
--- a TSDU that is handed in, at the link of an open connection
-abbrev pub one_puts : List ℕ → Option (ℕ × Standing) → List Value
-one_puts tsdu None = []
-one_puts tsdu (Some (peer, link)) = written_by peer (with_tsdu link tsdu)
-
--- TSDUs one after the other
-abbrev pub all_put : ℕ → List (List ℕ) → Carrier → List Value
-all_put q [] c = []
-all_put q (tsdu ∷ tsdus) c = one_puts tsdu (open_link q c) ++ all_put q tsdus (sent q tsdu c)
-
 abbrev pub put_unless : Option SendError → ℕ → List (List ℕ) → Carrier → List Value
-put_unless None q tsdus c = all_put q tsdus c
+put_unless None q tsdus c = put_together q tsdus c
 put_unless (Some e) q tsdus c = []
-
--- a connection that is closed
-abbrev pub put_by_class : (q peer : ℕ) → Option Class → List Value
-put_by_class q peer (Some Zero) = []
-put_by_class q peer _ = disconnect peer q 128 [] ∷ []
-
-abbrev pub put_closing : ℕ → Option (ℕ × Standing) → Carrier → List Value
-put_closing q None c = []
-put_closing q (Some (peer, link)) c = put_by_class q peer c.class
 
 -- a session answers
 abbrev pub answer_puts : Bool → ℕ → List (List ℕ) → Carrier → List Marked
-answer_puts true q tsdus c = marked 0 (put_closing q (open_link q c) c)
+answer_puts true q tsdus c = marked 0 (put_closing q 128 (open_link q c) c.class)
 answer_puts false q tsdus c = marked q (put_unless (send_all_error tsdus (open_link q c)) q tsdus c)
 
 -- ---- the end
@@ -79,20 +60,12 @@ Puts old units new = new.outgoing ≡ old.outgoing ++ packets (all_units units)
 pub puts_none : (c : Carrier) → Puts c [] c
 puts_none c = sym (append-nil c.outgoing)
 
-all_written : (q : ℕ) (tsdus : List (List ℕ)) (c : Carrier) → (sent_all q tsdus c).outgoing ≡ c.outgoing ++ packets (all_put q tsdus c)
-all_written q [] c = sym (append-nil c.outgoing)
-all_written q (tsdu ∷ tsdus) c = grind (arith, append_assoc, packets_joined, all_written q tsdus (sent q tsdu c))
-
 unless_written : (o : Option SendError) (q : ℕ) (tsdus : List (List ℕ)) (c : Carrier) →
     (sent_unless o q tsdus c).outgoing ≡ c.outgoing ++ packets (put_unless o q tsdus c)
-unless_written o q tsdus c = grind (arith, all_written, append-nil)
+unless_written o q tsdus c = grind (arith, together_written, append-nil)
 
-class_written : (q peer : ℕ) (class : Option Class) (c : Carrier) →
-    (closes q peer 128 class c).outgoing ≡ c.outgoing ++ packets (put_by_class q peer class)
-class_written q peer class c = grind (arith, append-nil)
-
-pub closing_puts : (q : ℕ) (c : Carrier) → Puts c (marked 0 (put_closing q (open_link q c) c)) (closed_on q 128 (open_link q c) c)
-closing_puts q c = grind (arith, marked_all, append-nil, class_written)
+pub closing_puts : (q : ℕ) (c : Carrier) → Puts c (marked 0 (put_closing q 128 (open_link q c) c.class)) (closed_on q 128 (open_link q c) c)
+closing_puts q c = grind (arith, marked_all, append-nil)
 
 answer_written : (b : Bool) (q : ℕ) (tsdus : List (List ℕ)) (c : Carrier) → Puts c (answer_puts b q tsdus c) (answers_by b q tsdus c)
 answer_written h q tsdus c = grind (arith, closing_puts, marked_all, unless_written)
@@ -125,7 +98,7 @@ event_others r x e ne = grind (arith, opening_others, session_others)
 
 -- ---- nor did one that is not open
 
-unlinked_put : (q : ℕ) (tsdus : List (List ℕ)) (c : Carrier) → open_link q c ≡ None → all_put q tsdus c ≡ []
+unlinked_put : (q : ℕ) (tsdus : List (List ℕ)) (c : Carrier) → open_link q c ≡ None → put_together q tsdus c ≡ []
 unlinked_put q [] c none = refl
 unlinked_put q (tsdu ∷ tsdus) c none = grind (arith, unlinked_put q tsdus c none)
 
@@ -147,19 +120,19 @@ event_unlinked x e none = grind (arith, opening_unlinked, line_unlinked)
 
 -- ---- a link gives DTs and AKs
 
-one_accounted : (q : ℕ) (tsdu : List ℕ) (o : Option (ℕ × Standing)) → 0 < q → AreAccounted (marked q (one_puts tsdu o))
+one_accounted : (q : ℕ) (tsdu : List ℕ) (o : Option (ℕ × Standing)) → 0 < q → AreAccounted (marked q (put_sent tsdu o))
 one_accounted q tsdu None some = tt
 one_accounted q tsdu (Some (peer, link)) some = given_accounted q peer (all_given (with_tsdu link tsdu)) some
 
-all_accounted : (q : ℕ) (tsdus : List (List ℕ)) (c : Carrier) → 0 < q → AreAccounted (marked q (all_put q tsdus c))
+all_accounted : (q : ℕ) (tsdus : List (List ℕ)) (c : Carrier) → 0 < q → AreAccounted (marked q (put_together q tsdus c))
 all_accounted q [] c some = tt
 all_accounted q (tsdu ∷ tsdus) c some = grind (arith, map-append, all_of_both, one_accounted, all_accounted q tsdus (sent q tsdu c) some)
 
-closing_plain : (q : ℕ) (o : Option (ℕ × Standing)) (c : Carrier) → ArePlain (put_closing q o c)
+closing_plain : (q : ℕ) (o : Option (ℕ × Standing)) (held : Option Class) → ArePlain (put_closing q 128 o held)
 closing_plain q o c = grind arith
 
-pub closing_accounted : (q : ℕ) (c : Carrier) → AreAccounted (marked 0 (put_closing q (open_link q c) c))
-closing_accounted q c = plain_accounted (put_closing q (open_link q c) c) (closing_plain q (open_link q c) c)
+pub closing_accounted : (q : ℕ) (c : Carrier) → AreAccounted (marked 0 (put_closing q 128 (open_link q c) c.class))
+closing_accounted q c = plain_accounted (put_closing q 128 (open_link q c) c.class) (closing_plain q (open_link q c) c.class)
 
 answer_accounted : (b : Bool) (q : ℕ) (tsdus : List (List ℕ)) (c : Carrier) → 0 < q → AreAccounted (answer_puts b q tsdus c)
 answer_accounted b q tsdus c some = grind (arith, closing_accounted, all_accounted)

@@ -5,13 +5,14 @@ use Rattle.osi_honest.proofs.Vocabulary.{[], ap, arith, Bool, Err, false, if◌t
 use Rattle.osi_honest.proofs.Vocabulary.{refl, Result, Some, subst, sym, true, ℕ, ◌&&◌, ◌++◌, ◌+◌, ◌∙◌, ◌∷◌, ◌≡◌, ◌≢◌, eq-eqb, nat_tests}
 use Rattle.osi_honest.proofs.Vocabulary.{append-nil, AllByRecursion, acknowledge, confirm, data0, data2, disconnect, disconnected, error}
 use Rattle.osi_honest.proofs.Vocabulary.{HasFieldsInRange, IsConnect, may_be_followed, request, Value, Standing, taken, accept, refuse}
-use Rattle.osi_honest.proofs.Vocabulary.{selected_by, Selection, LinkFault, Class, Two, Zero, Local, changes_one, effect, How, react_quiet}
-use Rattle.osi_honest.proofs.Vocabulary.{push_here, put_here, without_here, Happening, told_opened as opened, acceptance, agreed_size}
-use Rattle.osi_honest.proofs.Vocabulary.{confirmed, opened_link, connection_by, connection_of, only_of, RiseFrom, answers, before_class}
-use Rattle.osi_honest.proofs.Vocabulary.{denies, in_class, in_two, in_zero, leaves, opens_by as opens, settles, taking, to_asked}
-use Rattle.osi_honest.proofs.Vocabulary.{to_closing, to_connection, to_linked, to_only, to_reference, to_unknown, put, Rows, value_at}
-use Rattle.osi_honest.proofs.Vocabulary.{without, asked, closing, Connection, linked, packets, State as Carrier, has_given, Answers, is_for}
-use Rattle.osi_honest.proofs.Vocabulary.{Opens, IsFreshLink, IsShut, is_of_link, CanBeWritten, Connect, breaks, react}
+use Rattle.osi_honest.proofs.Vocabulary.{selected_by, Selection, LinkFault, Class, Two, Zero, Local, changes_one, effect, How, push_here}
+use Rattle.osi_honest.proofs.Vocabulary.{put_here, without_here, Happening, told_opened as opened, acceptance, agreed_size, confirmed}
+use Rattle.osi_honest.proofs.Vocabulary.{opened_link, connection_by, connection_of, only_of, RiseFrom, answers, before_class, denies}
+use Rattle.osi_honest.proofs.Vocabulary.{in_class, in_two, in_zero, leaves, opens_by as opens, settles, taking, to_asked, to_closing}
+use Rattle.osi_honest.proofs.Vocabulary.{to_connection, to_linked, to_only, to_reference, to_unknown, put, Rows, value_at, without, asked}
+use Rattle.osi_honest.proofs.Vocabulary.{closing, Connection, linked, State as Carrier, has_given, Answers, is_for, Opens, IsFreshLink}
+use Rattle.osi_honest.proofs.Vocabulary.{IsShut, is_of_link, CanBeWritten, Connect, breaks, react, outcome_quiet, outcome, Outcome, puts}
+use Rattle.osi_honest.proofs.Vocabulary.{puts_none}
 use Rattle.osi_carrier.specs.Orderly.{told_of}
 use Rattle.osi_honest.proofs.courses.the_connections_of_each_class.{IsSound, zero_asks_none}
 use Rattle.osi_honest.proofs.courses.units_of_each_connection.{ArePlain, marked}
@@ -70,10 +71,10 @@ pub data Acts (r : ℕ) (v : Value) (put : List Value) (old new : Carrier) : Typ
       Acts r v put old new
 
 -- the link takes the unit; or it doesn't, and what is put is no DT and no AK, and can be written
-pub data Does (r : ℕ) (v : Value) (old new : Carrier) : Type 0 where
+pub data Does (r : ℕ) (v : Value) (old : Carrier) (x : Outcome) : Type 0 where
   takes : (peer : ℕ) (link after : Standing) → value_at r old.live ≡ Some (linked peer link) → taken link v ≡ Ok after →
-      new ≡ settles r peer after old → Does r v old new
-  passes : (units : List Value) → new.outgoing ≡ old.outgoing ++ packets units → ArePlain units → Acts r v units old new → Does r v old new
+      x ≡ settles r peer after old → Does r v old x
+  passes : ArePlain x.put → Acts r v x.put old x.state → Does r v old x
 
 -- ---- a unit of another connection
 
@@ -102,28 +103,28 @@ module _ (s : Carrier) (rise : RiseFrom 0 s.live) where
       rests (ap (value_at r) live) (ap (λ (n : ℕ). nat_lt 0 r && nat_le r n) given) [] (events ∙ sym (append-nil s.events)) tt deaf
 
   -- nothing is put, or one unit
-  nothing : (r : ℕ) (v : Value) (t : Carrier) → t.outgoing ≡ s.outgoing → Acts r v [] s t → Does r v s t
-  nothing r v t same act = passes [] (same ∙ sym (append-nil s.outgoing)) tt act
+  nothing : (r : ℕ) (v : Value) (t : Carrier) → Acts r v [] s t → Does r v s (puts_none t)
+  nothing r v t act = passes tt act
 
-  puts : (r : ℕ) (v u : Value) (t : Carrier) → t.outgoing ≡ s.outgoing ++ packets (u ∷ []) → is_of_link u ≡ false → CanBeWritten u →
-      Acts r v (u ∷ []) s t → Does r v s t
-  puts r v u t is plain can act = passes (u ∷ []) is ((plain, can), tt) act
+  puts_one : (r : ℕ) (v u : Value) (t : Carrier) → is_of_link u ≡ false → CanBeWritten u → Acts r v (u ∷ []) s (puts (u ∷ []) t).state →
+      Does r v s (puts (u ∷ []) t)
+  puts_one r v u t plain can act = passes ((plain, can), tt) act
 
-  ends_it : (r : ℕ) (v : Value) (t : Carrier) → t.outgoing ≡ s.outgoing → IsSome t.ended → Does r v s t
-  ends_it r v t same ended = nothing r v t same (over ended)
+  ends_it : (r : ℕ) (v : Value) (t : Carrier) → IsSome t.ended → Does r v s (puts_none t)
+  ends_it r v t ended = nothing r v t (over ended)
 
   -- a CR
   acts_accepts : (class : Class) (size : Option ℕ) (c : Connect) → s.is_caller ≡ false → IsConnect c → HasSizeInRange (accept class size) →
       Does (s.given + 1) (request c) s (answers c (accept class size) None s)
   acts_accepts Zero size c called fits range =
-      puts (s.given + 1) (request c) (confirm c.source (acceptance Zero size c s.local (s.given + 1))) _ refl refl
+      puts_one (s.given + 1) (request c) (confirm c.source (acceptance Zero size c s.local (s.given + 1))) _ refl
       (cc_plain Zero size c s.local (s.given + 1) fits range)
       (joins called refl (next_ungiven s.given) (given_next s.given) c.source (opened_link Zero size s.local c.credit)
       (fresh_link Zero size s.local c.credit)
       (λ none. push_here (s.given + 1) (linked c.source (opened_link Zero size s.local c.credit)) s.live none) refl (refl, refl)
       (acceptance Zero size c s.local (s.given + 1), refl, refl))
   acts_accepts Two size c called fits range =
-      puts (s.given + 1) (request c) (confirm c.source (acceptance Two size c s.local (s.given + 1))) _ refl refl
+      puts_one (s.given + 1) (request c) (confirm c.source (acceptance Two size c s.local (s.given + 1))) _ refl
       (cc_plain Two size c s.local (s.given + 1) fits range)
       (joins called refl (next_ungiven s.given) (given_next s.given) c.source (opened_link Two size s.local c.credit)
       (fresh_link Two size s.local c.credit)
@@ -132,8 +133,8 @@ module _ (s : Carrier) (rise : RiseFrom 0 s.live) where
 
   acts_denies : (c : Connect) (reason : ℕ) → Does (s.given + 1) (request c) s (denies reason c.source s)
   acts_denies c reason =
-      puts (s.given + 1) (request c) (disconnect c.source 0 reason []) _ refl refl tt
-      (acts_none (s.given + 1) (request c) _ (denies reason c.source s) refl refl refl (λ peer link here. refl))
+      puts_one (s.given + 1) (request c) (disconnect c.source 0 reason []) _ refl tt
+      (acts_none (s.given + 1) (request c) _ (denies reason c.source s).state refl refl refl (λ peer link here. refl))
 
   acts_selected : (c : Connect) (selection : Selection) (held : Option Class) → s.is_caller ≡ false → IsConnect c →
       HasSizeInRange selection → Does (s.given + 1) (request c) s (answers c selection held s)
@@ -152,23 +153,23 @@ module _ (s : Carrier) (rise : RiseFrom 0 s.live) where
   -- a reference that is not live
   acts_unknown : (r : ℕ) (v : Value) → Does r v s (to_unknown v s)
   acts_unknown r (disconnect destination source reason user) =
-      puts r (disconnect destination source reason user) (disconnected source destination) _ refl refl tt
+      puts_one r (disconnect destination source reason user) (disconnected source destination) _ refl tt
       (search (arith, acts_none))
   acts_unknown r (disconnected destination source) = search (arith, nothing, acts_none)
-  acts_unknown r v = ends_it r v _ refl refl
+  acts_unknown r v = ends_it r v _ refl
 
   -- the CC is awaited
   acts_opens : (r destination : ℕ) (c : Connect) (class : Option Class) → destination ≡ r → value_at r s.live ≡ Some asked →
       Does r (confirm destination c) s (opens r c class s)
-  acts_opens r destination c None named here = ends_it r (confirm destination c) _ refl refl
+  acts_opens r destination c None named here = ends_it r (confirm destination c) _ refl
   acts_opens r destination c (Some Zero) named here =
       let first = opened_link Zero (agreed_size c.parameters.size s.local) s.local c.credit in
-      nothing r (confirm destination c) (opens r c (Some Zero) s) refl
+      nothing r (confirm destination c) (opens r c (Some Zero) s).state
       (answers_it refl here refl c.source first (fresh_link Zero (agreed_size c.parameters.size s.local) s.local c.credit)
       (put_here r (linked c.source first) asked s.live here) refl (λ b. (named, refl)) refl)
   acts_opens r destination c (Some Two) named here =
       let first = opened_link Two (agreed_size c.parameters.size s.local) s.local c.credit in
-      nothing r (confirm destination c) (opens r c (Some Two) s) refl
+      nothing r (confirm destination c) (opens r c (Some Two) s).state
       (answers_it refl here refl c.source first (fresh_link Two (agreed_size c.parameters.size s.local) s.local c.credit)
       (put_here r (linked c.source first) asked s.live here) refl (λ b. (named, refl)) refl)
 
@@ -194,9 +195,9 @@ module _ (s : Carrier) (rise : RiseFrom 0 s.live) where
   acts_breaks : (r peer : ℕ) (link : Standing) (v : Value) (fault : LinkFault) (held : Option Class) →
       value_at r s.live ≡ Some (linked peer link) → Does r v s (breaks r peer fault held s)
   acts_breaks r peer link v fault (Some Two) here =
-      puts r v (disconnect peer r 133 []) (breaks r peer fault (Some Two) s) refl refl tt
+      puts_one r v (disconnect peer r 133 []) _ refl tt
       (closes_to r peer v _ (linked peer link) _ here refl refl)
-  acts_breaks r peer link v fault _ here = ends_it r v _ refl refl
+  acts_breaks r peer link v fault _ here = ends_it r v _ refl
 
   acts_taking : (r peer : ℕ) (link : Standing) (v : Value) (result : Result Standing LinkFault) →
       value_at r s.live ≡ Some (linked peer link) → taken link v ≡ result → Does r v s (taking r peer result s)
@@ -206,8 +207,8 @@ module _ (s : Carrier) (rise : RiseFrom 0 s.live) where
   acts_leaves : (r peer reason : ℕ) (link : Standing) (v : Value) (held : Option Class) → value_at r s.live ≡ Some (linked peer link) →
       Does r v s (leaves r peer reason held s)
   acts_leaves r peer reason link v (Some Two) here =
-      puts r v (disconnected peer r) (leaves r peer reason (Some Two) s) refl refl tt (dropped r v _ (linked peer link) _ here refl refl)
-  acts_leaves r peer reason link v _ here = ends_it r v _ refl refl
+      puts_one r v (disconnected peer r) _ refl tt (dropped r v _ (linked peer link) _ here refl refl)
+  acts_leaves r peer reason link v _ here = ends_it r v _ refl
 
   acts_linked : (r peer : ℕ) (link : Standing) (v : Value) → value_at r s.live ≡ Some (linked peer link) →
       Does r v s (to_linked r peer link v s)
@@ -239,9 +240,9 @@ module _ (s : Carrier) (rise : RiseFrom 0 s.live) where
   acts_before true (confirm destination c) is fits = acts_reference destination (confirm destination c) refl
   acts_before true (disconnect destination source reason user) is fits = search (arith, acts_reference)
   acts_before true (error destination cause) is fits = acts_reference destination (error destination cause) tt
-  acts_before true v is fits = ends_it _ v _ refl refl
+  acts_before true v is fits = ends_it _ v _ refl
   acts_before false (request c) is fits = search (arith, request_by)
-  acts_before false v is fits = ends_it _ v _ refl refl
+  acts_before false v is fits = ends_it _ v _ refl
 
   first_here : (r : ℕ) (x : Connection) (rows : Rows Connection) → value_at r ((r, x) ∷ rows) ≡ Some x
   first_here r x rows = ap (λ (b : Bool). if b then Some x else value_at r rows) (eq-eqb r r refl)
@@ -249,20 +250,20 @@ module _ (s : Carrier) (rise : RiseFrom 0 s.live) where
   module _ (never : (r : ℕ) → value_at r s.live ≡ Some asked → ⊥) where
     acts_only : (rows : Rows Connection) (v : Value) → s.live ≡ rows → Does (only_of rows) v s (to_only rows v s)
     acts_only [] v is =
-        nothing 0 v s refl (acts_none 0 v [] s refl refl refl
+        nothing 0 v s (acts_none 0 v [] s refl refl refl
         (λ peer link here. absurd (let both : None ≡ Some (linked peer link) = sym (ap (value_at 0) is) ∙ here in cc)))
     acts_only ((r, x) ∷ rows) v is =
         let here : value_at r s.live ≡ Some x = ap (value_at r) is ∙ first_here r x rows in
         acts_connection r (Some x) v (λ was. absurd (never r (here ∙ was))) here
 
     acts_zero : (b : Bool) (v : Value) → Does (only_of s.live) v s (in_zero b v s)
-    acts_zero true (request c) = ends_it _ (request c) _ refl refl
+    acts_zero true (request c) = ends_it _ (request c) _ refl
     acts_zero true v = acts_only s.live v refl
     acts_zero false v = acts_only s.live v refl
 
   acts_two : (b : Bool) (v : Value) → s.is_caller ≡ b → HasFieldsInRange v → Does (connection_by (Some Two) v s) v s (in_two b v s)
   acts_two false (request c) is fits = search (arith, request_by)
-  acts_two false (data0 end user) is fits = ends_it _ (data0 end user) _ refl refl
+  acts_two false (data0 end user) is fits = ends_it _ (data0 end user) _ refl
   acts_two true (confirm destination c) is fits = acts_reference destination (confirm destination c) refl
   acts_two false (confirm destination c) is fits = acts_reference destination (confirm destination c) refl
   acts_two true (disconnect destination source reason user) is fits = search (arith, acts_reference)
@@ -274,7 +275,7 @@ module _ (s : Carrier) (rise : RiseFrom 0 s.live) where
   acts_two true (acknowledge credit destination number) is fits = acts_reference destination (acknowledge credit destination number) tt
   acts_two false (acknowledge credit destination number) is fits = acts_reference destination (acknowledge credit destination number) tt
   acts_two true (error destination cause) is fits = acts_reference destination (error destination cause) tt
-  acts_two true v is fits = ends_it _ v _ refl refl
+  acts_two true v is fits = ends_it _ v _ refl
   acts_two false (error destination cause) is fits = acts_reference destination (error destination cause) tt
 
   acts_class : (held : Option Class) (v : Value) → HasFieldsInRange v → (held ≡ Some Zero → (r : ℕ) → value_at r s.live ≡ Some asked → ⊥) →
@@ -283,5 +284,5 @@ module _ (s : Carrier) (rise : RiseFrom 0 s.live) where
   acts_class (Some Zero) v fits never = acts_zero (never refl) s.is_caller v
   acts_class (Some Two) v fits never = acts_two s.is_caller v refl fits
 
-pub unit_does : (v : Value) (s : Carrier) → IsSound s → s.ended ≡ None → HasFieldsInRange v → Does (connection_of v s) v s (react v s)
-unit_does v s h lasts fits = search (arith, react_quiet, acts_class, zero_asks_none)
+pub unit_does : (v : Value) (s : Carrier) → IsSound s → s.ended ≡ None → HasFieldsInRange v → Does (connection_of v s) v s (outcome v s)
+unit_does v s h lasts fits = search (arith, outcome_quiet, acts_class, zero_asks_none)

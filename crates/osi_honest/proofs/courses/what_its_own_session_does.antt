@@ -1,16 +1,16 @@
 -- The session of an open connection makes a move: what it sends is handed in at its link, or the connection is closed.
 -- For the course of a connection.
 use Rattle.osi_honest.proofs.Vocabulary.{[], ap, arith, Bool, false, is_some, length, map, nat_le, nat_lt, None, Option, refl, Some, subst}
-use Rattle.osi_honest.proofs.Vocabulary.{sym, true, ℕ, ◌&&◌, ◌++◌, ◌∙◌, ◌≡◌, append-nil, Joining, Standing, unit_of, MovesAlong}
-use Rattle.osi_honest.proofs.Vocabulary.{tsdus_out, closed_with, open_link, sent_all, value_at, linked, State as Carrier, EndReason}
-use Rattle.osi_honest.proofs.Vocabulary.{after_input, Input, Listener, session_react as react, is_wait_transport, handed, lengths_fit}
-use Rattle.osi_honest.proofs.Vocabulary.{closed_given, has_given, kept_at, to_session, End, sends, AreCalls, Course, Deeds, Gone}
-use Rattle.osi_honest.proofs.Vocabulary.{IsFreshLink, IsNew, IsShut, said_in, units_given, is_gone, is_open, closed, units_at, History}
-use Rattle.osi_honest.proofs.Vocabulary.{said_after, over}
+use Rattle.osi_honest.proofs.Vocabulary.{sym, true, ℕ, ◌&&◌, ◌++◌, ◌∙◌, ◌≡◌, append-nil, Joining, Standing, unit_of, MovesAlong, tsdus_out}
+use Rattle.osi_honest.proofs.Vocabulary.{closed_with, open_link, sent_all, value_at, linked, State as Carrier, EndReason, after_input}
+use Rattle.osi_honest.proofs.Vocabulary.{Input, Listener, session_react as react, is_wait_transport, handed, lengths_fit, closed_given}
+use Rattle.osi_honest.proofs.Vocabulary.{has_given, kept_at, to_session, End, sends, AreCalls, Course, Deeds, Gone, IsFreshLink, IsNew}
+use Rattle.osi_honest.proofs.Vocabulary.{IsShut, said_in, units_given, is_gone, is_open, closed, units_at, History, said_after, over}
+use Rattle.osi_honest.proofs.Vocabulary.{put_closing, put_together}
 use Rattle.osi_honest.proofs.ends.what_a_session_sends_fits.{HasLine, IsProper, kept_then, line_there, moved_by}
 use Rattle.osi_honest.proofs.courses.steps_of_a_course.{HasNone, StepAt, done_by, step_idle}
 use Rattle.osi_honest.proofs.courses.units_of_each_connection.{marked, marked_own, nowhere}
-use Rattle.osi_honest.proofs.courses.what_a_session_puts.{all_put, answer_puts, put_closing, session_puts}
+use Rattle.osi_honest.proofs.courses.what_a_session_puts.{answer_puts, session_puts}
 use Rattle.osi_honest.proofs.courses.what_a_link_takes_and_is_handed.{Sends, closed_shut, sends_all}
 use Rattle.osi_honest.proofs.courses.what_calls_of_a_link_say.{along_more, out_more, put_more, said_more}
 
@@ -66,7 +66,7 @@ module _ (is_caller : Bool) (r : ℕ) (moves : Deeds) (session : Listener) (inpu
   none_put closes h = grind (arith, answer_puts, nowhere, put_closing)
 
   all_sent : (react session input).closes ≡ false → HasLine r session e.lines →
-      session_puts r input e ≡ marked r (all_put r (sends session input) e.carrier)
+      session_puts r input e ≡ marked r (put_together r (sends session input) e.carrier)
   all_sent closes h = grind (arith, lengths_fit)
 
   speaks_by : (b : Bool) → (react session input).closes ≡ b → HasLine r session e.lines →
@@ -80,7 +80,7 @@ module _ (is_caller : Bool) (r : ℕ) (moves : Deeds) (session : Listener) (inpu
       sends_all r t.peer t.link (sends session input) e.carrier t.lasts t.here in
       record {
         more = done_by t.peer s.moves;
-        own = λ some. s.put ∙ sym (ap (units_at r) (all_sent closes h) ∙ marked_own r (all_put r (sends session input) e.carrier));
+        own = λ some. s.put ∙ sym (ap (units_at r) (all_sent closes h) ∙ marked_own r (put_together r (sends session input) e.carrier));
         taken = λ some. s.hands.taken;
         there = is_open (ap (has_given r) is ∙ ap (λ (n : ℕ). nat_lt 0 r && nat_le r n) s.same.given ∙ t.given) (record {
           peer = t.peer;

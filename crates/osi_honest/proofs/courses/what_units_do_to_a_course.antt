@@ -8,7 +8,8 @@ use Rattle.osi_honest.proofs.Vocabulary.{opened_link, connection_of, RiseFrom, p
 use Rattle.osi_honest.proofs.Vocabulary.{value_at, asked, Connection, linked, packets, State as Carrier, EndReason, Listener, both}
 use Rattle.osi_honest.proofs.Vocabulary.{along_units, calls_with, has_given, terms_error, with_carrier, End, Request as Connect, AreCalls}
 use Rattle.osi_honest.proofs.Vocabulary.{Course, Deeds, Gone, IsFreshLink, IsNew, IsOpen, IsShut, no_deeds, Speaks, then_did, units_given}
-use Rattle.osi_honest.proofs.Vocabulary.{units_taken, awaited, is_gone, is_open, unknown, closed, never, react, over}
+use Rattle.osi_honest.proofs.Vocabulary.{units_taken, awaited, is_gone, is_open, unknown, closed, never, react, over, state_is}
+use Rattle.osi_honest.proofs.Vocabulary.{unit_written, outcome, put_for, Outcome}
 use Rattle.osi_honest.specs.Talking as history
 use Rattle.osi_honest.proofs.ends.an_end_that_is_over_does_nothing.{never_lasts}
 use Rattle.osi_honest.proofs.courses.how_long_a_connection_is_open.{Life, stage_at}
@@ -120,7 +121,7 @@ module _ (is_caller : Bool) (r : ℕ) (moves : Deeds) (v : Value) (e : End) (h :
     }
 
     took : has_given r e.carrier ≡ true → (o : IsOpen is_caller r moves e) → (after : Standing) → taken o.calls.link v ≡ Ok after →
-        react v e.carrier ≡ settles r o.peer after e.carrier → NoneOf r e.carrier.events →
+        react v e.carrier ≡ (settles r o.peer after e.carrier).state → NoneOf r e.carrier.events →
         HasFew v after.ends.joining.whole → Took o.peer after
     took given o after is then_is none (inl nothing) =
         let t = takes_in o.calls.link after v [] nothing (inl refl) is in
@@ -174,7 +175,7 @@ module _ (is_caller : Bool) (r : ℕ) (moves : Deeds) (v : Value) (e : End) (h :
 
     takes_open : has_given r e.carrier ≡ true → (o : IsOpen is_caller r moves e) → (peer : ℕ) (link after : Standing) →
         value_at r e.carrier.live ≡ Some (linked peer link) → taken link v ≡ Ok after →
-        react v e.carrier ≡ settles r peer after e.carrier → NoneOf r e.carrier.events → Took peer after
+        react v e.carrier ≡ (settles r peer after e.carrier).state → NoneOf r e.carrier.events → Took peer after
     takes_open given o peer link after here is then_is none =
         let one : Some (linked peer link) ≡ Some (linked o.peer o.calls.link) = sym here ∙ o.here in
         let peers : peer ≡ o.peer = cc in
@@ -213,7 +214,7 @@ module _ (is_caller : Bool) (r : ℕ) (moves : Deeds) (v : Value) (e : End) (h :
           absurd (never_lasts e.carrier.ended ended lasted)
 
       takes_now : Course is_caller r moves e → (peer : ℕ) (link after : Standing) → value_at r e.carrier.live ≡ Some (linked peer link) →
-          taken link v ≡ Ok after → react v e.carrier ≡ settles r peer after e.carrier → Took peer after
+          taken link v ≡ Ok after → react v e.carrier ≡ (settles r peer after e.carrier).state → Took peer after
       takes_now h peer link after here is then_is = search (arith, two_states, takes_open, never_lasts)
 
       leaves_now : Course is_caller r moves e → (x : Connection) → value_at r e.carrier.live ≡ Some x →
@@ -261,7 +262,7 @@ module _ (is_caller : Bool) (r : ℕ) (moves : Deeds) (v : Value) (e : End) (h :
     on_calm (is_away g) act = on_away g act
 
     take_calm : Calm is_caller r moves e → (peer : ℕ) (link after : Standing) → value_at r e.carrier.live ≡ Some (linked peer link) →
-        taken link v ≡ Ok after → react v e.carrier ≡ settles r peer after e.carrier → Took peer after
+        taken link v ≡ Ok after → react v e.carrier ≡ (settles r peer after e.carrier).state → Took peer after
     take_calm h peer link after here is then_is = grind (arith, takes_now, never_lasts)
 
   -- ---- a unit that its link doesn't take
@@ -289,7 +290,7 @@ module _ (is_caller : Bool) (r : ℕ) (moves : Deeds) (v : Value) (e : End) (h :
   -- the link of this or of another connection takes it
   taken_at : (q : ℕ) (b : Bool) → (r == q) ≡ b → q ≡ connection_of v e.carrier → e.carrier.ended ≡ None → Calm is_caller r moves e →
       (peer : ℕ) (link after : Standing) → value_at q e.carrier.live ≡ Some (linked peer link) → taken link v ≡ Ok after →
-      react v e.carrier ≡ settles q peer after e.carrier →
+      react v e.carrier ≡ (settles q peer after e.carrier).state →
       StepAt r (marked q (written_by peer (handed_out after))) (marked q (v ∷ [])) (After is_caller r v) moves new
   taken_at q true same is lasted calm peer link after here took then_is = search (arith, eqb-true, marked, take_calm)
   taken_at q false same is lasted calm peer link after here took then_is =
@@ -342,22 +343,25 @@ module _ (is_caller : Bool) where
         first_of is_caller r e.carrier changed.carrier (marked q (v ∷ [])) (marked q units) tt life
         (λ has was now. let (none, has_then) = unit_not_cc r v e.carrier h has was now in ((none, tt), has_then))
 
-    does_steps : e.carrier.ended ≡ None → Does (connection_of v e.carrier) v e.carrier (react v e.carrier) →
+    does_steps : e.carrier.ended ≡ None → Does (connection_of v e.carrier) v e.carrier (outcome v e.carrier) →
         StepsBy is_caller (v ∷ []) (AfterAll v) moves e.carrier changed
-    does_steps lasted (takes peer link after here is then_is) =
+    does_steps lasted (takes peer link after here taken_is is) =
         let q = connection_of v e.carrier in
         let units = written_by peer (handed_out after) in
+        let then_is = state_is v e.carrier ∙ ap (λ (x : Outcome). x.state) is in
         step_each is_caller (v ∷ []) (AfterAll v) moves e.carrier changed (marked q units) (marked q (v ∷ []))
         (ap (λ (c : Carrier). c.outgoing) then_is ∙ ap (λ (l : List Value). e.carrier.outgoing ++ packets l) (sym (marked_all q units)))
         (given_accounted q peer (all_given (handed_out after)) (above_zero q (linked peer link) e.carrier.live h.orderly.rise here))
         (marked_all q (v ∷ []))
-        (λ r some. taken_life is_caller r some v e.carrier h lasted (side_of r lasted) q refl peer link after here is then_is)
+        (λ r some. taken_life is_caller r some v e.carrier h lasted (side_of r lasted) q refl peer link after here taken_is then_is)
         (λ r some. unit_first r q units (grind (arith, taken_life, side_of)))
-        (λ r. taken_at is_caller r (moves r) v e h q (r == q) refl refl lasted (calm r) peer link after here is then_is)
-    does_steps lasted (passes units written plain act) =
+        (λ r. taken_at is_caller r (moves r) v e h q (r == q) refl refl lasted (calm r) peer link after here taken_is then_is)
+    does_steps lasted (passes plain acts) =
         let q = connection_of v e.carrier in
+        let units = put_for v e.carrier in
+        let act = subst (λ (c : Carrier). Acts q v units e.carrier c) (sym (state_is v e.carrier)) acts in
         step_each is_caller (v ∷ []) (AfterAll v) moves e.carrier changed (marked 0 units) (marked 0 (v ∷ []))
-        (written ∙ ap (λ (l : List Value). e.carrier.outgoing ++ packets l) (sym (marked_all 0 units)))
+        (unit_written v e.carrier ∙ ap (λ (l : List Value). e.carrier.outgoing ++ packets l) (sym (marked_all 0 units)))
         (plain_accounted units plain) (marked_all 0 (v ∷ []))
         (λ r some. passed_life is_caller r some v e.carrier h lasted (side_of r lasted) units q refl act)
         (λ r some. unit_first r 0 units (passed_life is_caller r some v e.carrier h lasted (side_of r lasted) units q refl act))

@@ -20,7 +20,7 @@ use Rattle.osi_honest.proofs.courses.how_long_a_connection_is_open.Stage.{amid, 
 
 -- ---- a unit of another connection is not for this one
 
-data_ends : (s : Carrier) (end : Bool) (user : List ℕ) (b : Bool) → IsSome (in_two b (data0 end user) s).ended
+data_ends : (s : Carrier) (end : Bool) (user : List ℕ) (b : Bool) → IsSome (in_two b (data0 end user) s).state.ended
 data_ends s end user b = grind arith
 
 module _ (v : Value) (s : Carrier) (lasted : s.ended ≡ None) (lasts : (react v s).ended ≡ None) where
@@ -56,7 +56,7 @@ module _ (r source reason : ℕ) (user : List ℕ) (s : Carrier) (peer : ℕ) (l
   abbrev dr : Value
   dr = disconnect r source reason user
 
-  dr_two : (b : Bool) → s.class ≡ Some Two → RiseFrom 0 s.live → value_at r (in_two b dr s).live ≡ None
+  dr_two : (b : Bool) → s.class ≡ Some Two → RiseFrom 0 s.live → value_at r (in_two b dr s).state.live ≡ None
   dr_two b class rise = grind (arith, without_here)
 
   module _ (h : IsSound s) (lasted : s.ended ≡ None) (lasts : (react dr s).ended ≡ None)
@@ -143,7 +143,7 @@ module _ (is_caller : Bool) (r : ℕ) (some : 0 < r) (v : Value) (s : Carrier) (
 
   -- the link of its connection takes it
   taken_by_one : (q : ℕ) (b : Bool) → (r == q) ≡ b → q ≡ connection_of v s → (peer : ℕ) (link after : Standing) →
-      value_at q s.live ≡ Some (linked peer link) → taken link v ≡ Ok after → t ≡ settles q peer after s →
+      value_at q s.live ≡ Some (linked peer link) → taken link v ≡ Ok after → t ≡ (settles q peer after s).state →
       P (stage_at r s) q (marked q (written_by peer (handed_out after))) (stage_at r t)
   taken_by_one q false is own peer link after here took then_is =
       let differ = unequal q r is in
@@ -175,6 +175,6 @@ module _ (is_caller : Bool) (r : ℕ) (some : 0 < r) (v : Value) (s : Carrier) (
   passed_life units q own act = passed_by units q (r == q) refl own t.ended refl act
 
   pub taken_life : (q : ℕ) → q ≡ connection_of v s → (peer : ℕ) (link after : Standing) → value_at q s.live ≡ Some (linked peer link) →
-      taken link v ≡ Ok after → t ≡ settles q peer after s →
+      taken link v ≡ Ok after → t ≡ (settles q peer after s).state →
       P (stage_at r s) q (marked q (written_by peer (handed_out after))) (stage_at r t)
   taken_life q own peer link after here took then_is = taken_by_one q (r == q) refl own peer link after here took then_is
