@@ -1,9 +1,8 @@
 -- No unit of a whole end is a break as it passes, as long as the other side is judged: what osi_fair says of it.
 -- For the laws that an end is blamed nowhere.
 use Rattle.osi_blameless.proofs.Vocabulary.{false, true, ◌≡◌, ◌⊎◌, ◌∷◌, List, Some, Local, Value, Way, Finding, Broke, Outside, Kept}
-use Rattle.osi_blameless.proofs.Vocabulary.{NotJudged}
-use Rattle.osi_blameless.proofs.Vocabulary.{TooMany, Zero, is_stopped, takes, Event, HappenAlong, Whole, called_fair, calling_fair, arith}
-use Rattle.osi_blameless.proofs.Vocabulary.{called_fair_in_class_0, calling_fair_in_class_0}
+use Rattle.osi_blameless.proofs.Vocabulary.{NotJudged, TooMany, Zero, is_stopped, takes, Event, HappenAlong, Whole, called_fair}
+use Rattle.osi_blameless.proofs.Vocabulary.{calling_fair, arith, called_fair_in_class_0, calling_fair_in_class_0}
 use Rattle.osi_rules.specs.Sides as sides
 use Rattle.osi_rules.specs.declared.directions.Direction.TheVariants.{Left, Right}
 use Rattle.osi_fair.specs.Wholes.{begin}

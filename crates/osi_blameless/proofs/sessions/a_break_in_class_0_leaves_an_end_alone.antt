@@ -5,8 +5,7 @@ use Rattle.osi_blameless.proofs.Vocabulary.{◌++◌, map, length, Some, arith, 
 use Rattle.osi_blameless.proofs.Vocabulary.{units_of, Value, data0, written, TpduFault, Two, Zero, Local, other, Direction, is_applied}
 use Rattle.osi_blameless.proofs.Vocabulary.{class_for, takes, side_zero, Deeds, AreHard, IsHard, Known, Cause, unit_passes, units_pass}
 use Rattle.osi_blameless.proofs.Vocabulary.{unread, way_of, Joint, Step, begins_other, begins_own, passes_other, passes_own, turns}
-use Rattle.osi_blameless.proofs.Vocabulary.{stops_last}
-use Rattle.osi_blameless.proofs.Vocabulary.{calls_from, IsNoPacket, IsUnread, LaterAlong, LaterSteps, spoilt}
+use Rattle.osi_blameless.proofs.Vocabulary.{stops_last, calls_from, IsNoPacket, IsUnread, LaterAlong, LaterSteps, spoilt}
 use Rattle.osi_rules.specs.declared.courses.Course.{Course as Judging}
 use Rattle.osi_rules.specs.declared.findings.Reach.TheVariants as reach
 use Rattle.osi_fair.specs.Pieces.{units_in}
@@ -33,7 +32,8 @@ use Rattle.osi_blameless.proofs.sessions.an_end_of_class_0_has_its_connection_op
 use Rattle.osi_blameless.proofs.sessions.each_step_leaves_class_0_one_connection.{Sure, sure_claim}
 use Rattle.osi_blameless.proofs.sessions.no_more_tsdus_than_moments_have_passed.{AreFew, few_claim}
 use Rattle.osi_blameless.proofs.sessions.what_is_asked_of_what_holds_at_each_step.{ArePassed, Keeps, firm_so, goes_so, long_claim}
-use Rattle.osi_blameless.proofs.sessions.what_is_asked_of_what_holds_at_each_step.{units_join}
+use Rattle.osi_blameless.proofs.sessions.what_is_asked_of_what_holds_at_each_step.{knows_zero, units_join}
+use Rattle.osi_blameless.proofs.small_facts_that_many_lemmas_use.{zero_two}
 use Rattle.osi_blameless.proofs.sessions.nobody_of_a_side_is_to_blame.{NeverToBlame, NoneIsToBlame, never_begins, never_stopped, never_unit}
 use Rattle.osi_blameless.proofs.sessions.the_first_units_of_a_packet_are_a_packet.{leads_off, leads_read}
 
@@ -163,7 +163,8 @@ module _ (known : Known) (d : Direction) (local : Local)
             let front_read : units_of l.packet ≡ Ok front = leads_read (u ∷ xs) l ∙ ap (λ (f : List Value). Ok f) (sym some) in
             let w : Joint = record old { course = c; coming = old.coming ++ l.packet ∷ [] } in
             begins_alone f w (record {
-              goes = other_goes known.proper Two d local Inv k deeds at l.packet front old w (l.octets, front_read, refl) g taken judged never;
+              goes = other_goes known.proper Two d local Inv k deeds at l.packet front old w (l.octets, front_read, refl) g taken
+                  (zero_two c.traffic.course.class (knows_zero (other d) c sure zero)) judged never;
               holding = refl;
               put = refl;
               begun = refl;

@@ -9,8 +9,7 @@ use Rattle.osi_blameless.proofs.Vocabulary.{Right, Connection, is_refused, has_g
 use Rattle.osi_blameless.proofs.Vocabulary.{Continues, Deeds, no_deeds, then_did, units_in, units_read, units_taken, Marked, all_units}
 use Rattle.osi_blameless.proofs.Vocabulary.{units_at, IsFresh, Turn, over_acts, AllProper, Life, WhenPast, amid, early, past, stage_at}
 use Rattle.osi_blameless.proofs.Vocabulary.{stage_by, stage_is, stage_over, all_units_more, taken_more, CanBeWritten, Sessions, Course}
-use Rattle.osi_blameless.proofs.Vocabulary.{Joint}
-use Rattle.osi_blameless.proofs.Vocabulary.{Steps, TakesTurn, begin, begins_other, begins_own, passes_other, passes_own, parts_of}
+use Rattle.osi_blameless.proofs.Vocabulary.{Joint, Steps, TakesTurn, begin, begins_other, begins_own, passes_other, passes_own, parts_of}
 use Rattle.osi_blameless.proofs.Vocabulary.{HaveSamePlaces, differ, above_up, IsOngoing}
 use Rattle.osi_carrier.specs.State.{Connection as Live, State as Carrier, asked}
 use Rattle.osi_fair.specs.Wholes as wholes

@@ -16,7 +16,7 @@ use Rattle.osi_blameless.proofs.sessions.a_called_end_is_ready.{passes_other_cal
 use Rattle.osi_blameless.proofs.sessions.a_called_end_of_class_2_has_its_lines.{has_lines}
 use Rattle.osi_blameless.proofs.sessions.a_called_end_takes_what_is_in_flight.{called_dr, called_takes}
 use Rattle.osi_blameless.proofs.sessions.an_end_stands_as_units_pass.{StandsWith, known_at, other_begins_with, other_passes_with}
-use Rattle.osi_blameless.proofs.sessions.an_end_stands_as_units_pass.{own_begins_with, own_passes_with}
+use Rattle.osi_blameless.proofs.sessions.an_end_stands_as_units_pass.{own_begins_with, own_passes_with, turns_with}
 use Rattle.osi_blameless.proofs.sessions.a_right_dt_has_one_place.{AreUsedApart, named_apart}
 use Rattle.osi_blameless.proofs.sessions.a_turn_leaves_all_standing.{Turns}
 use Rattle.osi_blameless.proofs.sessions.connections_have_the_same_places.{at_same}
@@ -89,27 +89,12 @@ module _ (local : Local) (proper : AllProper) where
       let lines = has_lines local old f h.can h.own.two clear in
       let then_can : AllByRecursion CanBeWritten new.put = grind (arith, all_more) in
       let marked = turn_homed local proper turn old new t deeds on life units h.can then_can a.places clear h.own two in
-      let turns : Turns Right on.more (known_at old) (known_at new) t.units old.course.traffic old.course.sessions = record {
-        puts = λ i c j r there here mine live.
-            puts_wait Right deeds (known_at old) old.put old.begun old.course.traffic old.course.sessions a (used_apart deeds old clear h)
-            h.distinct i c j r there here mine live (h.own.ahead.below.live i j r here mine).0 on.put marked (on.more r).put
-            (on.own r (h.own.ahead.below.live i j r here mine).0)
-            ∙ ap (waiting_for (reference_of Left j)) (sym units);
-        takes = λ r one later sure.
-            let x = called_takes local turn old new t deeds on h.own h.can clear r sure.0 (life r sure.0) later sure.1 in
-            record { rest = x.rest; first = x.first; sure = (sure.0, x.sure) };
-      } in
-      record {
-        own = turns_called local proper turn old new t deeds on life units h.can then_can a.places clear h.own two;
-        standing = step_turns Right deeds (known_at old) turn on.more (known_at new) old new t
-            (grind (arith, none_written)) turns h.standing;
-        distinct = subst (λ (c : Passed). AreDistinct Right c.sessions) (sym t.course) h.distinct;
-        shut = subst (λ (c : Passed). AreShut Right (may_take new.holding.end.carrier) (units_in new.coming) c.traffic c.sessions)
-            (sym t.course)
-            (turn_shut Right (may_take old.holding.end.carrier) (may_take new.holding.end.carrier) (units_in old.coming)
-            (units_in new.coming) old.course.traffic old.course.sessions
-            (λ i c j r there here judged closing named live.
-            let up = h.own.ahead.below.live i j r here named in
-            called_dr local turn old new t deeds on h.own h.can clear r up.0 (life r up.0) up.1 live) h.shut);
-        can = then_can;
-      }
+      turns_with Right (IsCalled local) deeds turn old new t on units can marked (used_apart deeds old clear h) h.own.ahead.bound
+      h.own.ahead.below (λ r some one later sure. called_takes local turn old new t deeds on h.own h.can clear r some (life r some) later sure)
+      (turn_shut Right (may_take old.holding.end.carrier) (may_take new.holding.end.carrier) (units_in old.coming)
+      (units_in new.coming) old.course.traffic old.course.sessions
+      (λ i c j r there here judged closing named live.
+      let up = h.own.ahead.below.live i j r here named in
+      called_dr local turn old new t deeds on h.own h.can clear r up.0 (life r up.0) up.1 live) h.shut)
+      (grind (arith, none_written)) h
+      (turns_called local proper turn old new t deeds on life units h.can then_can a.places clear h.own two)

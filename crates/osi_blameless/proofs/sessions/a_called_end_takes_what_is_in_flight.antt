@@ -2,8 +2,7 @@
 -- the end has not answered. And a DR in flight to a connection that the judge knows stays there as long as the end has it open.
 -- For all connections of an end and a judge.
 use Rattle.osi_blameless.proofs.Vocabulary.{arith, false, List, refl, true, ℕ, ◌<◌, ◌≡◌, AllByRecursion, Part, Local, amid, early, Life}
-use Rattle.osi_blameless.proofs.Vocabulary.{past}
-use Rattle.osi_blameless.proofs.Vocabulary.{stage_at, Time, CanBeWritten, Continues, Deeds, units_in, Turn, ◌≤◌, Joint, TakesTurn}
+use Rattle.osi_blameless.proofs.Vocabulary.{past, stage_at, Time, CanBeWritten, Continues, Deeds, units_in, Turn, ◌≤◌, Joint, TakesTurn}
 use Rattle.osi_blameless.proofs.Vocabulary.{IsOngoing}
 use Rattle.osi_blameless.proofs.small_facts_that_many_lemmas_use.{amid_not, past_not}
 use Rattle.osi_blameless.proofs.sessions.a_called_end_is_ready.{IsCalled, early_above}

@@ -19,7 +19,7 @@ use Rattle.osi_blameless.proofs.sessions.a_calling_end_takes_what_is_in_flight.{
 use Rattle.osi_blameless.proofs.sessions.a_turn_leaves_all_standing.{IsOfOne, Turns, of_done, of_live}
 use Rattle.osi_blameless.proofs.sessions.all_connections_stand.{one_at}
 use Rattle.osi_blameless.proofs.sessions.an_end_stands_as_units_pass.{StandsWith, known_at, other_begins_with, other_passes_with}
-use Rattle.osi_blameless.proofs.sessions.an_end_stands_as_units_pass.{own_begins_with, own_passes_with}
+use Rattle.osi_blameless.proofs.sessions.an_end_stands_as_units_pass.{own_begins_with, own_passes_with, turns_with}
 use Rattle.osi_blameless.proofs.sessions.connections_have_the_same_places.{at_same}
 use Rattle.osi_blameless.proofs.sessions.each_unit_of_a_turn_has_one_connection.{IsMarked, puts_wait}
 use Rattle.osi_blameless.proofs.sessions.each_reference_of_an_end_is_new.{gives_new}
@@ -86,43 +86,9 @@ module _ (local : Local) (two : local.class2 ≡ true) (proper : AllProper) wher
       let (l, here_too, one) = at_same j.course.traffic.connections j.course.sessions.live p e h.standing.all.places at in
       absurd (h.distinct.done p i l k r here_too here (ap (λ (m : ℕ). Some m) (one.calling ∙ same)) named)
 
-  -- A turn that puts the units of its deeds, each with its mark, and takes the first of what is in flight to each connection.
+  -- A turn of which each unit has its mark: if at each connection that may open the CC has passed, or nothing of what has come is for it; and
+  -- if it has passed at each that the other side has closed.
   pub turns_stand : (turn : Turn) (old new : Joint) (t : TakesTurn turn old new) (deeds : ℕ → Deeds)
-      (on : Continues true deeds old.holding turn new.holding) →
-      ((r : ℕ) → 0 < r → Life true r (stage_at r old.holding.end.carrier) on.took on.put (stage_at r new.holding.end.carrier)) →
-      t.units ≡ all_units on.put → AllByRecursion CanBeWritten (all_units on.put) →
-      AllByRecursion (IsMarked Left old.course.traffic old.course.sessions) on.put →
-      ((r : ℕ) → 0 < r → IsOfOne Left r old.course.traffic old.course.sessions → (later : List Part) →
-      known_left (may_take old.holding.end.carrier) (units_in old.coming) r later →
-      Takes (on.more r) later (known_left (may_take new.holding.end.carrier) (units_in new.coming) r)) →
-      AreShut Left (may_take new.holding.end.carrier) (units_in new.coming) old.course.traffic old.course.sessions →
-      IsOngoing old.course.traffic.course → StandsCalling deeds old → StandsCalling (λ r. then_did (deeds r) (on.more r)) new
-  turns_stand turn old new t deeds on life units can marked takes shut clear h =
-      let a = h.standing.all in
-      let f = h.own.ahead.followed in
-      let turns : Turns Left on.more (known_at old) (known_at new) t.units old.course.traffic old.course.sessions = record {
-        puts = λ i c j r there here mine live.
-            puts_wait Left deeds (known_at old) old.put old.begun old.course.traffic old.course.sessions a
-            (peers_apart local two old f clear) h.distinct i c j r there here mine live
-            (h.own.ahead.below.live i j r here mine).0 on.put marked (on.more r).put
-            (on.own r (h.own.ahead.below.live i j r here mine).0)
-            ∙ ap (waiting_for (reference_of Right j)) (sym units);
-        takes = λ r one later sure.
-            let x = takes r sure.0 one later sure.1 in record { rest = x.rest; first = x.first; sure = (sure.0, x.sure) };
-      } in
-      record {
-        own = turns_calling local two proper turn old new t deeds on life a.places clear h.own;
-        standing = step_turns Left deeds (known_at old) turn on.more (known_at new) old new t
-            (λ begun. none_written old.put f.whole.put (sym f.put) ((whole_followed local two old f clear).some (f.begun ∙ begun))) turns
-            h.standing;
-        distinct = subst (λ (c : Passed). AreDistinct Left c.sessions) (sym t.course) h.distinct;
-        shut = grind (arith, may_take);
-        can = grind (arith, all_more);
-      }
-
-  -- So it is if at each connection that may open the CC has passed, or nothing of what has come is for it; and if it has passed at each
-  -- that the other side has closed.
-  pub turns_stand_early : (turn : Turn) (old new : Joint) (t : TakesTurn turn old new) (deeds : ℕ → Deeds)
       (on : Continues true deeds old.holding turn new.holding) →
       ((r : ℕ) → 0 < r → Life true r (stage_at r old.holding.end.carrier) on.took on.put (stage_at r new.holding.end.carrier)) →
       t.units ≡ all_units on.put → AllByRecursion CanBeWritten (all_units on.put) →
@@ -133,11 +99,12 @@ module _ (local : Local) (two : local.class2 ≡ true) (proper : AllProper) wher
       0 < c.left.reference → stage_at c.left.reference old.holding.end.carrier ≡ early →
       Tracked old.course.traffic.connections c.left.reference) → IsOngoing old.course.traffic.course → StandsCalling deeds old →
       StandsCalling (λ r. then_did (deeds r) (on.more r)) new
-  turns_stand_early turn old new t deeds on life units can marked quiet tracked clear h =
+  turns_stand turn old new t deeds on life units can marked quiet tracked clear h =
       let places = h.standing.all.places in
       let then_calling = turns_calling local two proper turn old new t deeds on life places clear h.own in
-      turns_stand turn old new t deeds on life units can marked
-      (λ r some one later sure. search (arith, calling_takes, judged_or))
+      let f = h.own.ahead.followed in
+      turns_with Left (IsCalling local two) deeds turn old new t on units can marked (peers_apart local two old f clear) h.own.ahead.bound
+      h.own.ahead.below (λ r some one later sure. search (arith, calling_takes, judged_or))
       (turn_shut Left (may_take old.holding.end.carrier) (may_take new.holding.end.carrier) (units_in old.coming)
       (units_in new.coming) old.course.traffic old.course.sessions
       (λ i c j r there here judged closing named live.
@@ -147,4 +114,5 @@ module _ (local : Local) (two : local.class2 ≡ true) (proper : AllProper) wher
       calling_dr local two turn old new t deeds on h.own then_calling clear places r some (life r some)
       (λ may. judged_tracked deeds old h r i c j there here judged named
       (subst (λ (n : ℕ). 0 < n → stage_at n old.holding.end.carrier ≡ early → Tracked old.course.traffic.connections n) same
-      (tracked i c there closing) some may)) live) h.shut) clear h
+      (tracked i c there closing) some may)) live) h.shut)
+      (λ begun. none_written old.put f.whole.put (sym f.put) ((whole_followed local two old f clear).some (f.begun ∙ begun))) h then_calling

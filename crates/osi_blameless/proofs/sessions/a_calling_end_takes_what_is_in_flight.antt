@@ -4,8 +4,7 @@
 use Rattle.osi_blameless.proofs.Vocabulary.{◌≡◌, ◌∙◌, ◌⊎◌, inl, inr, refl, sym, ap, subst, ℕ, ◌<◌, ◌≤◌, true, List, [], ◌++◌, Some, None}
 use Rattle.osi_blameless.proofs.Vocabulary.{arith, is_some, AllByRecursion, le-leb, lt-ltb, Value, Part, Local, IsOngoing, Continues, Deeds}
 use Rattle.osi_blameless.proofs.Vocabulary.{then_did, units_in, Turn, Life, amid, early, past, stage_at, stage_over, Course, Joint}
-use Rattle.osi_blameless.proofs.Vocabulary.{TakesTurn}
-use Rattle.osi_blameless.proofs.Vocabulary.{HaveSamePlaces}
+use Rattle.osi_blameless.proofs.Vocabulary.{TakesTurn, HaveSamePlaces}
 use Rattle.osi_carrier.specs.State.{State as Carrier}
 use Rattle.osi_honest.proofs.courses.how_long_a_connection_is_open.{Stage}
 use Rattle.osi_blameless.proofs.a_carrier_does_events.{none_of}

@@ -1,13 +1,12 @@
 -- A CC of class 0 opens the connection that the end has asked for, or answers; at the judge no other one has a reference that the end still
 -- uses. For the session of the connection of an end in class 0.
-use Rattle.osi_rules.specs.declared.disconnects.Disconnects.{Disconnects}
 use Rattle.osi_blameless.proofs.Vocabulary.{arith, ◌≡◌, ◌∙◌, ◌⊎◌, inl, inr, refl, sym, ap, subst, ℕ, Bool, true, false, if◌then◌else◌, List}
 use Rattle.osi_blameless.proofs.Vocabulary.{[], ◌∷◌, Option, Some, None, ◌==◌, slice_get, eqb-true, Connect, Value, confirm, Class}
 use Rattle.osi_blameless.proofs.Vocabulary.{Connection, Offer, Finding, Broke, NotJudged, Outside, Reach, Half, Phase, is_applied}
 use Rattle.osi_blameless.proofs.Vocabulary.{first_failed, given_again, is_refused, is_silent, Outcome, State, at_found, class_of}
 use Rattle.osi_blameless.proofs.Vocabulary.{connection_after, found_on, is_stopped, in_doubt, judged_on, sent_on, takes, unnamed_by, unlike}
 use Rattle.osi_blameless.proofs.Vocabulary.{AreJudged, Waits, after_change, calm_judge, set_there, Joined, Sessions, reference_of, taken}
-use Rattle.osi_blameless.proofs.Vocabulary.{Course, HaveSamePlaces, differ}
+use Rattle.osi_blameless.proofs.Vocabulary.{Course, HaveSamePlaces, differ, Disconnects}
 use Rattle.osi_side.specs.declared.directions.Direction.TheVariants as side
 use Rattle.osi_rules.specs.declared.directions.Direction.TheVariants.{Right}
 use Rattle.osi_rules.specs.declared.findings.Rule.TheVariants as rule
@@ -93,6 +92,13 @@ module _ (n : ℕ) (x : Connect) (at : ℕ) (c : Course) (places : HaveSamePlace
 
   pub effect : HasEffect s (class_of x) (takes Right unit s)
   effect = has_effect n x s goes class firm judged mild
+
+  -- it is for a connection with this reference
+  pub opens_within : (b : ℕ) → AreUpTo side.Left b t → IsWithin b n
+  opens_within b low =
+      let (k, here, one) = at_same s.connections t.live effect.place effect.connection places effect.there in
+      low.live effect.place k n here
+      (joined_named side.Right unit c n effect.place effect.connection k places refl effect.told effect.there effect.judged here)
 
   -- the one that waits for its answer has this reference
   pub awaits_this : (r p : ℕ) (o : Offer) (cs : List Connection) (drs : Disconnects) → s ≡ calm_judge cs drs → Waits r p o cs → n ≡ r

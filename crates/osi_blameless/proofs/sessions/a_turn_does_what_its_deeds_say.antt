@@ -1,9 +1,7 @@
 -- A turn of an end beside a judge used the packets that its connections took in this turn, and put the units that they put: these are
 -- written alike. So they can stand in the place of the others, in each step. For all connections of an end and a judge.
-use Rattle.std.proofs.Common.{arith}
 use Rattle.osi_blameless.proofs.Vocabulary.{[], ap, append_assoc, Bool, List, None, sym, ℕ, ◌++◌, ◌∙◌, ◌≡◌, flat_map-append, units_of}
-use Rattle.osi_blameless.proofs.Vocabulary.{Value}
-use Rattle.osi_blameless.proofs.Vocabulary.{Continues, Deeds, units_in, units_read, all_units, Turn, Joint, TakesTurn}
+use Rattle.osi_blameless.proofs.Vocabulary.{Value, Continues, Deeds, units_in, units_read, all_units, Turn, Joint, TakesTurn, arith}
 use Rattle.osi_blameless.proofs.what_is_put_is_what_is_written.{AreFirst, are_first}
 
 pub units_join : (some more : List (List ℕ)) → units_in (some ++ more) ≡ units_in some ++ units_in more

@@ -21,7 +21,8 @@ use Rattle.osi_blameless.proofs.no_unit_of_a_whole_end_is_a_break.{IsFairAlone, 
 use Rattle.osi_blameless.proofs.what_is_judged_beside_a_halted_side.{IsBeside, beside_own}
 use Rattle.osi_blameless.proofs.what_is_put_is_what_is_written.{none_written, same_written, starts_with, written_join}
 use Rattle.osi_blameless.proofs.what_passes_keeps_a_claim.{step_kept}
-use Rattle.osi_blameless.proofs.sessions.a_dt_that_is_too_long_stays_so.{IsTooLong, begins_too_long, only_of, own_is_dt, passes_too_long}
+use Rattle.osi_blameless.proofs.sessions.a_dt_that_is_too_long_stays_so.{IsTooLong, begins_too_long, only_of, passes_too_long}
+use Rattle.osi_blameless.proofs.sessions.what_the_stage_of_a_whole_end_says.{own_is_dt}
 use Rattle.osi_blameless.proofs.sessions.nobody_of_a_side_is_to_blame.{NoneIsToBlame}
 use Rattle.osi_blameless.proofs.sessions.an_end_beside_a_judge.{Goes, other_begins_goes, own_begins_goes, own_goes, turn_goes}
 use Rattle.osi_blameless.proofs.sessions.an_end_of_class_0_has_begun_what_a_judge_has_joined.{HasBegun}

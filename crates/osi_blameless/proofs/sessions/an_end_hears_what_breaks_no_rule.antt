@@ -5,8 +5,7 @@ use Rattle.osi_blameless.proofs.Vocabulary.{[], Bool, false, List, None, refl, S
 use Rattle.osi_blameless.proofs.Vocabulary.{acknowledge, confirm, data0, data2, destination_of, disconnect, disconnected, error, request}
 use Rattle.osi_blameless.proofs.Vocabulary.{Connect, Value, Zero, is_applied, is_refused, class_for, found_on, is_stopped, takes}
 use Rattle.osi_blameless.proofs.Vocabulary.{Traffic as State, Connection, Broke, Left, Right, Direction, other, IsOngoing, Deeds, Joined}
-use Rattle.osi_blameless.proofs.Vocabulary.{reference_of}
-use Rattle.osi_blameless.proofs.Vocabulary.{Sessions, unit_passes, judged_same, arith, way_of, Course}
+use Rattle.osi_blameless.proofs.Vocabulary.{reference_of, Sessions, unit_passes, judged_same, arith, way_of, Course}
 use Rattle.osi_rules.specs.declared.directions.Direction.{Direction as Way}
 use Rattle.osi_rules.specs.declared.directions.Direction.TheVariants as way
 use Rattle.osi_rules.specs.declared.findings.Reach.TheVariants as reach

@@ -1,10 +1,9 @@
 -- Once class 0 is selected and an end has taken the CC, it has its one connection open in class 0, or is over.
 -- For the sessions of an end after a break of the other side in class 0.
-use Rattle.osi_rules.specs.declared.disconnects.Disconnects.{Disconnects}
 use Rattle.osi_blameless.proofs.Vocabulary.{ap, is_some, List, None, Some, subst, sym, true, ℕ, ◌++◌, ◌∙◌, ◌∷◌, ◌≡◌, AllByRecursion}
 use Rattle.osi_blameless.proofs.Vocabulary.{confirm, Connect, Value, Standing, Zero, Local, Carrier, Traffic as State, Connection, Left}
 use Rattle.osi_blameless.proofs.Vocabulary.{Right, Direction, answered, known, quiet, refused, IsInZero, calm_judge, Whole, Joint, IsFirm}
-use Rattle.osi_blameless.proofs.Vocabulary.{arith, may_be_followed, ended, waits, IsZeroAt, calls_from}
+use Rattle.osi_blameless.proofs.Vocabulary.{arith, may_be_followed, ended, waits, IsZeroAt, calls_from, Disconnects}
 use Rattle.osi_fair.specs.Pieces.{units_in}
 use Rattle.osi_fair.specs.Wholes as wholes
 use Rattle.osi_fair.proofs.a_called_end_is_fair.{Stage as CalledStage}
@@ -12,8 +11,7 @@ use Rattle.osi_fair.proofs.how_requests_go_on.{Stage, asks, zero}
 use Rattle.osi_blameless.proofs.a_carrier_does_events.{none_of}
 use Rattle.osi_blameless.proofs.small_facts_that_many_lemmas_use.{none_some, over_none, zero_two}
 use Rattle.osi_blameless.proofs.steps_are_events.{IsFollowed}
-use Rattle.osi_blameless.proofs.sessions.a_called_end_stands_in_class_0.{stage_of}
-use Rattle.osi_blameless.proofs.sessions.a_calling_end_stands_until_class_2.{runs_staged}
+use Rattle.osi_blameless.proofs.sessions.what_the_stage_of_a_whole_end_says.{stage_of}
 use Rattle.osi_blameless.proofs.sessions.what_a_turn_puts_goes_to_its_peer.{one_of}
 
 -- its one connection is open in class 0
@@ -67,7 +65,7 @@ module _ (local : Local) where
       let same = f.like.lasts still in
       calling_open local f.whole j.holding.end.carrier still lasts (ap (λ (c : Carrier). c.class) same)
       (ap (λ (c : Carrier). c.live) same) (ap (λ (t : State). t.course.class) f.judge ∙ class)
-      ((runs_staged local j f).stage (ap (λ (t : State). t.course.left_stopped) f.judge ∙ firm.left))
+      (stage_of Left local j f firm)
       (subst (AllByRecursion MayBeFollowed) (sym (f.coming lasts)) all)
   end_opens Right j f firm class all lasts =
-      grind (arith, called_open, none_of f.whole.end.ended (sym f.like.over ∙ ap is_some lasts), stage_of local j f firm)
+      grind (arith, called_open, none_of f.whole.end.ended (sym f.like.over ∙ ap is_some lasts), stage_of Right local j f firm)

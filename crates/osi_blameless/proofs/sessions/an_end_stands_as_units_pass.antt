@@ -5,18 +5,25 @@ use Rattle.osi_blameless.proofs.Vocabulary.{append-nil}
 use Rattle.osi_blameless.proofs.Vocabulary.{AllByRecursion, slice_get, units_of, Value, CanBeWritten, Deeds, no_deeds, units_in, units_read}
 use Rattle.osi_blameless.proofs.Vocabulary.{Holding, Joined, spoken, none, unit_passes, units_pass, heard, begins_other, begins_own, Joint}
 use Rattle.osi_blameless.proofs.Vocabulary.{begin, passes_other, passes_own, Steps, Direction, other, HaveSamePlaces, arith, packet_begins}
-use Rattle.osi_blameless.proofs.Vocabulary.{calls_from, fresh_apart, no_item}
+use Rattle.osi_blameless.proofs.Vocabulary.{calls_from, fresh_apart, no_item, ◌≢◌, Continues, then_did, all_units, Turn, TakesTurn, reference_of, Part}
 use Rattle.osi_honest.specs.Courses.{Course}
+use Rattle.osi_judge.specs.Courses.{Course as Passed}
+use Rattle.osi_blameless.proofs.small_facts_that_many_lemmas_use.{can_more}
 use Rattle.osi_blameless.proofs.sessions.a_right_dt_has_one_place.{AreUsedApart}
 use Rattle.osi_blameless.proofs.sessions.a_turn_does_what_its_deeds_say.{units_join}
+use Rattle.osi_blameless.proofs.sessions.a_turn_leaves_all_standing.{IsOfOne, Turns}
 use Rattle.osi_blameless.proofs.sessions.all_connections_stand.{AllStand, all_room}
+use Rattle.osi_blameless.proofs.sessions.each_reference_of_an_end_is_new.{AreUpTo}
+use Rattle.osi_blameless.proofs.sessions.each_unit_of_a_turn_has_one_connection.{IsMarked, puts_wait}
+use Rattle.osi_blameless.proofs.sessions.what_is_left_for_an_end.{known_left}
 use Rattle.osi_blameless.proofs.sessions.an_end_hears_what_breaks_no_rule.{AreHeard}
 use Rattle.osi_blameless.proofs.sessions.connections_have_the_same_places.{unit_joins, unit_knows}
 use Rattle.osi_blameless.proofs.sessions.nothing_is_done_before_a_cr_passes.{known_from, may_take}
 use Rattle.osi_blameless.proofs.sessions.references_of_an_end_are_distinct.{AreDistinct, GivesNew, begins_distinct, unit_distinct}
 use Rattle.osi_blameless.proofs.sessions.steps_leave_all_standing.{IsProper, Standing, step_begins_other, step_begins_own, step_passes_own}
+use Rattle.osi_blameless.proofs.sessions.steps_leave_all_standing.{step_turns}
 use Rattle.osi_blameless.proofs.sessions.the_dr_of_the_other_side_is_in_flight.{AreShut, HaveRoom, begins_shut, own_shut}
-use Rattle.osi_blameless.proofs.sessions.what_stands_of_a_connection.{Known}
+use Rattle.osi_blameless.proofs.sessions.what_stands_of_a_connection.{Known, Takes, waiting_for}
 use Rattle.osi_blameless.proofs.sessions.what_passes_leaves_all_standing.{IsReady}
 
 -- what is known of the parts that are left over
@@ -119,3 +126,35 @@ module _ (d : Direction) (Own : (ℕ → Deeds) → Joint → Type 0) (deeds : �
         shut = subst (λ (l : List Value). AreShut d live l after.traffic after.sessions) all k.shut;
         can = h.can;
       })
+
+  -- A turn of which each unit has its mark, and which takes the first of what is in flight to each connection.
+  module _ (turn : Turn) (old new : Joint) (t : TakesTurn turn old new) (on : Continues (calls_from d) deeds old.holding turn new.holding)
+      (units : t.units ≡ all_units on.put) (can : AllByRecursion CanBeWritten (all_units on.put))
+      (marked : AllByRecursion (IsMarked d old.course.traffic old.course.sessions) on.put)
+      (apart : AreUsedApart d old.course.traffic.connections) (b : ℕ) (below : AreUpTo d b old.course.sessions)
+      (takes : (r : ℕ) → 0 < r → IsOfOne d r old.course.traffic old.course.sessions → (later : List Part) →
+      known_left (may_take old.holding.end.carrier) (units_in old.coming) r later →
+      Takes (on.more r) later (known_left (may_take new.holding.end.carrier) (units_in new.coming) r))
+      (shut : AreShut d (may_take new.holding.end.carrier) (units_in new.coming) old.course.traffic old.course.sessions)
+      (some : old.begun ≡ true → old.put ≢ []) (h : Stands old) where
+    turns : Turns d on.more (known_at old) (known_at new) t.units old.course.traffic old.course.sessions
+    turns = record {
+      puts = λ i c j r there here mine live.
+          let up : 0 < r = (below.live i j r here mine).0 in
+          puts_wait d deeds (known_at old) old.put old.begun old.course.traffic old.course.sessions h.standing.all apart h.distinct i c j r
+          there here mine live up on.put marked (on.more r).put (on.own r up)
+          ∙ ap (waiting_for (reference_of (other d) j)) (sym units);
+      takes = λ r one later sure.
+          let x = takes r sure.0 one later sure.1 in record { rest = x.rest; first = x.first; sure = (sure.0, x.sure) };
+    }
+
+    pub turns_with : Own (λ r. then_did (deeds r) (on.more r)) new → StandsWith d Own (λ r. then_did (deeds r) (on.more r)) new
+    turns_with own = record {
+      own = own;
+      standing = step_turns d deeds (known_at old) turn on.more (known_at new) old new t some turns h.standing;
+      distinct = subst (λ (c : Passed). AreDistinct d c.sessions) (sym t.course) h.distinct;
+      shut = subst (λ (c : Passed). AreShut d (may_take new.holding.end.carrier) (units_in new.coming) c.traffic c.sessions) (sym t.course)
+          shut;
+      can = subst (AllByRecursion CanBeWritten) (sym (t.put ∙ ap (λ (l : List Value). old.put ++ l) units))
+          (can_more old.put (all_units on.put) h.can can);
+    }

@@ -2,9 +2,8 @@
 -- nothing there.
 -- For all connections of an end and a judge, after breaks of the other side too.
 use Rattle.osi_blameless.proofs.Vocabulary.{[], ap, Bool, false, List, None, refl, Some, subst, sym, true, ℕ, ◌++◌, ◌<◌, ◌∙◌, ◌∷◌, ◌≡◌}
-use Rattle.osi_blameless.proofs.Vocabulary.{◌||◌}
-use Rattle.osi_blameless.proofs.Vocabulary.{Value, Part, early, Life, stage_at, stage_over, Time, Continues, Deeds, units_in, all_units}
-use Rattle.osi_blameless.proofs.Vocabulary.{Marked, Turn, parts_of, picked_join, Joint, TakesTurn, Carrier, arith, HasNoDr}
+use Rattle.osi_blameless.proofs.Vocabulary.{◌||◌, Value, Part, early, Life, stage_at, stage_over, Time, Continues, Deeds, units_in}
+use Rattle.osi_blameless.proofs.Vocabulary.{all_units, Marked, Turn, parts_of, picked_join, Joint, TakesTurn, Carrier, arith, HasNoDr}
 use Rattle.osi_blameless.proofs.sessions.a_calling_end_takes_nothing_before_its_cc.{quiet_turn}
 use Rattle.osi_blameless.proofs.sessions.a_turn_does_what_its_deeds_say.{turn_leaves, turn_uses}
 use Rattle.osi_blameless.proofs.sessions.nothing_is_done_before_a_cr_passes.{is_under_way, may_take}

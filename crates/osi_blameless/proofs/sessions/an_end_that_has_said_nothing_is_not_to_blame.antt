@@ -1,12 +1,10 @@
 -- No session of an end is to blame that has sent no DT; and what passes keeps that so, unless it is a DT of the end.
 -- For the law that no session of an end is blamed first, if the end doesn't offer class 2 and class 0 is not selected.
 use Rattle.osi_blameless.proofs.Vocabulary.{[], Bool, false, inl, inr, List, Some, subst, sym, ℕ, ◌∙◌, ◌∷◌, ◌≡◌, ◌⊎◌, slice_get, Value}
-use Rattle.osi_blameless.proofs.Vocabulary.{Zero, Local}
-use Rattle.osi_blameless.proofs.Vocabulary.{meaning_if, meant, Traffic as State, takes, other, Direction, AllProper, Deeds, all_begin}
-use Rattle.osi_blameless.proofs.Vocabulary.{asked}
-use Rattle.osi_blameless.proofs.Vocabulary.{Joined, Sessions, spoken, taken, unit_passes, units_pass, way_of, Room, after_add}
-use Rattle.osi_blameless.proofs.Vocabulary.{after_set, IsOngoing, begins_other, begins_own, Joint, passes_other, passes_own, Step, Steps}
-use Rattle.osi_blameless.proofs.Vocabulary.{calls_from, arith, Course}
+use Rattle.osi_blameless.proofs.Vocabulary.{Zero, Local, meaning_if, meant, Traffic as State, takes, other, Direction, AllProper, Deeds}
+use Rattle.osi_blameless.proofs.Vocabulary.{all_begin, asked, Joined, Sessions, spoken, taken, unit_passes, units_pass, way_of, Room}
+use Rattle.osi_blameless.proofs.Vocabulary.{after_add, after_set, IsOngoing, begins_other, begins_own, Joint, passes_other, passes_own}
+use Rattle.osi_blameless.proofs.Vocabulary.{Step, Steps, calls_from, arith, Course}
 use Rattle.osi_fair.specs.Wholes as wholes
 use Rattle.osi_judge.specs.Connections.{packet_begins}
 use Rattle.osi_judge.specs.Connections as joined
@@ -16,7 +14,7 @@ use Rattle.osi_blameless.proofs.sessions.all_connections_stand.{map_of}
 use Rattle.osi_blameless.proofs.sessions.connections_have_the_same_places.{Agree, packet_agrees, unit_agrees, unit_joins, units_agree}
 use Rattle.osi_blameless.proofs.sessions.what_a_unit_does_at_its_place.{Does, asks_again, asks_more, nowhere, somewhere, unit_does}
 use Rattle.osi_blameless.proofs.sessions.what_stands_of_a_connection.{is_part}
-use Rattle.osi_blameless.proofs.sessions.what_is_asked_of_what_holds_at_each_step.{Keeps}
+use Rattle.osi_blameless.proofs.sessions.what_is_asked_of_what_holds_at_each_step.{Keeps, Leads}
 
 -- ---- sides that have said nothing
 
@@ -98,9 +96,8 @@ module _ (proper : AllProper) (d : Direction) (local : Local) where
       IsMute d new.course.sessions → HasSaidNothing d local deeds old → HasSaidNothing d local then_deeds new
   stays_mute deeds then_deeds step old new does places mute h = grind (arith, step_followed)
 
-  pub mute_keeps : PutsNoDt d local → Keeps Zero d local (HasSaidNothing d local)
-  mute_keeps none_put = record {
-    begins = grind (arith, begin_followed);
+  mute_leads : PutsNoDt d local → Leads Zero d local (HasSaidNothing d local) (HasSaidNothing d local)
+  mute_leads none_put = record {
     own_begins = λ deeds old new step courses few h.
         stays_mute deeds deeds begins_own old new step
         (subst (λ (j : Joint). Agree j.course) (sym step.2) (packet_agrees d old.course h.places))
@@ -114,7 +111,7 @@ module _ (proper : AllProper) (d : Direction) (local : Local) where
         (subst (λ (j : Joint). Agree j.course) (sym step.4) (unit_agrees d at v old.course h.places))
         (subst (λ (j : Joint). IsMute d j.course.sessions) (sym step.4)
         (mute_unit d d at v old.course h.places (λ same. none_put at v old new step h.followed clear) h.mute)) h;
-    other_passes = λ deeds at octets units old new step taken h.
+    other_passes = λ deeds at octets units old new step taken not h.
         stays_mute deeds deeds (passes_other at octets units) old new step
         (subst (λ (j : Joint). Agree j.course) (sym step.2) (units_agree (other d) at units old.course h.places))
         (subst (λ (j : Joint). IsMute d j.course.sessions) (sym step.2) (mute_units d at units old.course h.places h.mute)) h;
@@ -122,3 +119,6 @@ module _ (proper : AllProper) (d : Direction) (local : Local) where
     none = λ deeds j courses h. mute_none d j.course.sessions h.mute;
     none_amid = grind (arith, mute_none, mute_units);
   }
+
+  pub mute_keeps : PutsNoDt d local → Keeps Zero d local (HasSaidNothing d local)
+  mute_keeps none_put = record { begins = grind (arith, begin_followed); leads = mute_leads none_put }

@@ -1,13 +1,11 @@
 -- At a judge one connection has class 0, with a reference of the end, and of all others the references are gone: so it stays as packets
 -- begin and as units pass in class 0. For the session of the connection of an end in class 0.
 use Rattle.osi_blameless.proofs.Vocabulary.{arith, ◌≡◌, ◌∙◌, ◌⊎◌, inl, inr, refl, sym, ap, subst, ℕ, Bool, true, false, set, Some, None}
-use Rattle.osi_blameless.proofs.Vocabulary.{◌==◌}
-use Rattle.osi_blameless.proofs.Vocabulary.{slice_get, eqb-true, slice_get-map, Connect, Value, acknowledge, confirm, data0, data2}
+use Rattle.osi_blameless.proofs.Vocabulary.{◌==◌, slice_get, eqb-true, slice_get-map, Connect, Value, acknowledge, confirm, data0, data2}
 use Rattle.osi_blameless.proofs.Vocabulary.{disconnect, disconnected, error, request, Zero, Direction, Connection, Reach, begins}
-use Rattle.osi_blameless.proofs.Vocabulary.{is_refused}
-use Rattle.osi_blameless.proofs.Vocabulary.{State, class_for, connection_after, is_stopped, meaning_if, meant, route_zero, routed, takes}
-use Rattle.osi_blameless.proofs.Vocabulary.{unlike, after_change, set_there, Joined, Sessions, all_begin, reference_of, taken, way_of}
-use Rattle.osi_blameless.proofs.Vocabulary.{HaveSamePlaces}
+use Rattle.osi_blameless.proofs.Vocabulary.{is_refused, State, class_for, connection_after, is_stopped, meaning_if, meant, route_zero}
+use Rattle.osi_blameless.proofs.Vocabulary.{routed, takes, unlike, after_change, set_there, Joined, Sessions, all_begin, reference_of}
+use Rattle.osi_blameless.proofs.Vocabulary.{taken, way_of, HaveSamePlaces}
 use Rattle.osi_rules.specs.declared.directions.Direction.{Direction as Way}
 use Rattle.osi_rules.specs.Traffic as traffic
 use Rattle.osi_judge.specs.Connections.{packet_begins}

@@ -2,16 +2,12 @@
 -- all that is put for it, and no other connection that the end has open at the judge has its reference of the other side. For all
 -- connections of a called end and a judge.
 use Rattle.osi_blameless.proofs.Vocabulary.{[], ap, append_assoc, Bool, false, inl, inr, List, None, Option, refl, Some, subst, sym, true}
-use Rattle.osi_blameless.proofs.Vocabulary.{ℕ}
-use Rattle.osi_blameless.proofs.Vocabulary.{◌&&◌, ◌++◌, ◌∙◌, ◌∷◌, ◌≡◌, ◌⊎◌, eqb-true, AllByRecursion, slice_get, acknowledge, confirm}
+use Rattle.osi_blameless.proofs.Vocabulary.{ℕ, ◌&&◌, ◌++◌, ◌∙◌, ◌∷◌, ◌≡◌, ◌⊎◌, eqb-true, AllByRecursion, slice_get, acknowledge, confirm}
 use Rattle.osi_blameless.proofs.Vocabulary.{Connect, data2, disconnect, Value, Standing, Move, Two, Local, acceptance, opened_link}
-use Rattle.osi_blameless.proofs.Vocabulary.{value_at}
-use Rattle.osi_blameless.proofs.Vocabulary.{linked, is_open, uses, Connection, Way as Direction, Sessions, Answering, answering, AreStrays}
-use Rattle.osi_blameless.proofs.Vocabulary.{Asked, Called, comes, line_of, refuses, runs, Stand, StrayIf, at_first, at_join, first_at}
-use Rattle.osi_blameless.proofs.Vocabulary.{is_at}
-use Rattle.osi_blameless.proofs.Vocabulary.{Placed, values, NamesApart as AreApart, keep, Act, ActsAlong, Line, opened_line, units_put}
-use Rattle.osi_blameless.proofs.Vocabulary.{Whole}
-use Rattle.osi_blameless.proofs.Vocabulary.{HaveSamePlaces, arith, AreNamedApart, each_sound, differ}
+use Rattle.osi_blameless.proofs.Vocabulary.{value_at, linked, is_open, uses, Connection, Way as Direction, Sessions, Answering, answering}
+use Rattle.osi_blameless.proofs.Vocabulary.{AreStrays, Asked, Called, comes, line_of, refuses, runs, Stand, StrayIf, at_first, at_join}
+use Rattle.osi_blameless.proofs.Vocabulary.{first_at, is_at, Placed, values, NamesApart as AreApart, keep, Act, ActsAlong, Line}
+use Rattle.osi_blameless.proofs.Vocabulary.{opened_line, units_put, Whole, HaveSamePlaces, arith, AreNamedApart, each_sound, differ}
 use Rattle.osi_side.specs.declared.directions.Direction.TheVariants as side
 use Rattle.osi_rules.specs.declared.directions.Direction.TheVariants.{Left, Right}
 use Rattle.osi_fair.proofs.each_connection_of_a_called_end.{past}

@@ -2,14 +2,11 @@
 -- selected, nobody of the end is ever to blame; or something else holds from a unit of the other side on. For the laws that no session of
 -- an end is to blame, in either class.
 use Rattle.osi_blameless.proofs.Vocabulary.{◌≡◌, ◌∙◌, ◌⊎◌, inl, inr, refl, sym, ap, subst, ℕ, ◌^◌, ◌<◌, false, Ok, List, [], ◌∷◌, ◌++◌}
-use Rattle.osi_blameless.proofs.Vocabulary.{length, Option}
-use Rattle.osi_blameless.proofs.Vocabulary.{Some, append_assoc, append-nil, arith, slice_get, IsOctets, units_of, Value, Class, Local}
-use Rattle.osi_blameless.proofs.Vocabulary.{Capture}
-use Rattle.osi_blameless.proofs.Vocabulary.{other, Direction, Finding, is_applied, reach_of, class_for, takes, stops_last, Holding, Deeds}
-use Rattle.osi_blameless.proofs.Vocabulary.{all_did, no_deeds, IsFresh, Turn, AllProper, Joined, spoken, heard, unit_passes, units_pass}
-use Rattle.osi_blameless.proofs.Vocabulary.{way_of}
-use Rattle.osi_blameless.proofs.Vocabulary.{comes_to, Joint, Step, Steps, StepsAlong, TakesTurn, begin, begins_other, begins_own}
-use Rattle.osi_blameless.proofs.Vocabulary.{passes_other, passes_own, turns, TurnsBad, calls_from}
+use Rattle.osi_blameless.proofs.Vocabulary.{length, Option, Some, append_assoc, append-nil, arith, slice_get, IsOctets, units_of, Value}
+use Rattle.osi_blameless.proofs.Vocabulary.{Class, Local, Capture, other, Direction, Finding, is_applied, reach_of, class_for, takes}
+use Rattle.osi_blameless.proofs.Vocabulary.{stops_last, Holding, Deeds, all_did, no_deeds, IsFresh, Turn, AllProper, Joined, spoken, heard}
+use Rattle.osi_blameless.proofs.Vocabulary.{unit_passes, units_pass, way_of, comes_to, Joint, Step, Steps, StepsAlong, TakesTurn, begin}
+use Rattle.osi_blameless.proofs.Vocabulary.{begins_other, begins_own, passes_other, passes_own, turns, TurnsBad, calls_from}
 use Rattle.osi_rules.specs.declared.findings.Reach.TheVariants as reach
 use Rattle.osi_fair.specs.Wholes as wholes
 use Rattle.osi_judge.specs.Courses.{Course as Passed}
@@ -139,8 +136,9 @@ module _ (proper : AllProper) (barred : Class) (d : Direction) (local : Local) (
         then_blameless taken =
             let parts : units ≡ (front ++ v ∷ []) ++ back = is ∙ sym (append_assoc front (v ∷ []) back) in
             subst (λ (c : Passed). NoneIsToBlame d c.sessions) joined
-            (k.none_amid deeds at octets (front ++ v ∷ []) back old new
-            (subst (λ (l : List Value). Steps d (passes_other at octets l) old new) parts (all, read, refl)) g.courses taken g.holds)
+            (k.leads.none_amid deeds at octets (front ++ v ∷ []) back old new
+            (subst (λ (l : List Value). Steps d (passes_other at octets l) old new) parts (all, read, refl)) g.courses taken
+            (λ is. next_not (ap (λ (c : Passed). c.traffic.course.class) (sym joined) ∙ is)) g.holds)
 
         on : IsPassed barred d v (After front) → IsStillJudged barred next → SoFar barred d at (front ++ v ∷ []) old.course
         on passed judged =
@@ -184,7 +182,7 @@ module _ (proper : AllProper) (barred : Class) (d : Direction) (local : Local) (
 
       other_by : Passing → Stays deeds new
       other_by (all_taken so) =
-          goes (other_goes proper barred d local Inv k deeds at octets units old new (all, read, refl) g so.passed so.judged so.never)
+          goes (other_goes proper barred d local Inv k deeds at octets units old new (all, read, refl) g so.passed so.not so.judged so.never)
       other_by (then_done s) = ended s
       other_by (then_rests r) = rested r
 

@@ -5,16 +5,14 @@ use Rattle.osi_blameless.proofs.Vocabulary.{[], ap, append_assoc, arith, Bool, f
 use Rattle.osi_blameless.proofs.Vocabulary.{suc, sym, true, ℕ, ◌++◌, ◌<◌, ◌==◌, ◌∙◌, ◌∷◌, ◌≡◌, eq-eqb, AllByRecursion, slice_get, confirm}
 use Rattle.osi_blameless.proofs.Vocabulary.{Connect, data0, disconnect, request, Value, written, Standing, Local, value_at, closing, Live}
 use Rattle.osi_blameless.proofs.Vocabulary.{linked, Carrier, has_given, Traffic as State, Connection, Left, amid, early, Life, opens_by}
-use Rattle.osi_blameless.proofs.Vocabulary.{past}
-use Rattle.osi_blameless.proofs.Vocabulary.{Time as Stage, stage_at, stays, all_units_more, Opens, Continues, Deeds, all_units, Marked}
-use Rattle.osi_blameless.proofs.Vocabulary.{Turn}
-use Rattle.osi_blameless.proofs.Vocabulary.{Sessions, Followed, is_tracked, IsOwned, Row, Tracked, each_picked, first_kept, is_dc, IsDc}
-use Rattle.osi_blameless.proofs.Vocabulary.{IsOngoing, names, those, those_join, Line, Whole, Joint, TakesTurn, HaveSamePlaces, AreGiven}
-use Rattle.osi_blameless.proofs.Vocabulary.{AreApart, BeforeOpen, WhileOpen, stage_by, Awaiting, FirstOf, HasNoCc, asked_so, goes, le-leb}
-use Rattle.osi_blameless.proofs.Vocabulary.{lt-ltb}
+use Rattle.osi_blameless.proofs.Vocabulary.{past, Time as Stage, stage_at, stays, all_units_more, Opens, Continues, Deeds, all_units}
+use Rattle.osi_blameless.proofs.Vocabulary.{Marked, Turn, Sessions, Followed, is_tracked, IsOwned, Row, Tracked, each_picked, first_kept}
+use Rattle.osi_blameless.proofs.Vocabulary.{is_dc, IsDc, IsOngoing, names, those, those_join, Line, Whole, Joint, TakesTurn, HaveSamePlaces}
+use Rattle.osi_blameless.proofs.Vocabulary.{AreGiven, AreApart, BeforeOpen, WhileOpen, stage_by, Awaiting, FirstOf, HasNoCc, asked_so, goes}
+use Rattle.osi_blameless.proofs.Vocabulary.{le-leb, lt-ltb, awaits}
 use Rattle.osi_carrier.specs.State.{asked}
 use Rattle.osi_fair.specs.Wholes.{begin}
-use Rattle.osi_honest.proofs.courses.the_first_cc_opens_a_connection.{awaits, opens_so}
+use Rattle.osi_honest.proofs.courses.the_first_cc_opens_a_connection.{opens_so}
 use Rattle.osi_judge.specs.Courses.{Course as Passed}
 use Rattle.osi_blameless.proofs.small_facts_that_many_lemmas_use.{and_both, over_not, all_join as all_of_both}
 use Rattle.osi_blameless.proofs.steps_are_events.{IsFollowed}

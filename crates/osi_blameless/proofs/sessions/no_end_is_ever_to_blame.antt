@@ -1,10 +1,9 @@
 -- No session of an end is ever to blame, whatever the other side breaks, whichever class is selected; so the first break of all is of the
 -- other side. For the laws that no session of an end is to blame after a break, nor blamed first.
-use Rattle.osi_blameless.proofs.Vocabulary.{slice_get, ◌⊎◌, ℕ, inl, inr, ◌≡◌, refl, ◌^◌, ◌<◌, Bool, false, true, List, length, Option}
-use Rattle.osi_blameless.proofs.Vocabulary.{Some, Class, Zero, Local, Capture, Direction, Left, Right, other, AsSent, AsParts, CalledLaw}
+use Rattle.osi_blameless.proofs.Vocabulary.{slice_get, ◌⊎◌, ℕ, inl, inr, ◌≡◌, refl, ◌^◌, ◌<◌, Bool, false, true, List, length, Option, Some}
+use Rattle.osi_blameless.proofs.Vocabulary.{Class, Zero, Local, Capture, Direction, Left, Right, other, AsSent, AsParts, CalledLaw}
 use Rattle.osi_blameless.proofs.Vocabulary.{CallerLaw, Holding, IsFresh, IsSeen, Run, Turn, Known, IsToBlame, Joined, Sessions, Course}
-use Rattle.osi_blameless.proofs.Vocabulary.{comes_to}
-use Rattle.osi_blameless.proofs.Vocabulary.{AreOctets, differ, BreaksFirst, First}
+use Rattle.osi_blameless.proofs.Vocabulary.{comes_to, AreOctets, differ, BreaksFirst, First}
 use Rattle.osi_blameless.proofs.a_capture_is_steps.{capture_steps}
 use Rattle.osi_blameless.proofs.in_class_0_one_side_alone_is_judged.{IsLoose}
 use Rattle.osi_blameless.proofs.no_unit_of_a_whole_end_is_a_break.{called_is_fair, called_is_fair_in_class_0}
@@ -12,14 +11,11 @@ use Rattle.osi_blameless.proofs.no_unit_of_a_whole_end_is_a_break.{calling_is_fa
 use Rattle.osi_blameless.proofs.no_unit_of_an_end_breaks_a_rule.{always_unbroken}
 use Rattle.osi_blameless.proofs.small_facts_that_many_lemmas_use.{zero_two}
 use Rattle.osi_blameless.proofs.what_the_turns_among_steps_do.{ComesByDoing, comes_by_steps}
-use Rattle.osi_blameless.proofs.sessions.a_called_end_stands_until_class_2.{StandsCalledUntilTwo}
-use Rattle.osi_blameless.proofs.sessions.a_calling_end_stands_until_class_2.{StandsUntilTwo}
 use Rattle.osi_blameless.proofs.sessions.a_calling_end_without_class_2_puts_no_dt.{calling_puts_none}
 use Rattle.osi_blameless.proofs.sessions.an_end_that_has_said_nothing_is_not_to_blame.{HasSaidNothing, mute_keeps}
-use Rattle.osi_blameless.proofs.sessions.an_end_of_class_0_has_begun_what_a_judge_has_joined.{called_begun, calling_begun}
+use Rattle.osi_blameless.proofs.sessions.an_end_of_class_0_has_begun_what_a_judge_has_joined.{begun_until_two}
 use Rattle.osi_blameless.proofs.sessions.nobody_of_a_side_is_to_blame.{NeverToBlame, NoneIsToBlame}
-use Rattle.osi_blameless.proofs.sessions.what_a_called_end_keeps_until_class_2.{called_early_keeps}
-use Rattle.osi_blameless.proofs.sessions.what_a_calling_end_keeps_until_class_2.{early_keeps}
+use Rattle.osi_blameless.proofs.sessions.what_an_end_keeps_until_class_2.{StandsUntilTwo, keeps_until_two}
 use Rattle.osi_blameless.proofs.sessions.what_a_called_end_keeps_unless_in_class_0.{StandsOrSelected, called_keeps}
 use Rattle.osi_blameless.proofs.sessions.what_a_calling_end_keeps_unless_in_class_0.{StandsQuiet, calling_keeps}
 use Rattle.osi_blameless.proofs.sessions.no_session_is_to_blame_unless_class_2_is_selected.{ends_well}
@@ -63,8 +59,8 @@ module _ (known : Known) (known_of : AsSent) (parts : AsParts) (caller : CallerL
         in_zero zero =
             by_class_0 Right zero
             (ends_well known Right local (called_is_fair local) (called_is_fair_in_class_0 local)
-            (StandsCalledUntilTwo local known.proper)
-            (called_early_keeps local known.proper known_of parts caller called) (called_begun local known.proper) begin capture fresh comes
+            (StandsUntilTwo Right local known.proper) (keeps_until_two local known.proper known_of parts caller called Right)
+            (begun_until_two Right local known.proper) begin capture fresh comes
             (record { not = λ two. zero_two selected zero two; few = few }))
 
         without : (selected ≡ Some Zero → ⊥) → NeverToBlame Right course
@@ -78,8 +74,9 @@ module _ (known : Known) (known_of : AsSent) (parts : AsParts) (caller : CallerL
         in_zero : selected ≡ Some Zero → NeverToBlame Left course
         in_zero zero =
             by_class_0 Left zero
-            (ends_well known Left local (calling_is_fair local) (calling_is_fair_in_class_0 local) (StandsUntilTwo local)
-            (early_keeps local known.proper known_of parts caller called) (calling_begun local) begin capture fresh comes
+            (ends_well known Left local (calling_is_fair local) (calling_is_fair_in_class_0 local)
+            (StandsUntilTwo Left local known.proper) (keeps_until_two local known.proper known_of parts caller called Left)
+            (begun_until_two Left local known.proper) begin capture fresh comes
             (record { not = λ two. zero_two selected zero two; few = few }))
 
         without : (selected ≡ Some Zero → ⊥) → (b : Bool) → local.class2 ≡ b → NeverToBlame Left course

@@ -1,13 +1,11 @@
 -- No session of an end is to blame, whatever the other side breaks, as long as class 2 is not selected: after a break with which the
 -- judging of the other side ends, an end goes on as if it had not come. For the law that no session of an end is to blame after a break.
 use Rattle.osi_blameless.proofs.Vocabulary.{◌≡◌, ◌∙◌, ◌⊎◌, inl, inr, refl, sym, ap, subst, ℕ, ◌^◌, ◌<◌, Bool, true, false, Ok, List, []}
-use Rattle.osi_blameless.proofs.Vocabulary.{◌∷◌}
-use Rattle.osi_blameless.proofs.Vocabulary.{◌++◌, length, Option, Some, None, arith, AllByRecursion, IsOctets, units_of, Value, Two, Zero}
-use Rattle.osi_blameless.proofs.Vocabulary.{Local, Capture, other, Direction, Finding, Broke, TooMany, Reach, is_applied, reach_of}
-use Rattle.osi_blameless.proofs.Vocabulary.{class_for}
-use Rattle.osi_blameless.proofs.Vocabulary.{is_stopped, takes, Deeds, Holding, IsFresh, Known, Cause, unit_passes, units_pass, way_of}
-use Rattle.osi_blameless.proofs.Vocabulary.{comes_to}
-use Rattle.osi_blameless.proofs.Vocabulary.{Joint, Step, Steps, calls_from, Class, IsNoPacket, IsUnread, LaterAlong, spoilt}
+use Rattle.osi_blameless.proofs.Vocabulary.{◌∷◌, ◌++◌, length, Option, Some, None, arith, AllByRecursion, IsOctets, units_of, Value, Two}
+use Rattle.osi_blameless.proofs.Vocabulary.{Zero, Local, Capture, other, Direction, Finding, Broke, TooMany, Reach, is_applied, reach_of}
+use Rattle.osi_blameless.proofs.Vocabulary.{class_for, is_stopped, takes, Deeds, Holding, IsFresh, Known, Cause, unit_passes, units_pass}
+use Rattle.osi_blameless.proofs.Vocabulary.{way_of, comes_to, Joint, Step, Steps, calls_from, Class, IsNoPacket, IsUnread, LaterAlong}
+use Rattle.osi_blameless.proofs.Vocabulary.{spoilt}
 use Rattle.osi_blameless.proofs.what_the_turns_among_steps_do.{ComesByDoing}
 use Rattle.osi_rules.specs.declared.findings.Reach.TheVariants as reach
 use Rattle.osi_rules.specs.declared.findings.Rule.TheVariants as rule

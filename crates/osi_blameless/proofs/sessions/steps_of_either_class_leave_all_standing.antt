@@ -2,8 +2,7 @@
 -- while they stand. For the session of each connection of an end.
 use Rattle.osi_blameless.proofs.Vocabulary.{arith, ◌≡◌, sym, subst, ℕ, Bool, true, false, List, ◌∷◌, Option, Some, Value, Class, Zero}
 use Rattle.osi_blameless.proofs.Vocabulary.{Direction, AsSent, AsParts, CalledLaw, CallerLaw, State, class_for, is_stopped, takes, End}
-use Rattle.osi_blameless.proofs.Vocabulary.{Deeds}
-use Rattle.osi_blameless.proofs.Vocabulary.{Sessions, unit_passes, way_of, Joint, Steps, passes_own, calls_from}
+use Rattle.osi_blameless.proofs.Vocabulary.{Deeds, Sessions, unit_passes, way_of, Joint, Steps, passes_own, calls_from}
 use Rattle.osi_honest.specs.Courses.{Course}
 use Rattle.osi_judge.specs.Courses.{Course as Passed}
 use Rattle.osi_blameless.proofs.no_unit_of_a_whole_end_is_a_break.{IsNoBreak}

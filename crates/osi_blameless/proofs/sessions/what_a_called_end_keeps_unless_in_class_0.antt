@@ -199,26 +199,28 @@ module _ (local : Local) (proper : AllProper) where
     pub called_keeps : Keeps Zero Right local StandsOrSelected
     called_keeps = record {
       begins = stands_first;
-      own_begins = λ deeds old new step courses few h. record {
-        how = own_begins deeds old new step (λ s. begins_own_stands local proper deeds old new step courses few s) h.how;
-        uncalled = then_uncalled begins_own old new step h.uncalled;
+      leads = record {
+        own_begins = λ deeds old new step courses few h. record {
+          how = own_begins deeds old new step (λ s. begins_own_stands local proper deeds old new step courses few s) h.how;
+          uncalled = then_uncalled begins_own old new step h.uncalled;
+        };
+        other_begins = λ deeds old new step h. record {
+          how = other_begins deeds old new step h.how;
+          uncalled = then_uncalled begins_other old new step h.uncalled;
+        };
+        own_passes = λ deeds at v old new step fine clear then_two h. record {
+          how = own_passes deeds at v old new step fine clear then_two h.how;
+          uncalled = then_uncalled (passes_own at v) old new step h.uncalled;
+        };
+        other_passes = λ deeds at octets units old new step taken not h. record {
+          how = other_passes deeds at octets units old new step taken h.how;
+          uncalled = then_uncalled (passes_other at octets units) old new step h.uncalled;
+        };
+        turn = λ turn old new t deeds does f g clear h. record {
+          how = takes_turn turn old new t deeds does g clear h.uncalled h.how;
+          uncalled = then_uncalled (turns turn) old new t h.uncalled;
+        };
+        none = λ deeds j courses h. nobody deeds j courses h.how;
+        none_amid = λ deeds at octets front back old new step courses taken not h. nobody_amid deeds at front old courses taken h.how;
       };
-      other_begins = λ deeds old new step h. record {
-        how = other_begins deeds old new step h.how;
-        uncalled = then_uncalled begins_other old new step h.uncalled;
-      };
-      own_passes = λ deeds at v old new step fine clear then_two h. record {
-        how = own_passes deeds at v old new step fine clear then_two h.how;
-        uncalled = then_uncalled (passes_own at v) old new step h.uncalled;
-      };
-      other_passes = λ deeds at octets units old new step taken h. record {
-        how = other_passes deeds at octets units old new step taken h.how;
-        uncalled = then_uncalled (passes_other at octets units) old new step h.uncalled;
-      };
-      turn = λ turn old new t deeds does f g clear h. record {
-        how = takes_turn turn old new t deeds does g clear h.uncalled h.how;
-        uncalled = then_uncalled (turns turn) old new t h.uncalled;
-      };
-      none = λ deeds j courses h. nobody deeds j courses h.how;
-      none_amid = λ deeds at octets front back old new step courses taken h. nobody_amid deeds at front old courses taken h.how;
     }

@@ -15,7 +15,7 @@ use Rattle.osi_blameless.proofs.sessions.an_end_hears_what_breaks_no_rule.{AreFi
 use Rattle.osi_blameless.proofs.sessions.a_calling_end_is_ready.{begin_calling, whole_joined}
 use Rattle.osi_blameless.proofs.sessions.a_calling_end_stands_as_units_pass.{StandsCalling, begins_other_stands, begins_own_stands}
 use Rattle.osi_blameless.proofs.sessions.an_end_stands_as_units_pass.{distinct_first, known_at, standing_first}
-use Rattle.osi_blameless.proofs.sessions.a_calling_end_stands_as_units_pass.{passes_other_stands, passes_own_stands, turns_stand_early}
+use Rattle.osi_blameless.proofs.sessions.a_calling_end_stands_as_units_pass.{passes_other_stands, passes_own_stands, turns_stand}
 use Rattle.osi_blameless.proofs.sessions.nobody_of_a_side_is_to_blame.{NoneIsToBlame}
 use Rattle.osi_blameless.proofs.sessions.each_unit_of_a_calling_end_has_a_home.{calling_marked}
 use Rattle.osi_blameless.proofs.sessions.what_is_asked_of_what_holds_at_each_step.{HaveCourses, ArePassed, Keeps}
@@ -50,9 +50,9 @@ module _ (local : Local) (two : local.class2 ≡ true) (proper : AllProper) wher
   own_passes deeds at v old new step fine clear then_two h = search (arith, passes_own_stands, passes_own_quiet)
 
   other_passes : (deeds : ℕ → Deeds) (at : ℕ) (octets : List ℕ) (units : List Value) (old new : Joint) →
-      Steps Left (passes_other at octets units) old new → ArePassed Zero Left at units old.course → StandsQuiet deeds old →
-      StandsQuiet deeds new
-  other_passes deeds at octets units old new step taken h = search (arith, fine_of, passes_other_stands, passes_other_quiet)
+      Steps Left (passes_other at octets units) old new → ArePassed Zero Left at units old.course →
+      (new.course.traffic.course.class ≡ Some Zero → ⊥) → StandsQuiet deeds old → StandsQuiet deeds new
+  other_passes deeds at octets units old new step taken not h = search (arith, fine_of, passes_other_stands, passes_other_quiet)
 
   takes_turn : (turn : Turn) (old new : Joint) (t : TakesTurn turn old new) (deeds : ℕ → Deeds)
       (does : TurnDoes true deeds turn old new t) → IsFollowed Left (wholes.begin true local) old →
@@ -61,7 +61,7 @@ module _ (local : Local) (two : local.class2 ≡ true) (proper : AllProper) wher
   takes_turn turn old new t deeds does f g clear h =
       let on = does.of.on in
       record {
-        stands = turns_stand_early local two proper turn old new t deeds on does.of.life does.units on.can
+        stands = turns_stand local two proper turn old new t deeds on does.of.life does.units on.can
             (calling_marked local two deeds turn old new t on does.of.life does.of.first f g clear h.stands.standing.all.places)
             (λ r some may. (h.quiet clear).before r (some, may))
             (grind arith)
@@ -78,8 +78,8 @@ module _ (local : Local) (two : local.class2 ≡ true) (proper : AllProper) wher
     -- after some units of a packet
     nobody_amid : (deeds : ℕ → Deeds) (at : ℕ) (octets : List ℕ) (front back : List Value) (old new : Joint) →
         Steps Left (passes_other at octets (front ++ back)) old new → HaveCourses Left deeds old → ArePassed Zero Left at front old.course →
-        StandsQuiet deeds old → NoneIsToBlame Left (units_pass Right at front old.course).sessions
-    nobody_amid deeds at octets front back old new (all_octets, read, is) courses taken all =
+        ((units_pass Right at front old.course).traffic.course.class ≡ Some Zero → ⊥) → StandsQuiet deeds old → NoneIsToBlame Left (units_pass Right at front old.course).sessions
+    nobody_amid deeds at octets front back old new (all_octets, read, is) courses taken not all =
         let h = all.stands in
         let f = h.own.ahead.followed in
         let behind : IsBehind local old.put old.course = search (arith, whole_joined) in
@@ -95,11 +95,13 @@ module _ (local : Local) (two : local.class2 ≡ true) (proper : AllProper) wher
     pub calling_keeps : Keeps Zero Left local StandsQuiet
     calling_keeps = record {
       begins = stands_first;
-      own_begins = λ deeds old new step courses few h. search (arith, begins_own_stands, begins_own_quiet);
-      other_begins = λ deeds old new step h. search (arith, begins_other_stands, begins_other_quiet);
-      own_passes = own_passes;
-      other_passes = other_passes;
-      turn = takes_turn;
-      none = nobody;
-      none_amid = nobody_amid;
+      leads = record {
+        own_begins = λ deeds old new step courses few h. search (arith, begins_own_stands, begins_own_quiet);
+        other_begins = λ deeds old new step h. search (arith, begins_other_stands, begins_other_quiet);
+        own_passes = own_passes;
+        other_passes = other_passes;
+        turn = takes_turn;
+        none = nobody;
+        none_amid = nobody_amid;
+      };
     }

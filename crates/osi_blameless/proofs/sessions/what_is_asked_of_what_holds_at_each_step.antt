@@ -1,6 +1,6 @@
 -- What is asked of what holds of an end and a judge at each step, by which nobody of the end is to blame as long as one class is not
 -- selected: class 2, or class 0. And what units are while so much is judged. For the laws that no session of an end is to blame.
-use Rattle.osi_blameless.proofs.Vocabulary.{◌≡◌, ◌≢◌, ◌∙◌, ◌⊎◌, refl, sym, ap, subst, ℕ, ◌^◌, ◌<◌, ◌≤◌, Bool, false, if◌then◌else◌, List}
+use Rattle.osi_blameless.proofs.Vocabulary.{◌≡◌, ◌≢◌, ◌∙◌, ◌⊎◌, inl, inr, refl, sym, ap, subst, ℕ, ◌^◌, ◌<◌, ◌≤◌, Bool, false, if◌then◌else◌, List}
 use Rattle.osi_blameless.proofs.Vocabulary.{[], ◌∷◌, ◌++◌, length, Some, is_some, arith, slice_get, length-append, Value, Class, Two, Zero}
 use Rattle.osi_blameless.proofs.Vocabulary.{Local, Capture, other, Direction, TooMany, class_for, is_stopped, takes, packet, unit, IsFirm}
 use Rattle.osi_blameless.proofs.Vocabulary.{IsOngoing, packet_begins, Holding, Deeds, no_deeds, then_did, IsFresh, Turn, Cause, Joined}
@@ -76,27 +76,56 @@ abbrev pub ArePassed : (barred : Class) (d : Direction) (at : ℕ) → List Valu
 ArePassed barred d at [] c = Unit {0}
 ArePassed barred d at (v ∷ vs) c = IsPassed barred d v c × ArePassed barred d at vs (unit_passes (other d) at v c)
 
--- It holds at the beginning, and each step keeps it as long as so much is judged and this class is not selected. Then nobody of the end is
--- to blame, also after each unit of a packet of the other side.
-pub record Keeps (barred : Class) (d : Direction) (local : Local) (Inv : (ℕ → Deeds) → Joint → Type 0) : Type 0 where
-  pub begins : (h : Holding) → IsFresh (calls_from d) local h → Inv (λ r. no_deeds) (begin h)
+-- From what holds before each step follows what holds after it, as long as so much is judged and this class is not selected. Then nobody of
+-- the end is to blame, also after each unit of a packet of the other side.
+pub record Leads (barred : Class) (d : Direction) (local : Local) (Inv Then : (ℕ → Deeds) → Joint → Type 0) : Type 0 where
   pub own_begins : (deeds : ℕ → Deeds) (old new : Joint) → Steps d begins_own old new → HaveCourses d deeds old →
       ((i : ℕ) (j : Joined) → slice_get old.course.sessions.live i ≡ Some j → length (heard (spoken (other d) j)) < 2 ^ 64) →
-      Inv deeds old → Inv deeds new
-  pub other_begins : (deeds : ℕ → Deeds) (old new : Joint) → Steps d begins_other old new → Inv deeds old → Inv deeds new
+      Inv deeds old → Then deeds new
+  pub other_begins : (deeds : ℕ → Deeds) (old new : Joint) → Steps d begins_other old new → Inv deeds old → Then deeds new
   pub own_passes : (deeds : ℕ → Deeds) (at : ℕ) (v : Value) (old new : Joint) → Steps d (passes_own at v) old new →
       IsOwn barred d v old.course → Lasts barred old.course → (new.course.traffic.course.class ≡ Some barred → ⊥) → Inv deeds old →
-      Inv deeds new
+      Then deeds new
   pub other_passes : (deeds : ℕ → Deeds) (at : ℕ) (octets : List ℕ) (units : List Value) (old new : Joint) →
-      Steps d (passes_other at octets units) old new → ArePassed barred d at units old.course → Inv deeds old → Inv deeds new
+      Steps d (passes_other at octets units) old new → ArePassed barred d at units old.course →
+      (new.course.traffic.course.class ≡ Some barred → ⊥) → Inv deeds old → Then deeds new
   pub turn : (turn : Turn) (old new : Joint) (t : TakesTurn turn old new) (deeds : ℕ → Deeds)
       (does : TurnDoes (calls_from d) deeds turn old new t) → IsFollowed d (wholes.begin (calls_from d) local) old →
       IsFollowed d (wholes.begin (calls_from d) local) new → Lasts barred old.course → Inv deeds old →
-      Inv (λ r. then_did (deeds r) (does.of.on.more r)) new
+      Then (λ r. then_did (deeds r) (does.of.on.more r)) new
   pub none : (deeds : ℕ → Deeds) (j : Joint) → HaveCourses d deeds j → Inv deeds j → NoneIsToBlame d j.course.sessions
   pub none_amid : (deeds : ℕ → Deeds) (at : ℕ) (octets : List ℕ) (front back : List Value) (old new : Joint) →
       Steps d (passes_other at octets (front ++ back)) old new → HaveCourses d deeds old → ArePassed barred d at front old.course →
-      Inv deeds old → NoneIsToBlame d (units_pass (other d) at front old.course).sessions
+      ((units_pass (other d) at front old.course).traffic.course.class ≡ Some barred → ⊥) → Inv deeds old →
+      NoneIsToBlame d (units_pass (other d) at front old.course).sessions
+
+-- It holds at the beginning, and each step keeps it.
+pub record Keeps (barred : Class) (d : Direction) (local : Local) (Inv : (ℕ → Deeds) → Joint → Type 0) : Type 0 where
+  pub begins : (h : Holding) → IsFresh (calls_from d) local h → Inv (λ r. no_deeds) (begin h)
+  pub leads : Leads barred d local Inv Inv
+
+-- one of two holds
+either : {A B C : Type 0} → (A → C) → (B → C) → A ⊎ B → C
+either f g (inl a) = f a
+either f g (inr b) = g b
+
+pub leads_either : (barred : Class) (d : Direction) (local : Local) (A B Then : (ℕ → Deeds) → Joint → Type 0) →
+    Leads barred d local A Then → Leads barred d local B Then → Leads barred d local (λ deeds j. A deeds j ⊎ B deeds j) Then
+leads_either barred d local A B Then a b = record {
+  own_begins = λ deeds old new step courses few h.
+      either (a.own_begins deeds old new step courses few) (b.own_begins deeds old new step courses few) h;
+  other_begins = λ deeds old new step h. either (a.other_begins deeds old new step) (b.other_begins deeds old new step) h;
+  own_passes = λ deeds at v old new step own lasts not h.
+      either (a.own_passes deeds at v old new step own lasts not) (b.own_passes deeds at v old new step own lasts not) h;
+  other_passes = λ deeds at octets units old new step passed not h.
+      either (a.other_passes deeds at octets units old new step passed not) (b.other_passes deeds at octets units old new step passed not) h;
+  turn = λ turn old new t deeds does f g lasts h.
+      either (a.turn turn old new t deeds does f g lasts) (b.turn turn old new t deeds does f g lasts) h;
+  none = λ deeds j courses h. either (a.none deeds j courses) (b.none deeds j courses) h;
+  none_amid = λ deeds at octets front back old new step courses passed not h.
+      either (a.none_amid deeds at octets front back old new step courses passed not)
+      (b.none_amid deeds at octets front back old new step courses passed not) h;
+}
 
 -- no unit comes after a DR while class 2 is not selected
 pub early : (d : Direction) (v : Value) (c : Passed) → IsPassed Two d v c → IsTolerable (other d) v c
