@@ -16,7 +16,6 @@ use Rattle.osi_blameless.proofs.an_end_that_is_judged_alone_stays_so.{later_kept
 use Rattle.osi_blameless.proofs.in_class_0_one_side_alone_is_judged.{IsAlone}
 use Rattle.osi_blameless.proofs.later_steps_are_events.{later_followed, spoilt_followed}
 use Rattle.osi_blameless.proofs.steps_are_events.{IsFollowed}
-use Rattle.osi_blameless.proofs.no_unit_of_a_whole_end_is_a_break.{IsFairAlone, IsFair}
 use Rattle.osi_blameless.proofs.all_is_judged_or_nothing.{IsJudged}
 use Rattle.osi_blameless.proofs.what_is_halted_stays_halted.{unread_same}
 use Rattle.osi_blameless.proofs.what_passes_keeps_a_claim.{units_kept}
@@ -67,14 +66,12 @@ units_alone d at (v ∷ vs) c a h =
     units_alone d at vs (unit_passes (other d) at v c) (grind (arith, stops_last)) (never_stopped d (other d) at v c a.stopped h)
 
 module _ (known : Known) (d : Direction) (local : Local)
-    (fair : IsFair (way_of d) (wholes.begin (calls_from d) local))
-    (fair_alone : IsFairAlone (way_of d) (wholes.begin (calls_from d) local)) (Inv : (ℕ → Deeds) → Joint → Type 0)
-    (k : Keeps Two d local Inv) (has_begun : HasBegun d Inv) where
+    (Inv : (ℕ → Deeds) → Joint → Type 0) (k : Keeps Two d local Inv) (has_begun : HasBegun d Inv) where
   abbrev pub Judged : (ℕ → Deeds) → Joint → Type 0
   Judged deeds j = Goes known.proper Two d local Inv k deeds j
 
   abbrev pub AsWithout : Bool → Joint → Type 0
-  AsWithout ends j = IsAsWithout known d local fair fair_alone Inv k has_begun ends j
+  AsWithout ends j = IsAsWithout known d local Inv k has_begun ends j
 
   -- ---- a unit with which the judging of the other side ends
 
@@ -130,7 +127,7 @@ module _ (known : Known) (d : Direction) (local : Local)
 
     begins_alone : IsFollowed d (wholes.begin (calls_from d) local) new → (w : Joint) → Before w → AsWithout false new
     begins_alone f w b =
-        let s = still_units known d local fair fair_alone Inv k has_begun at back (unit_passes (other d) at v c) c (record {
+        let s = still_units known d local Inv k has_begun at back (unit_passes (other d) at v c) c (record {
           beside = beside_break d at v c zero (goes_so (other d) c judged) unapplied side;
           alone = alone;
           few = (few_claim (other d)).passes (other d) at v c (grind (arith, units_kept, few_claim));
@@ -183,7 +180,7 @@ module _ (known : Known) (d : Direction) (local : Local)
     abbrev bad : Joint
     bad = spoilt d at cause packets old
 
-    as_without : (ends : Bool) → How known d local fair fair_alone Inv k has_begun ends old bad → AsWithout ends bad
+    as_without : (ends : Bool) → How known d local Inv k has_begun ends old bad → AsWithout ends bad
     as_without ends how = record {
       deeds = deeds;
       without = old;
@@ -234,8 +231,8 @@ module _ (known : Known) (d : Direction) (local : Local)
         };
       }
     where
-      by : How known d local fair fair_alone Inv k has_begun false a.without old →
-          How known d local fair fair_alone Inv k has_begun false a.without (spoilt d at cause packets old)
+      by : How known d local Inv k has_begun false a.without old →
+          How known d local Inv k has_begun false a.without (spoilt d at cause packets old)
       by (is_over over) = is_over over
       by (waits_for reads same front extra is all packet more there hard) =
           waits_for reads same front extra is all packet (more ++ packets)
@@ -250,7 +247,7 @@ module _ (known : Known) (d : Direction) (local : Local)
   later_step ends (passes_own at v) old new step none short a = search (arith, own_alone_so)
   later_step true (passes_other at packet units) old new step none short a = absurd (none refl)
   later_step false (passes_other at packet units) old new (octets, read, is) none short a =
-      other_alone known d local fair fair_alone Inv k has_begun at packet units old new is
+      other_alone known d local Inv k has_begun at packet units old new is
       (later_followed d first known.proper (passes_other at packet units) old new (octets, read, is) a.is.followed) a
 
   -- nobody of the end is to blame
@@ -264,7 +261,7 @@ module _ (known : Known) (d : Direction) (local : Local)
   never_alone ends (passes_own at v) old new step a now never =
       subst (λ (j : Joint). NeverToBlame d j.course) (sym step.4) (never_unit d d at v old.course never
       (subst (λ (j : Joint). NoneIsToBlame d j.course.sessions) step.4
-      (none_alone known d local fair fair_alone Inv k has_begun ends new now)))
+      (none_alone known d local Inv k has_begun ends new now)))
   never_alone ends (passes_other at packet units) old new step a now never =
       subst (λ (j : Joint). NeverToBlame d j.course) (sym step.2) (units_alone d at units old.course a.is.alone never)
 

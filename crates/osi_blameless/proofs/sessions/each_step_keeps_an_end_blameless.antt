@@ -13,7 +13,7 @@ use Rattle.osi_judge.specs.Courses.{Course as Passed}
 use Rattle.osi_judge.specs.States as states
 use Rattle.osi_blameless.proofs.a_break_ends_no_judging_or_all.{all_ends, mild_reach, reach_so}
 use Rattle.osi_blameless.proofs.all_is_judged_or_nothing.{IsOver, unread_over}
-use Rattle.osi_blameless.proofs.no_unit_of_a_whole_end_is_a_break.{IsFair, IsNoBreak}
+use Rattle.osi_blameless.proofs.no_unit_of_a_whole_end_is_a_break.{IsNoBreak}
 use Rattle.osi_blameless.proofs.steps_are_events.{IsFollowed, step_followed}
 use Rattle.osi_blameless.proofs.what_passes_keeps_a_claim.{IsClaim, after_join, step_kept, units_kept}
 use Rattle.osi_blameless.proofs.what_the_turns_among_steps_do.{ComesByDoing, IsOfJudge, StepsDo, TurnDoes}
@@ -92,7 +92,7 @@ module _ (proper : AllProper) (barred : Class) (d : Direction) (local : Local) (
         Comes barred d Rest at v (units_pass (other d) at front old.course) (with_packet d at octets (front ++ v ∷ back) old)
     pub step : (step : Step) (old new : Joint) → Steps d step old new → length old.course.past < 2 ^ 64 → Rest old → Rest new
 
-  module _ (fair : IsFair (way_of d) first) (so_rests : RestsSo) where
+  module _ (so_rests : RestsSo) where
     pub data Stays (deeds : ℕ → Deeds) (j : Joint) : Type 0 where
       goes : Judging deeds j → Stays deeds j
       ended : IsDone d j.course → Stays deeds j
@@ -197,7 +197,7 @@ module _ (proper : AllProper) (barred : Class) (d : Direction) (local : Local) (
         by (mild_reach d at v old.course (takes (way_of d) v old.course.traffic).told.finding refl none)
       where
         none : IsNoBreak (takes (way_of d) v old.course.traffic).told.finding
-        none = own_mild d local fair at v old new step g.followed (going_of barred old.course g.judged)
+        none = own_mild d local at v old new step g.followed (going_of barred old.course g.judged)
 
         by : ((takes (way_of d) v old.course.traffic).told.reach ≡ reach.Nothing)
             ⊎ ((takes (way_of d) v old.course.traffic).told.reach ≡ reach.Everything) → Stays deeds new

@@ -3,11 +3,9 @@
 use Rattle.osi_blameless.proofs.Vocabulary.{slice_get, ◌⊎◌, ℕ, inl, inr, ◌≡◌, refl, ◌^◌, ◌<◌, Bool, false, true, List, length, Option, Some}
 use Rattle.osi_blameless.proofs.Vocabulary.{Class, Zero, Local, Capture, Direction, Left, Right, other, AsSent, AsParts, CalledLaw}
 use Rattle.osi_blameless.proofs.Vocabulary.{CallerLaw, Holding, IsFresh, IsSeen, Run, Turn, Known, IsToBlame, Joined, Sessions, Course}
-use Rattle.osi_blameless.proofs.Vocabulary.{comes_to, AreOctets, differ, BreaksFirst, First}
+use Rattle.osi_blameless.proofs.Vocabulary.{comes_to, AreOctets, differ, BreaksFirst, First, calls_from}
 use Rattle.osi_blameless.proofs.a_capture_is_steps.{capture_steps}
 use Rattle.osi_blameless.proofs.in_class_0_one_side_alone_is_judged.{IsLoose}
-use Rattle.osi_blameless.proofs.no_unit_of_a_whole_end_is_a_break.{called_is_fair, called_is_fair_in_class_0}
-use Rattle.osi_blameless.proofs.no_unit_of_a_whole_end_is_a_break.{calling_is_fair, calling_is_fair_in_class_0}
 use Rattle.osi_blameless.proofs.no_unit_of_an_end_breaks_a_rule.{always_unbroken}
 use Rattle.osi_blameless.proofs.small_facts_that_many_lemmas_use.{zero_two}
 use Rattle.osi_blameless.proofs.what_the_turns_among_steps_do.{ComesByDoing, comes_by_steps}
@@ -46,66 +44,44 @@ module _ (known : Known) (known_of : AsSent) (parts : AsParts) (caller : CallerL
   abbrev selected : Option Class
   selected = course.traffic.course.class
 
-  module _ (few : length course.past < 2 ^ 64) (begin : Holding) where
-    -- in class 0 no connection loses its judgement
-    by_class_0 : (d : Direction) → selected ≡ Some Zero → NeverToBlame d course ⊎ IsLoose course → NeverToBlame d course
-    by_class_0 d zero (inl never) = never
-    by_class_0 d zero (inr loose) = differ course.traffic.course.loose loose (firm_in_zero course zero (capture_two capture))
+  abbrev NeverIf : Direction → Type 0 → Type 0
+  NeverIf d P = (begin : Holding) → IsFresh (calls_from d) local begin → ComesByDoing d (calls_from d) capture begin →
+      length course.past < 2 ^ 64 → P → NeverToBlame d course
 
-    called_never : IsFresh false local begin → ComesByDoing Right false capture begin → NeverToBlame Right course
-    called_never fresh comes = zero_by selected in_zero without
-      where
-        in_zero : selected ≡ Some Zero → NeverToBlame Right course
-        in_zero zero =
-            by_class_0 Right zero
-            (ends_well known Right local (called_is_fair local) (called_is_fair_in_class_0 local)
-            (StandsUntilTwo Right local known.proper) (keeps_until_two local known.proper known_of parts caller called Right)
-            (begun_until_two Right local known.proper) begin capture fresh comes
-            (record { not = λ two. zero_two selected zero two; few = few }))
+  -- in class 0 no connection loses its judgement
+  by_class_0 : (d : Direction) → selected ≡ Some Zero → NeverToBlame d course ⊎ IsLoose course → NeverToBlame d course
+  by_class_0 d zero (inl never) = never
+  by_class_0 d zero (inr loose) = differ course.traffic.course.loose loose (firm_in_zero course zero (capture_two capture))
 
-        without : (selected ≡ Some Zero → ⊥) → NeverToBlame Right course
-        without not =
-            never_to_blame known.proper Right local (called_is_fair local) (StandsOrSelected local known.proper)
-            (called_keeps local known.proper known_of parts caller called) begin capture fresh comes (record { not = not; few = few })
+  in_zero : (d : Direction) → NeverIf d (selected ≡ Some Zero)
+  in_zero d begin fresh comes few zero =
+      by_class_0 d zero
+      (ends_well known d local (StandsUntilTwo d local known.proper) (keeps_until_two local known.proper known_of parts caller called d)
+      (begun_until_two d local known.proper) begin capture fresh comes (record { not = λ two. zero_two selected zero two; few = few }))
 
-    calling_never : IsFresh true local begin → ComesByDoing Left true capture begin → NeverToBlame Left course
-    calling_never fresh comes = zero_by selected in_zero (λ not. without not local.class2 refl)
-      where
-        in_zero : selected ≡ Some Zero → NeverToBlame Left course
-        in_zero zero =
-            by_class_0 Left zero
-            (ends_well known Left local (calling_is_fair local) (calling_is_fair_in_class_0 local)
-            (StandsUntilTwo Left local known.proper) (keeps_until_two local known.proper known_of parts caller called Left)
-            (begun_until_two Left local known.proper) begin capture fresh comes
-            (record { not = λ two. zero_two selected zero two; few = few }))
-
-        without : (selected ≡ Some Zero → ⊥) → (b : Bool) → local.class2 ≡ b → NeverToBlame Left course
-        without not true two =
-            never_to_blame known.proper Left local (calling_is_fair local) (StandsQuiet local two known.proper)
-            (calling_keeps local two known.proper known_of parts caller called) begin capture fresh comes (record { not = not; few = few })
-        without not false none =
-            never_to_blame known.proper Left local (calling_is_fair local) (HasSaidNothing Left local)
-            (mute_keeps known.proper Left local (calling_puts_none local none)) begin capture fresh comes
-            (record { not = not; few = few })
+  -- a calling end without class 2 has said nothing, unless in class 0
+  without : (d : Direction) → NeverIf d (selected ≡ Some Zero → ⊥)
+  without Right begin fresh comes few not =
+      never_to_blame known.proper Right local (StandsOrSelected local known.proper)
+      (called_keeps local known.proper known_of parts caller called) begin capture fresh comes (record { not = not; few = few })
+  without Left begin fresh comes few not = by local.class2 refl
+    where
+      by : (b : Bool) → local.class2 ≡ b → NeverToBlame Left course
+      by true two =
+          never_to_blame known.proper Left local (StandsQuiet local two known.proper)
+          (calling_keeps local two known.proper known_of parts caller called) begin capture fresh comes (record { not = not; few = few })
+      by false none =
+          never_to_blame known.proper Left local (HasSaidNothing Left local)
+          (mute_keeps known.proper Left local (calling_puts_none local none)) begin capture fresh comes (record { not = not; few = few })
 
   -- ---- so an end is blameless
 
-  pub called_blameless : (begin end : Holding) (turns : List Turn) → IsFresh false local begin → Run begin turns end →
-      AreOctets capture → IsSeen Right turns capture → length course.past < 2 ^ 64 → IsBlameless Right course
-  called_blameless begin end turns fresh run octets seen few =
-      let comes = capture_steps known Right false local begin end turns capture fresh run octets seen in
+  pub blameless : (d : Direction) (begin end : Holding) (turns : List Turn) → IsFresh (calls_from d) local begin → Run begin turns end →
+      AreOctets capture → IsSeen d turns capture → length course.past < 2 ^ 64 → IsBlameless d course
+  blameless d begin end turns fresh run octets seen few =
+      let comes = capture_steps known d (calls_from d) local begin end turns capture fresh run octets seen in
       record {
-        never = called_never few begin fresh comes;
-        transport = capture_unblamed Right capture (always_unbroken Right known.proper false local begin capture fresh (called_is_fair local)
-            (called_is_fair_in_class_0 local) (comes_by_steps Right false capture begin comes));
-      }
-
-  pub calling_blameless : (begin end : Holding) (turns : List Turn) → IsFresh true local begin → Run begin turns end →
-      AreOctets capture → IsSeen Left turns capture → length course.past < 2 ^ 64 → IsBlameless Left course
-  calling_blameless begin end turns fresh run octets seen few =
-      let comes = capture_steps known Left true local begin end turns capture fresh run octets seen in
-      record {
-        never = calling_never few begin fresh comes;
-        transport = capture_unblamed Left capture (always_unbroken Left known.proper true local begin capture fresh (calling_is_fair local)
-            (calling_is_fair_in_class_0 local) (comes_by_steps Left true capture begin comes));
+        never = zero_by selected (in_zero d begin fresh comes few) (without d begin fresh comes few);
+        transport = capture_unblamed d capture (always_unbroken d known.proper local begin capture fresh
+            (comes_by_steps d (calls_from d) capture begin comes));
       }
