@@ -151,7 +151,7 @@ pub use Rattle.osi_honest.specs.Arriving.{Answers, AreApart, Begins, GivesTo, Li
 pub use Rattle.osi_honest.specs.Courses.{AreCalls, Continues, Deeds, Gone, IsFreshLink, IsShut, Speaks, all_did, no_deeds, said_in}
 pub use Rattle.osi_honest.specs.Courses.{then_did, units_given, units_in, units_read, units_taken}
 pub use Rattle.osi_honest.specs.Courses.Course.{awaited, is_gone, unknown}
-pub use Rattle.osi_honest.specs.Courses.Gone.{closed, never}
+pub use Rattle.osi_honest.specs.Courses.Gone.{closed, never, over}
 pub use Rattle.osi_honest.specs.Marked.{Marked, all_units, is_of_link, units_at}
 pub use Rattle.osi_honest.specs.Parts.{ends_whole}
 pub use Rattle.osi_honest.specs.Seeing.{IsFresh, IsPrefix, IsSeen, PassAfter, put_along, used_along}

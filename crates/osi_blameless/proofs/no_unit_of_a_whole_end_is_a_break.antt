@@ -1,8 +1,9 @@
 -- No unit of a whole end is a break as it passes, as long as the other side is judged: what osi_fair says of it.
 -- For the laws that an end is blamed nowhere.
-use Rattle.osi_blameless.proofs.Vocabulary.{false, true, ◌≡◌, ◌⊎◌, ◌∷◌, List, Some, Local, Value, Direction, Left, Right, Finding, Broke, Outside, Kept}
-use Rattle.osi_blameless.proofs.Vocabulary.{NotJudged, TooMany, Zero, is_stopped, takes, Event, HappenAlong, Whole, called_fair, calls_from, way_of}
-use Rattle.osi_blameless.proofs.Vocabulary.{calling_fair, arith, called_fair_in_class_0, calling_fair_in_class_0}
+use Rattle.osi_blameless.proofs.Vocabulary.{false, true, ◌≡◌, ◌⊎◌, ◌∷◌, List, Some, Local, Value, Direction, Left, Right, Finding, Broke}
+use Rattle.osi_blameless.proofs.Vocabulary.{Outside, Kept, NotJudged, TooMany, Zero, is_stopped, takes, Event, HappenAlong, Whole}
+use Rattle.osi_blameless.proofs.Vocabulary.{called_fair, calls_from, way_of, calling_fair, arith, called_fair_in_class_0}
+use Rattle.osi_blameless.proofs.Vocabulary.{calling_fair_in_class_0}
 use Rattle.osi_rules.specs.Sides as sides
 use Rattle.osi_fair.specs.Wholes.{begin}
 

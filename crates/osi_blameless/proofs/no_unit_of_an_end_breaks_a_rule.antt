@@ -1,11 +1,11 @@
 -- A judge finds of no unit of an end that it breaks a rule of transport, whatever the other side sends.
 -- For the law that the transport of an end is blamed nowhere.
-use Rattle.osi_blameless.proofs.Vocabulary.{◌≡◌, ◌∙◌, ℕ, Bool, false, List, [], ◌∷◌, None, Some, inl, inr, ◌⊎◌, arith, refl, sym, ap, subst, calls_from}
-use Rattle.osi_blameless.proofs.Vocabulary.{Value, Local, Capture, other, Direction, Reach, Option, Class, class_for, is_stopped, takes}
-use Rattle.osi_blameless.proofs.Vocabulary.{IsOfTwo, firm_unless_two, still_two, Two, Zero, stops_last, Holding, IsFresh, AllProper, Cause}
-use Rattle.osi_blameless.proofs.Vocabulary.{Course, marks_of, packet_begins, unit_passes, units_pass, unread, way_of, comes_to, Joint, Step}
-use Rattle.osi_blameless.proofs.Vocabulary.{Steps, begin, begins_other, begins_own, passes_other, passes_own, turns, ComesBySteps}
-use Rattle.osi_blameless.proofs.Vocabulary.{LaterAlong, LaterSteps, spoilt}
+use Rattle.osi_blameless.proofs.Vocabulary.{◌≡◌, ◌∙◌, ℕ, Bool, false, List, [], ◌∷◌, None, Some, inl, inr, ◌⊎◌, arith, refl, sym, ap, subst}
+use Rattle.osi_blameless.proofs.Vocabulary.{calls_from, Value, Local, Capture, other, Direction, Reach, Option, Class, class_for}
+use Rattle.osi_blameless.proofs.Vocabulary.{is_stopped, takes, IsOfTwo, firm_unless_two, still_two, Two, Zero, stops_last, Holding, IsFresh}
+use Rattle.osi_blameless.proofs.Vocabulary.{AllProper, Cause, Course, marks_of, packet_begins, unit_passes, units_pass, unread, way_of}
+use Rattle.osi_blameless.proofs.Vocabulary.{comes_to, Joint, Step, Steps, begin, begins_other, begins_own, passes_other, passes_own, turns}
+use Rattle.osi_blameless.proofs.Vocabulary.{ComesBySteps, LaterAlong, LaterSteps, spoilt}
 use Rattle.osi_rules.specs.declared.findings.Reach.TheVariants as reach
 use Rattle.osi_rules.specs.Sides as sides
 use Rattle.osi_blameless.proofs.all_is_judged_or_nothing.{IsJudged}

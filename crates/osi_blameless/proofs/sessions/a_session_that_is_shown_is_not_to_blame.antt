@@ -10,13 +10,12 @@ use Rattle.osi_blameless.proofs.Vocabulary.{Left as left, Right as right, none_s
 use Rattle.osi_blameless.proofs.Vocabulary.{something, units_came, opens_so, history_runs, Deeds, Gone, no_deeds, said_in, Speaks}
 use Rattle.osi_blameless.proofs.Vocabulary.{units_given, is_gone, closed, never, Shows, octets_said, IsToBlame, Joined, spoken, heard, told}
 use Rattle.osi_blameless.proofs.Vocabulary.{AreAfter, before_of, calls_from, IsShownOf, left_over, parts_of, take_in, arith, awaited}
-use Rattle.osi_blameless.proofs.Vocabulary.{unknown, Said, told_of}
+use Rattle.osi_blameless.proofs.Vocabulary.{unknown, Said, told_of, over}
 use Rattle.osi_side.specs.Explaining.{Told}
 use Rattle.osi_side.specs.Running as running
 use Rattle.osi_side.specs.declared.findings.Finding.{Finding}
 use Rattle.osi_honest.specs.Courses.{Course}
 use Rattle.osi_honest.specs.Courses.Course.{is_open}
-use Rattle.osi_honest.specs.Courses.Gone.{over}
 use Rattle.osi_honest.proofs.courses.what_was_said_is_explained.{units_put}
 use Rattle.osi_judge.specs.Lines as lines
 

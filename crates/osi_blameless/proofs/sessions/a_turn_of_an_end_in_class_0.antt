@@ -1,11 +1,11 @@
--- Once class 0 is selected, a turn of an end leaves all its connections standing at a judge: what it puts is for its one connection, and what
--- it takes there is the first of what is in flight. And no session of it is to blame then. For the session of the connection of an end in
--- class 0.
+-- Once class 0 is selected, a turn of an end leaves all its connections standing at a judge: what it puts is for its one connection, and
+-- what it takes there is the first of what is in flight. And no session of it is to blame then. For the session of the connection of an end
+-- in class 0.
 use Rattle.osi_blameless.proofs.Vocabulary.{◌≡◌, ◌∙◌, refl, sym, ap, subst, ℕ, ◌<◌, ◌≤◌, Bool, true, false, List, [], ◌∷◌, ◌++◌, Option}
 use Rattle.osi_blameless.proofs.Vocabulary.{Some, None, arith, is_some, inl, inr, ◌⊎◌, ◌==◌, slice_get, AllByRecursion, eqb-true, Connect}
-use Rattle.osi_blameless.proofs.Vocabulary.{Value, confirm, Two, Zero, Local, Direction, Left, Right, other, Connection, is_open, own, State}
-use Rattle.osi_blameless.proofs.Vocabulary.{Whole, unlike, IsFirm, AreApart, Continues, Deeds, then_did, units_in, Marked, all_units, Turn}
-use Rattle.osi_blameless.proofs.Vocabulary.{AllProper, Life, amid, early, past, stage_at, all_units_more, Joined, reference_of, Joint}
+use Rattle.osi_blameless.proofs.Vocabulary.{Value, confirm, Two, Zero, Local, Direction, Left, Right, other, Connection, is_open, own}
+use Rattle.osi_blameless.proofs.Vocabulary.{State, Whole, unlike, IsFirm, AreApart, Continues, Deeds, then_did, units_in, Marked, all_units}
+use Rattle.osi_blameless.proofs.Vocabulary.{Turn, AllProper, Life, amid, early, past, stage_at, all_units_more, Joined, reference_of, Joint}
 use Rattle.osi_blameless.proofs.Vocabulary.{TakesTurn, IsOneOf, differ, calls_from, way_of, Part, AsSent, AsParts, CalledLaw, CallerLaw}
 use Rattle.osi_blameless.proofs.Vocabulary.{units_pass, is_of_link, Time}
 use Rattle.osi_carrier.specs.State.{State as Carrier}
@@ -156,7 +156,8 @@ module _ (d : Direction) (local : Local) (proper : AllProper) (turn : Turn) (old
   calm : stage_at h.r end ≡ early → AreCalm (calls_from d) h.r (stage_at h.r then_end) on.took
   calm may =
       let u = turn_uses turn old new t (calls_from d) deeds on (early_lasts h.r end may) in
-      calm_of d h.r (stage_at h.r then_end) on.took coming (u.left ++ then_coming) (zero_awaits d local old h.ahead h.r sure z.class h.within may)
+      calm_of d h.r (stage_at h.r then_end) on.took coming (u.left ++ then_coming)
+      (zero_awaits d local old h.ahead h.r sure z.class h.within may)
       (subst InOrder u.coming z.order)
       (λ still.
       subst (λ (l : List Value). AwaitsCc d (l ++ then_coming)) (sym (u.all (early_lasts h.r then_end still)))
@@ -184,7 +185,8 @@ module _ (d : Direction) (local : Local) (proper : AllProper) (turn : Turn) (old
   turns = record {
     puts = puts_zero;
     takes = λ q one later known.
-        let x = turn_takes (calls_from d) turn old new t deeds on q known.0 (life q known.0) (calm_by q (one_or_gone q one)) later known.1 in
+        let x = turn_takes (calls_from d) turn old new t deeds on q known.0 (life q known.0)
+        (calm_by q (one_or_gone q one)) later known.1 in
         record { rest = x.rest; first = x.first; sure = (known.0, x.sure) };
   }
 

@@ -1,12 +1,12 @@
 -- From the turn in which a called end puts its CC of class 0 until this CC passes, all its connections stand at a judge; and after that, as
 -- in class 0. For the session of the connection of an end in class 0.
-use Rattle.osi_blameless.proofs.Vocabulary.{[], ap, Bool, false, length, List, None, Option, refl, Some, subst, sym, true, ℕ, ◌++◌, ◌<◌, ◌≤◌, ◌≢◌}
-use Rattle.osi_blameless.proofs.Vocabulary.{◌^◌, ◌∙◌, ◌∷◌, ◌≡◌, eqb-true, append-nil, append_assoc, AllByRecursion, slice_get, units_of}
-use Rattle.osi_blameless.proofs.Vocabulary.{confirm, Connect, Value, parts_in, Two, Zero, Local, class_of, Traffic as State, takes, Left}
-use Rattle.osi_blameless.proofs.Vocabulary.{Right, AllProper, amid, stage_at, CanBeWritten, Deeds, units_in, units_read, Joined, Sessions}
-use Rattle.osi_blameless.proofs.Vocabulary.{spoken, unit_passes, units_pass, heard, left_class, begins_other, begins_own, Joint, Holding}
-use Rattle.osi_blameless.proofs.Vocabulary.{passes_other, passes_own, Steps, parts_of, arith, packet_begins, first_is, calls_from, Class}
-use Rattle.osi_blameless.proofs.Vocabulary.{AsSent, AsParts, CalledLaw, CallerLaw}
+use Rattle.osi_blameless.proofs.Vocabulary.{[], ap, Bool, false, length, List, None, Option, refl, Some, subst, sym, true, ℕ, ◌++◌, ◌<◌}
+use Rattle.osi_blameless.proofs.Vocabulary.{◌≤◌, ◌≢◌, ◌^◌, ◌∙◌, ◌∷◌, ◌≡◌, eqb-true, append-nil, append_assoc, AllByRecursion, slice_get}
+use Rattle.osi_blameless.proofs.Vocabulary.{units_of, confirm, Connect, Value, parts_in, Two, Zero, Local, class_of, Traffic as State}
+use Rattle.osi_blameless.proofs.Vocabulary.{takes, Left, Right, AllProper, amid, stage_at, CanBeWritten, Deeds, units_in, units_read}
+use Rattle.osi_blameless.proofs.Vocabulary.{Joined, Sessions, spoken, unit_passes, units_pass, heard, left_class, begins_other, begins_own}
+use Rattle.osi_blameless.proofs.Vocabulary.{Joint, Holding, passes_other, passes_own, Steps, parts_of, arith, packet_begins, first_is}
+use Rattle.osi_blameless.proofs.Vocabulary.{calls_from, Class, AsSent, AsParts, CalledLaw, CallerLaw}
 use Rattle.osi_carrier.specs.State.{State as Carrier}
 use Rattle.osi_rules.specs.declared.directions.Direction.TheVariants as way
 use Rattle.osi_fair.specs.Wholes as wholes
@@ -17,7 +17,8 @@ use Rattle.osi_blameless.proofs.sessions.a_cc_of_class_0_opens_one_connection.{H
 use Rattle.osi_blameless.proofs.sessions.a_turn_does_what_its_deeds_say.{units_join}
 use Rattle.osi_blameless.proofs.sessions.a_unit_is_joined_where_it_is_named.{joined_named}
 use Rattle.osi_blameless.proofs.sessions.all_connections_stand.{there_too}
-use Rattle.osi_blameless.proofs.sessions.an_end_stands_before_a_class_is_selected.{AllInNone, StandInNone, none_other_begins, none_own_begins}
+use Rattle.osi_blameless.proofs.sessions.an_end_stands_before_a_class_is_selected.{AllInNone, StandInNone, none_other_begins}
+use Rattle.osi_blameless.proofs.sessions.an_end_stands_before_a_class_is_selected.{none_own_begins}
 use Rattle.osi_blameless.proofs.sessions.an_end_stands_in_class_0.{AllInZero, IsGone, StandsInZero, asking_quiet, known_in, none_named}
 use Rattle.osi_blameless.proofs.sessions.an_end_stands_in_class_0.{only_asking, unseen_stands}
 use Rattle.osi_blameless.proofs.sessions.class_0_keeps_its_one_place.{HasOne}
@@ -124,7 +125,8 @@ module _ (local : Local) where
         StandsAnswering deeds new
     answering_other_begins old new is h =
         let mid : Joint = record old { course = packet_begins Left old.course } in
-        subst (StandsAnswering deeds) (sym is) (answering_on old mid h (begins_other_ahead Right first proper old mid refl h.ahead) refl refl
+        subst (StandsAnswering deeds) (sym is) (answering_on old mid h
+        (begins_other_ahead Right first proper old mid refl h.ahead) refl refl
         (none_other_begins Right deeds old h.none))
 
     pub answering_other_passes : (at : ℕ) (packet : List ℕ) (units : List Value) (old new : Joint) →
@@ -139,7 +141,8 @@ module _ (local : Local) where
         let b = h.ahead.bound in
         subst (StandsAnswering deeds) (sym is) (answering_on old mid h
         (passes_other_ahead Right first proper at packet units old mid (octets, read, refl) h.ahead
-        (other_up Right first at b packet units old mid (octets, read, refl) h.none.all.places (none_named Right b at units old.course passed)
+        (other_up Right first at b packet units old mid (octets, read, refl) h.none.all.places
+        (none_named Right b at units old.course passed)
         h.ahead.below))
         refl refl
         (subst (λ (l : List Value). AllInNone Right deeds end old.put old.begun l mid.course) all
@@ -192,7 +195,8 @@ module _ (local : Local) where
             subst (λ (s : State). HasOne Right x.source (IsGone end) s mid.course.sessions) (sym (unit_knows Right at cc_is c))
             (subst (λ (t : Sessions). HasOne Right x.source (IsGone end) (takes way.Right cc_is c.traffic).state t)
             (sym (unit_joins Right at cc_is c))
-            (cc_answers n x at c h.none.all.places right.goes h.none.class right.firm h.none.all.judged (grind (arith, mild_of)) (IsGone end)
+            (cc_answers n x at c h.none.all.places right.goes h.none.class right.firm h.none.all.judged
+            (grind (arith, mild_of)) (IsGone end)
             h.none.new.live h.none.new.done))
 
         cc_passes : StandsInZero Right local deeds mid

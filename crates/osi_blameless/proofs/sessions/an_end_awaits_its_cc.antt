@@ -1,36 +1,37 @@
--- Until a calling end gets a CC, all its connections stand at a judge, whatever classes it offers: at the beginning, and after what passes and
--- is no break, or is passed over. The CC of class 0 opens the connection for which it comes, and no other one is left then.
--- For the session of the connection of an end in class 0.
+-- Until a calling end gets a CC, all its connections stand at a judge, whatever classes it offers: at the beginning, and after what passes
+-- and is no break, or is passed over. The CC of class 0 opens the connection for which it comes, and no other one is left then. For the
+-- session of the connection of an end in class 0.
 use Rattle.osi_blameless.proofs.Vocabulary.{◌≡◌, ◌≢◌, ◌∙◌, refl, sym, ap, subst, ℕ, ◌^◌, ◌<◌, ◌≤◌, Bool, true, false, List, [], ◌∷◌, ◌++◌}
 use Rattle.osi_blameless.proofs.Vocabulary.{length, map, Option, Some, None, is_some, arith, slice_get, append-nil, append_assoc, ◌||◌, ◌⊎◌}
-use Rattle.osi_blameless.proofs.Vocabulary.{inl, inr, AllByRecursion, units_of, Connect, HasFieldsInRange, Value, acknowledge, confirm, data0}
-use Rattle.osi_blameless.proofs.Vocabulary.{data2, disconnect, disconnected, error, request, written, units_fit, units_found, unit_parts}
-use Rattle.osi_blameless.proofs.Vocabulary.{Class, Two, Zero, Local, EndReason, Direction, Left, Right, Finding, TooMany, Reach, is_applied}
-use Rattle.osi_blameless.proofs.Vocabulary.{State, class_for, class_of, is_stopped, stops_by, takes, stops_are_said, has_given, Whole}
-use Rattle.osi_blameless.proofs.Vocabulary.{Holding, fresh_apart, no_item, left_class, zero_stays, Holds, holds_next, Deeds, no_deeds}
-use Rattle.osi_blameless.proofs.Vocabulary.{units_in, units_read, IsFresh, AllProper, amid, past, stage_at, stage_over, Joined, Sessions}
-use Rattle.osi_blameless.proofs.Vocabulary.{spoken, taken, Course, packet_begins, unit_passes, units_pass, heard, parts_of, way_of, Joint}
-use Rattle.osi_blameless.proofs.Vocabulary.{Steps, begin, begins_other, begins_own, passes_other, passes_own, AsSent, AsParts, CalledLaw}
-use Rattle.osi_blameless.proofs.Vocabulary.{CallerLaw, Part}
+use Rattle.osi_blameless.proofs.Vocabulary.{inl, inr, AllByRecursion, units_of, Connect, HasFieldsInRange, Value, acknowledge, confirm}
+use Rattle.osi_blameless.proofs.Vocabulary.{data0, data2, disconnect, disconnected, error, request, written, units_fit, units_found}
+use Rattle.osi_blameless.proofs.Vocabulary.{unit_parts, Class, Two, Zero, Local, EndReason, Direction, Left, Right, Finding, TooMany, Reach}
+use Rattle.osi_blameless.proofs.Vocabulary.{is_applied, State, class_for, class_of, is_stopped, stops_by, takes, stops_are_said, has_given}
+use Rattle.osi_blameless.proofs.Vocabulary.{Whole, Holding, fresh_apart, no_item, left_class, zero_stays, Holds, holds_next, Deeds}
+use Rattle.osi_blameless.proofs.Vocabulary.{no_deeds, units_in, units_read, IsFresh, AllProper, amid, past, stage_at, stage_over, Joined}
+use Rattle.osi_blameless.proofs.Vocabulary.{Sessions, spoken, taken, Course, packet_begins, unit_passes, units_pass, heard, parts_of}
+use Rattle.osi_blameless.proofs.Vocabulary.{way_of, Joint, Steps, begin, begins_other, begins_own, passes_other, passes_own, AsSent}
+use Rattle.osi_blameless.proofs.Vocabulary.{AsParts, CalledLaw, CallerLaw, Part}
 use Rattle.osi_carrier.specs.State.{State as Carrier}
 use Rattle.osi_rules.specs.declared.directions.Direction.TheVariants as way
 use Rattle.osi_fair.specs.Wholes as wholes
 use Rattle.osi_blameless.proofs.a_carrier_does_events.{IsLike, none_of}
 use Rattle.osi_blameless.proofs.a_break_ends_no_judging_or_all.{reach_so}
 use Rattle.osi_blameless.proofs.small_facts_that_many_lemmas_use.{all_front, all_join, given_so, none_some, over_none, ranges_of}
-use Rattle.osi_blameless.proofs.steps_are_events.{IsFollowed, begin_followed, own_first}
+use Rattle.osi_blameless.proofs.steps_are_events.{own_first}
 use Rattle.osi_blameless.proofs.what_a_taker_passes_over.{IsMild, mild_reach}
 use Rattle.osi_blameless.proofs.sessions.a_cc_of_class_0_opens_one_connection.{awaits_this, cc_opens, effect, opens_within}
 use Rattle.osi_blameless.proofs.sessions.a_turn_does_what_its_deeds_say.{units_join}
 use Rattle.osi_blameless.proofs.sessions.all_connections_stand.{AllStand, all_room}
-use Rattle.osi_blameless.proofs.sessions.an_end_stands_before_a_class_is_selected.{AllInNone, StandInNone, none_other_begins, none_own_begins}
+use Rattle.osi_blameless.proofs.sessions.an_end_stands_before_a_class_is_selected.{AllInNone, StandInNone, none_other_begins}
+use Rattle.osi_blameless.proofs.sessions.an_end_stands_before_a_class_is_selected.{none_own_begins}
 use Rattle.osi_blameless.proofs.sessions.an_end_stands_in_class_0.{AllInZero, IsGone, StandsInZero, known_in, none_named, same_known}
 use Rattle.osi_blameless.proofs.sessions.an_end_stands_in_class_0.{units_zero, within_higher}
 use Rattle.osi_blameless.proofs.sessions.class_0_keeps_its_one_place.{HasOne}
 use Rattle.osi_blameless.proofs.sessions.connections_have_the_same_places.{unit_joins, unit_knows}
-use Rattle.osi_blameless.proofs.sessions.crs_that_wait_are_above_those_that_passed.{AreAbove, above_along}
 use Rattle.osi_blameless.proofs.sessions.each_reference_of_an_end_is_new.{AreUpTo, GoesOn, IsAhead, IsUpTo, IsWithin, begins_other_ahead}
-use Rattle.osi_blameless.proofs.sessions.each_reference_of_an_end_is_new.{begins_own_ahead, gives_new, other_up, passes_highest}
+use Rattle.osi_blameless.proofs.sessions.each_reference_of_an_end_is_new.{begins_own_ahead, first_ahead, gives_new, other_up}
+use Rattle.osi_blameless.proofs.sessions.each_reference_of_an_end_is_new.{passes_highest}
 use Rattle.osi_blameless.proofs.sessions.each_reference_of_an_end_is_new.{passes_other_ahead, unit_up}
 use Rattle.osi_blameless.proofs.sessions.each_step_leaves_class_0_one_connection.{fresh_sure, sure_claim}
 use Rattle.osi_blameless.proofs.sessions.nobody_of_a_side_is_to_blame.{NoneIsToBlame}
@@ -43,7 +44,8 @@ use Rattle.osi_blameless.proofs.sessions.what_is_asked_of_what_holds_at_each_ste
 use Rattle.osi_blameless.proofs.sessions.what_passes_leaves_all_standing as in_two
 use Rattle.osi_blameless.proofs.sessions.what_passes_leaves_all_standing.{IsHeardFirm}
 use Rattle.osi_blameless.proofs.sessions.what_stands_of_a_connection.{waiting_for}
-use Rattle.osi_blameless.proofs.sessions.what_the_stage_of_a_whole_end_says.{AwaitsAnswer, PassesOwn, adding, asking, awaits, cc_comes, gone, one_early}
+use Rattle.osi_blameless.proofs.sessions.what_the_stage_of_a_whole_end_says.{AwaitsAnswer, PassesOwn, adding, asking, awaits, cc_comes}
+use Rattle.osi_blameless.proofs.sessions.what_the_stage_of_a_whole_end_says.{gone, one_early}
 use Rattle.osi_blameless.proofs.sessions.what_the_stage_of_a_whole_end_says.{own_unit, runs_staged}
 
 -- ---- small facts
@@ -181,7 +183,8 @@ module _ (local : Local) (deeds : ℕ → Deeds) (end : Carrier) (put : List Val
         let same = w.like.lasts whole_lasts in
         let right = tolerable Left v c k in
         let mine : n ≡ r =
-        awaits_this n x at c h.all.places right.goes h.class right.firm h.all.judged right.mild r p o cs strays (sym w.judge ∙ judge) waits in
+        awaits_this n x at c h.all.places right.goes h.class right.firm h.all.judged right.mild r p o cs strays
+        (sym w.judge ∙ judge) waits in
         let given_here : has_given q w.whole.end ≡ true = ap (has_given q) same ∙ given_so q end some up in
         sym (ap (stage_at q) same) ∙ one_early local w.whole q r is given_here (λ e. apart (e ∙ sym mine))
 
@@ -204,11 +207,13 @@ module _ (local : Local) (deeds : ℕ → Deeds) (end : Carrier) (put : List Val
           then_zero n (opens_within n x at c h.all.places right.goes h.class right.firm h.all.judged right.mild b below) (record {
             sure = sure_claim.passes Right at v c h.sure;
             class = selects ∙ ap (λ (a : Class). Some a) zero_is;
-            all = then_all coming v c h k (ap (waiting_for (Some x.source)) none_put, same_known Left deeds 0 end put begun at coming v refl);
+            all = then_all coming v c h k
+                (ap (waiting_for (Some x.source)) none_put, same_known Left deeds 0 end put begun at coming v refl);
             one = subst (λ (s : State). HasOne Left n (IsGone end) s (after v c).sessions) (sym (unit_knows Right at v c))
                 (subst (λ (t : Sessions). HasOne Left n (IsGone end) (takes way.Right v c.traffic).state t)
                 (sym (unit_joins Right at v c))
-                (cc_opens n x at c h.all.places right.goes h.class right.firm h.all.judged right.mild (IsGone end) h.new b below others_gone));
+                (cc_opens n x at c h.all.places right.goes h.class right.firm h.all.judged right.mild
+                (IsGone end) h.new b below others_gone));
             ccs = all_join (IsCcFor n) coming (v ∷ []) (quiet_ccs n coming h.quiet) ((λ m y is. same_number n m x y is), tt);
             order = quiet_cc coming n x h.quiet;
           })
@@ -287,22 +292,13 @@ module _ (local : Local) where
 
   pub unanswered_first : (holding : Holding) → IsFresh true local holding → StandsUnanswered (λ r. no_deeds) (begin holding)
   unanswered_first holding fresh = record {
-    ahead = record { followed = f; bound = 0; above = above_along 0 f.events first f.whole f.along above; below = none_below };
+    ahead = first_ahead Left local holding fresh;
     none = grind (arith, fresh_sure, fresh_apart, no_item);
     undone = λ r less. record { put = refl; taken = refl; shut = λ peer is. shut_at r peer is };
     shut = λ q peer some is. shut_at q peer is;
     some = λ begun. absurd (cc begun);
   }
     where
-      f : IsFollowed Left first (begin holding)
-      f = begin_followed Left true local holding fresh
-
-      above : AreAbove 0 first
-      above = record { rise = tt; up = tt; given = omega arith }
-
-      none_below : AreUpTo Left 0 (begin holding).course.sessions
-      none_below = record { live = λ i j r here named. absurd (cc here); done = λ i j r here named. absurd (cc here) }
-
       shut_at : (r peer : ℕ) → stage_at r holding.end.carrier ≡ amid peer → ⊥
       shut_at r peer is = grind arith
 
@@ -366,7 +362,8 @@ module _ (local : Local) where
         g : GoesOn Left first b mid
         g =
             passes_other_ahead Left first proper at packet units old mid (octets, read, refl) h.ahead
-            (other_up Left first at b packet units old mid (octets, read, refl) h.none.all.places (none_named Left b at units old.course passed)
+            (other_up Left first at b packet units old mid (octets, read, refl) h.none.all.places
+            (none_named Left b at units old.course passed)
             h.ahead.below)
 
         by : Comes local deeds end old.put old.begun at b (units_in mid.coming) mid.course → Stands mid ⊎ StandsInZero Left local deeds mid
@@ -422,7 +419,8 @@ module _ (local : Local) where
 
     -- a unit of the end is a CR
     by_kind : (at : ℕ) (v : Value) (old : Joint) (put : List Value) (w : Whole) → w.judge ≡ old.course.traffic → PassesOwn w v →
-        Steps Left (passes_own at v) old (own_passed at v old put) → IsRight Left v old.course → Stands old → Stands (own_passed at v old put)
+        Steps Left (passes_own at v) old (own_passed at v old put) → IsRight Left v old.course → Stands old →
+        Stands (own_passed at v old put)
     by_kind at v old put w judge (asking x is class) step right h =
         subst (λ (u : Value). Stands (own_passed at u old put)) (sym is)
         (own_cr at x old put (subst (λ (u : Value). Steps Left (passes_own at u) old (own_passed at u old put)) is step)
@@ -439,7 +437,8 @@ module _ (local : Local) where
         let zero_not : f.whole.judge.course.class ≡ Some Two → ⊥ =
         λ two. none_some old.course.traffic.course.class Two h.none.class (ap (λ (t : State). t.course.class) (sym f.judge) ∙ two) in
         let kind = own_unit local f.whole v s.rest
-        ((runs_staged local old f).stage (ap (λ (t : State). t.course.left_stopped) f.judge ∙ right.goes)) s.is (f.begun ∙ begun) zero_not in
+        ((runs_staged local old f).stage (ap (λ (t : State). t.course.left_stopped) f.judge ∙ right.goes)) s.is
+        (f.begun ∙ begun) zero_not in
         subst Stands (sym is) (by_kind at v old new.put f.whole f.judge kind (read, octets, put, begun, refl) right h)
 
   -- ---- nobody is to blame
@@ -472,8 +471,10 @@ module _ (local : Local) where
 
         by : Comes local deeds end old.put old.begun at h.ahead.bound (units_in old.coming ++ front) then → NoneIsToBlame Left then.sessions
         by (none_yet none) =
-            stand_none known_of parts caller called Left deeds old.put old.begun old.holding.end courses known_then then.traffic then.sessions
+            stand_none known_of parts caller called Left deeds old.put old.begun old.holding.end courses known_then then.traffic
+            then.sessions
             none.all
         by (then_zero r within z) =
-            stand_none known_of parts caller called Left deeds old.put old.begun old.holding.end courses known_then then.traffic then.sessions
+            stand_none known_of parts caller called Left deeds old.put old.begun old.holding.end courses known_then then.traffic
+            then.sessions
             z.all

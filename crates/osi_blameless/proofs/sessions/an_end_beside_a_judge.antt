@@ -130,6 +130,7 @@ module _ (proper : AllProper) (barred : Class) (d : Direction) (local : Local) (
       (subst (λ (j : Joint). IsStillJudged barred j.course) (sym step.2) judged)
       (subst (λ (j : Joint). NeverToBlame d j.course) (sym step.2) never)
       (k.leads.other_passes deeds at octets units old new step taken
-      (subst (λ (j : Joint). j.course.traffic.course.class ≡ Some barred → ⊥) (sym step.2) not) g.holds) (subst (HaveCourses d deeds) (sym step.2) g.courses)
+      (subst (λ (j : Joint). j.course.traffic.course.class ≡ Some barred → ⊥) (sym step.2) not) g.holds)
+      (subst (HaveCourses d deeds) (sym step.2) g.courses)
       (subst (λ (j : Joint). IsSane j.holding) (sym step.2) g.sane)
       (subst (λ (j : Joint). AllByRecursion CanBeWritten j.put) (sym step.2) g.can)

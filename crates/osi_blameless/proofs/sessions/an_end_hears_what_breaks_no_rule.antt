@@ -76,7 +76,8 @@ at_by e at v n c dest some h = grind arith
 
 -- no unit of a calling end waits for the reference that a CC gives
 abbrev pub IsNotAwaited : Direction → (put : List Value) → Value → State → Type 0
-IsNotAwaited Left put (confirm n x) s = is_applied (takes way.Right (confirm n x) s).told.finding ≡ true → waiting_for (Some x.source) put ≡ []
+IsNotAwaited Left put (confirm n x) s = is_applied (takes way.Right (confirm n x) s).told.finding ≡ true →
+    waiting_for (Some x.source) put ≡ []
 IsNotAwaited d put v s = Unit {0}
 
 module _ (is_live : ℕ → Bool) (put coming : List Value) where

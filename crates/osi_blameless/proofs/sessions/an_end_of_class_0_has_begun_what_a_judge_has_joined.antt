@@ -45,10 +45,10 @@ module _ (r peer : ℕ) (link : Standing) (c : Carrier) (z : IsZeroAt r peer lin
       sure (ap (λ (n : ℕ). may_take c n) same ∙ ap is_under_way is_amid)
       ∙ none_in_flight q (honest.units_in coming) (subst (AllByRecursion MayBeFollowed) (same_units coming) all)
 
-pub begun_until_two : (d : Direction) (local : Local) (proper : AllProper) → HasBegun d (StandsUntilTwo d local proper)
-begun_until_two d local proper deeds j (inl before) courses sane firm class not all r peer link at o x here =
-    none_some j.course.traffic.course.class Zero (none_selected d local proper deeds j before) class
-begun_until_two d local proper deeds j (inr h) courses sane firm class not all r peer link at o x here =
+pub begun_until_two : (d : Direction) (local : Local) → HasBegun d (StandsUntilTwo d local)
+begun_until_two d local deeds j (inl before) courses sane firm class not all r peer link at o x here =
+    none_some j.course.traffic.course.class Zero (none_selected d local deeds j before) class
+begun_until_two d local deeds j (inr h) courses sane firm class not all r peer link at o x here =
     let end = j.holding.end.carrier in
     let z = h.zero in
     let same : r ≡ h.r = h.amid_is r peer (is_some r peer link end at sane.between.sound.orderly.rise) (is_amid r peer link end at) in

@@ -2,13 +2,13 @@
 -- comes is DTs, and those whose references are gone. So it is as packets begin, and as units of either side pass.
 -- For the session of the connection of an end in class 0.
 use Rattle.osi_blameless.proofs.Vocabulary.{◌≡◌, ◌≢◌, ◌∙◌, refl, sym, ap, subst, ℕ, ◌^◌, ◌<◌, ◌≤◌, Bool, true, false, List, [], ◌∷◌, ◌++◌}
-use Rattle.osi_blameless.proofs.Vocabulary.{length, Option, Some, None, arith, slice_get, append-nil, append_assoc, AllByRecursion, units_of}
-use Rattle.osi_blameless.proofs.Vocabulary.{Connect, Value, acknowledge, confirm, data0, data2, disconnect, disconnected, error, request}
-use Rattle.osi_blameless.proofs.Vocabulary.{is_over, list_all, not, unlike, eqb-true, ◌==◌, is_refused, differ}
-use Rattle.osi_blameless.proofs.Vocabulary.{unit_parts, Part, Class, Two, Zero, Local, Direction, Left, Right, other, State, class_for}
-use Rattle.osi_blameless.proofs.Vocabulary.{is_stopped, takes, left_class, zero_stays, Deeds, units_in, units_read, past, stage_at, Joined}
-use Rattle.osi_blameless.proofs.Vocabulary.{Sessions, spoken, taken, Course, packet_begins, unit_passes, units_pass, heard, way_of, Joint}
-use Rattle.osi_blameless.proofs.Vocabulary.{Steps, begins_other, begins_own, passes_other, passes_own, amid, AllProper, calls_from, IsFirm}
+use Rattle.osi_blameless.proofs.Vocabulary.{length, Option, Some, None, arith, slice_get, append-nil, append_assoc, AllByRecursion}
+use Rattle.osi_blameless.proofs.Vocabulary.{units_of, Connect, Value, acknowledge, confirm, data0, data2, disconnect, disconnected, error}
+use Rattle.osi_blameless.proofs.Vocabulary.{request, is_over, list_all, not, unlike, eqb-true, ◌==◌, is_refused, differ, unit_parts, Part}
+use Rattle.osi_blameless.proofs.Vocabulary.{Class, Two, Zero, Local, Direction, Left, Right, other, State, class_for, is_stopped, takes}
+use Rattle.osi_blameless.proofs.Vocabulary.{left_class, zero_stays, Deeds, units_in, units_read, past, stage_at, Joined, Sessions, spoken}
+use Rattle.osi_blameless.proofs.Vocabulary.{taken, Course, packet_begins, unit_passes, units_pass, heard, way_of, Joint, Steps}
+use Rattle.osi_blameless.proofs.Vocabulary.{begins_other, begins_own, passes_other, passes_own, amid, AllProper, calls_from, IsFirm}
 use Rattle.osi_carrier.specs.State.{State as Carrier}
 use Rattle.osi_rules.specs.declared.directions.Direction.TheVariants as way
 use Rattle.osi_fair.specs.Naming.{unit as passing}
@@ -130,7 +130,8 @@ module _ (d : Direction) (deeds : ℕ → Deeds) (r : ℕ) (end : Carrier) (put 
         let (later, cc_for) = later_so v still in
         record {
           sure = sure_claim.passes (other d) at v c h.sure;
-          class = ap (λ (s : State). s.course.class) (unit_knows (other d) at v c) ∙ zero_stays (passing (way_of (other d)) v) c.traffic h.class;
+          class = ap (λ (s : State). s.course.class) (unit_knows (other d) at v c)
+              ∙ zero_stays (passing (way_of (other d)) v) c.traffic h.class;
           all = all;
           one = subst (λ (s : State). HasOne d r (IsGone end) s (after v c).sessions) (sym (unit_knows (other d) at v c))
               (subst (λ (t : Sessions). HasOne d r (IsGone end) (takes (way_of (other d)) v c.traffic).state t)
@@ -233,7 +234,14 @@ module _ (deeds : ℕ → Deeds) (end : Carrier) (put : List Value) (begun : Boo
         let z = is_zero Right c.traffic h.sure right.firm firm h.class in
         let mild : IsMild (request x) (takes way.Left (request x) c.traffic).told.finding =
         subst (λ (u : Value). IsMild u (takes way.Left u c.traffic).told.finding) (sym e) right.mild in
-        grind (arith, all_so, all_over x mild, differ, not_true, is_live_there c.traffic h.all.judged right.firm h.all.apart z.only way.Left)
+        grind (
+          arith,
+          all_so,
+          all_over x mild,
+          differ,
+          not_true,
+          is_live_there c.traffic h.all.judged right.firm h.all.apart z.only way.Left,
+        )
     still_so (confirm n x) e a = absurd a
     still_so (disconnect n source reason user) e a = absurd a
     still_so (data0 last user) e a = absurd a
@@ -294,7 +302,8 @@ own_zero d deeds r at v old new (read, octets, put, begun, is) dt right h =
     let known = known_in end (units_in old.coming) in
     subst (λ (j : Joint). AllInZero d deeds r j.holding.end.carrier j.put j.begun (units_in j.coming) j.course) (sym is) (record {
       sure = sure_claim.passes d at v old.course h.sure;
-      class = ap (λ (s : State). s.course.class) (unit_knows d at v old.course) ∙ zero_stays (passing (way_of d) v) old.course.traffic h.class;
+      class = ap (λ (s : State). s.course.class) (unit_knows d at v old.course)
+          ∙ zero_stays (passing (way_of d) v) old.course.traffic h.class;
       all = (any_passes_own d deeds known at v old mid (read, octets, put, begun, refl) h.sure right
           (λ not. absurd (not (knows_own d v old.course h.sure h.class dt right))) (record { all = h.all })).all;
       one = subst (λ (s : State). HasOne d r (IsGone end) s mid.course.sessions) (sym (unit_knows d at v old.course))
@@ -373,7 +382,8 @@ module _ (d : Direction) (local : Local) (proper : AllProper) (deeds : ℕ → D
       (ap (λ (j : Joint). j.holding) step.4) (own_zero d deeds h.r at v old new step dt right h.zero)
       (λ begun. absurd (cc (sym begun ∙ ap (λ (j : Joint). j.begun) step.4)))
 
-  pub zero_other_passes : (at : ℕ) (packet : List ℕ) (units : List Value) (old new : Joint) → Steps d (passes_other at packet units) old new →
+  pub zero_other_passes : (at : ℕ) (packet : List ℕ) (units : List Value) (old new : Joint) →
+      Steps d (passes_other at packet units) old new →
       ArePassed Two d at units old.course → Stands old → Stands new
   zero_other_passes at packet units old new (octets, read, is) passed h =
       let mid : Joint = record old { course = units_pass (other d) at units old.course; coming = old.coming ++ packet ∷ [] } in

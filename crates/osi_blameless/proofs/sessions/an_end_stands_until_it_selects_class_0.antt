@@ -1,5 +1,5 @@
--- Until a called end selects class 0 all its connections stand at a judge, while it has selected no class and while its CC of class 2 waits.
--- For the session of the connection of an end in class 0.
+-- Until a called end selects class 0 all its connections stand at a judge, while it has selected no class and while its CC of class 2
+-- waits. For the session of the connection of an end in class 0.
 use Rattle.osi_blameless.proofs.Vocabulary.{arith, ◌≡◌, ◌∙◌, ◌⊎◌, inl, inr, refl, sym, ap, subst, ℕ, ◌^◌, ◌<◌, Bool, true, false}
 use Rattle.osi_blameless.proofs.Vocabulary.{if◌then◌else◌, List, [], ◌∷◌, ◌++◌, length, Some, None, slice_get, AllByRecursion, append-nil}
 use Rattle.osi_blameless.proofs.Vocabulary.{units_of, Connect, Value, confirm, Two, Zero, Local, Left, Right, IsNoCc}
@@ -14,8 +14,9 @@ use Rattle.osi_blameless.proofs.what_a_taker_passes_over.{mild_of}
 use Rattle.osi_blameless.proofs.what_the_turns_among_steps_do.{TurnDoes}
 use Rattle.osi_blameless.proofs.small_facts_that_many_lemmas_use.{none_some, can_more as all_more}
 use Rattle.osi_blameless.proofs.sessions.a_called_end_answers_with_class_2_or_selects_class_0.{answers_or_selects}
-use Rattle.osi_blameless.proofs.sessions.a_called_end_stands_as_units_pass.{StandsCalled, begins_other_stands, begins_own_stands}
-use Rattle.osi_blameless.proofs.sessions.a_called_end_stands_as_units_pass.{passes_other_stands, passes_own_stands, turns_stand}
+use Rattle.osi_blameless.proofs.sessions.a_turn_of_an_end_of_class_2.{answers_turn}
+use Rattle.osi_blameless.proofs.sessions.an_end_stands_as_units_pass.{stands_first, stands_other_begins, stands_other_passes}
+use Rattle.osi_blameless.proofs.sessions.an_end_stands_as_units_pass.{stands_own_begins, stands_own_passes}
 use Rattle.osi_blameless.proofs.sessions.a_cc_of_class_0_opens_one_connection.{has_effect}
 use Rattle.osi_blameless.proofs.sessions.a_turn_after_which_a_cc_of_class_0_waits.{no_cc_taken}
 use Rattle.osi_blameless.proofs.sessions.a_turn_does_what_its_deeds_say.{turn_leaves, units_join}
@@ -31,7 +32,6 @@ use Rattle.osi_blameless.proofs.sessions.steps_of_either_class_leave_all_standin
 use Rattle.osi_blameless.proofs.sessions.the_turn_that_selects_class_0.{StandsUnselected, turns_selecting, unselected_so}
 use Rattle.osi_blameless.proofs.sessions.units_of_class_0_come_after_its_cc.{IsQuiet}
 use Rattle.osi_blameless.proofs.sessions.units_written_alike_have_the_same_ccs.{AnswersTwo, HasCc, has_back, has_front}
-use Rattle.osi_blameless.proofs.sessions.what_a_called_end_keeps_unless_in_class_0.{called_first}
 use Rattle.osi_blameless.proofs.sessions.what_a_turn_puts_at_the_connections_that_are_open.{WasOpen, open_before, puts_cc, takes_cc}
 use Rattle.osi_blameless.proofs.sessions.what_a_turn_puts_at_the_connections_that_are_open.{then_open}
 use Rattle.osi_blameless.proofs.sessions.what_a_turn_puts_goes_to_its_peer.{all_back}
@@ -84,12 +84,12 @@ no_cc_passes at v old two right sure none not m x is =
     ∙ ap (λ (k : Class). Some k) (two_class x (subst AnswersTwo is two))))
 
 module _ (local : Local) (proper : AllProper) where
-  pub unselected_first : (h : Holding) → IsFresh false local h → StandsUnselected local proper (λ r. no_deeds) (begin h)
-  unselected_first h fresh = grind (arith, fresh_sure, none_open, stage_is, called_first local proper h fresh)
+  pub unselected_first : (h : Holding) → IsFresh false local h → StandsUnselected local (λ r. no_deeds) (begin h)
+  unselected_first h fresh = grind (arith, fresh_sure, none_open, stage_is, stands_first Right local h fresh)
 
   module _ (deeds : ℕ → Deeds) where
     abbrev Stands : Joint → Type 0
-    Stands j = StandsUnselected local proper deeds j
+    Stands j = StandsUnselected local deeds j
 
     -- ---- a packet begins
 
@@ -99,7 +99,7 @@ module _ (local : Local) (proper : AllProper) where
     unselected_own_begins old new (some, none, is) courses few h =
         let mid : Joint = record old { begun = true; course = packet_begins Right old.course } in
         subst Stands (sym is) (record {
-          stands = begins_own_stands local proper deeds old mid (some, none, refl) courses few h.stands;
+          stands = stands_own_begins Right local proper deeds old mid (some, none, refl) courses few h.stands;
           sure = sure_claim.begins Right old.course h.sure;
           class = h.class;
           quiet = h.quiet;
@@ -111,7 +111,7 @@ module _ (local : Local) (proper : AllProper) where
     unselected_other_begins old new is h =
         let mid : Joint = record old { course = packet_begins Left old.course } in
         subst Stands (sym is) (record {
-          stands = begins_other_stands local proper deeds old mid refl h.stands;
+          stands = stands_other_begins Right local proper deeds old mid refl h.stands;
           sure = sure_claim.begins Left old.course h.sure;
           class = h.class;
           quiet = h.quiet;
@@ -121,11 +121,13 @@ module _ (local : Local) (proper : AllProper) where
 
     -- ---- a unit of the end passes, and selects no class
 
-    pub unselected_own_passes : (at : ℕ) (v : Value) (old new : Joint) → Steps Right (passes_own at v) old new → IsRight Right v old.course →
+    pub unselected_own_passes : (at : ℕ) (v : Value) (old new : Joint) → Steps Right (passes_own at v) old new →
+        IsRight Right v old.course →
         IsFirm old.course.traffic.course → (new.course.traffic.course.class ≡ Some Two → ⊥) → Stands old → Stands new
     unselected_own_passes at v old new (read, octets, put, begun, is) right firm not h =
         let mid : Joint = record old { put = new.put; begun = false; course = units_pass Right at (v ∷ []) old.course } in
-        let plain : IsNoCc v = no_cc_passes at v old.course (subst (AllByRecursion AnswersTwo) put h.stands.own.two).0 right h.sure h.class
+        let plain : IsNoCc v = no_cc_passes at v old.course (subst (AllByRecursion AnswersTwo) put h.stands.own.holds.two).0 right
+        h.sure h.class
         (λ two. not (ap (λ (j : Joint). j.course.traffic.course.class) is ∙ two)) in
         let fine : IsProper Right v old.course = record {
           goes = right.goes;
@@ -135,7 +137,7 @@ module _ (local : Local) (proper : AllProper) where
         } in
         let class : mid.course.traffic.course.class ≡ None = grind (arith, unit_knows, selects_none) in
         subst Stands (sym is) (record {
-          stands = passes_own_stands local proper deeds at v old mid (read, octets, put, begun, refl) fine
+          stands = stands_own_passes Right local tt proper deeds at v old mid (read, octets, put, begun, refl) fine
               (going_on old.course.traffic.course
               (record { sure = firm; two = λ zero_is. none_some old.course.traffic.course.class Zero h.class zero_is })) h.stands;
           sure = sure_claim.passes Right at v old.course h.sure;
@@ -156,9 +158,9 @@ module _ (local : Local) (proper : AllProper) where
         let all : units_in old.coming ++ units ≡ units_in mid.coming =
         sym (units_join old.coming (packet ∷ []) ∙ ap (λ (l : List Value). units_in old.coming ++ l) one) in
         let after = units_unselected deeds old.holding.end.carrier old.put old.begun at units (units_in old.coming) old.course passed
-        (unselected_so local proper deeds old h) in
+        (unselected_so local deeds old h) in
         subst Stands (sym is) (record {
-          stands = passes_other_stands local proper deeds at packet units old mid (octets, read, refl)
+          stands = stands_other_passes Right local tt proper deeds at packet units old mid (octets, read, refl)
               (fine_of at units old.course h.class passed) h.stands;
           sure = after.sure;
           class = after.class;
@@ -170,7 +172,7 @@ module _ (local : Local) (proper : AllProper) where
   -- ---- a turn
 
   module _ (turn : Turn) (old new : Joint) (t : TakesTurn turn old new) (deeds : ℕ → Deeds) (does : TurnDoes false deeds turn old new t)
-      (firm : IsFirm old.course.traffic.course) (h : StandsUnselected local proper deeds old) where
+      (firm : IsFirm old.course.traffic.course) (h : StandsUnselected local deeds old) where
     abbrev put : List Marked
     put = does.of.on.put
 
@@ -192,9 +194,9 @@ module _ (local : Local) (proper : AllProper) where
     has_cc q some (takes_cc may x front later is) =
         no_cc_taken local proper turn old new t deeds does.of.on does.of.life does.units q q x front later h.quiet may is
 
-    none_turns : AllByRecursion AnswersTwo new.put → StandsUnselected local proper then_deeds new
+    none_turns : AllByRecursion AnswersTwo new.put → StandsUnselected local then_deeds new
     none_turns two = record {
-      stands = turns_stand local proper turn old new t deeds does.of.on does.of.life does.units does.of.on.can two
+      stands = answers_turn local proper turn old new t deeds does.of.on does.of.life does.units does.of.on.can two
           (going_on old.course.traffic.course clear) h.stands;
       sure = subst Sure (sym t.course) h.sure;
       class = ap (λ (c : Passed). c.traffic.course.class) t.course ∙ h.class;
@@ -206,11 +208,11 @@ module _ (local : Local) (proper : AllProper) where
 
     turn_by : AllByRecursion AnswersTwo new.put
         ⊎ Selecting local (turns_ahead Right (first local) proper turn old new t h.stands.own.ahead).ahead.followed.whole →
-        StandsUnselected local proper then_deeds new ⊎ StandsAnswering local then_deeds new
+        StandsUnselected local then_deeds new ⊎ StandsAnswering local then_deeds new
     turn_by (inl two) = inl (none_turns two)
     turn_by (inr z) = inr (turns_selecting local proper turn old new t deeds does.of.on does.of.life does.units firm h z)
 
-    pub unselected_turns : StandsUnselected local proper then_deeds new ⊎ StandsAnswering local then_deeds new
+    pub unselected_turns : StandsUnselected local then_deeds new ⊎ StandsAnswering local then_deeds new
     unselected_turns =
         turn_by (answers_or_selects local new (turns_ahead Right (first local) proper turn old new t h.stands.own.ahead).ahead.followed
         (subst (AllByRecursion CanBeWritten) (sym turn_put) (all_more old.put (all_units put) h.stands.can does.of.on.can))

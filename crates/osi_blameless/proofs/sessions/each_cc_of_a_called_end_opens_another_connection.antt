@@ -201,7 +201,8 @@ module _ (local : Local) (w : Whole) (t : Sessions) (f : Called local w) (apart 
       grind (arith, item)
 
   -- nor for that of a connection which the end has open at the judge
-  open_not : {A : Type 0} (n r : ℕ) (ts : List Placed) (k : CcAt n r ts) (i : ℕ) (e : Connection) → slice_get w.judge.connections i ≡ Some e →
+  open_not : {A : Type 0} (n r : ℕ) (ts : List Placed) (k : CcAt n r ts) (i : ℕ) (e : Connection) →
+      slice_get w.judge.connections i ≡ Some e →
       is_open e.right.phase ≡ true → e.left.reference ≡ n → A
   open_not n r ts k i e at lives is =
       let (j, here, one) = at_same w.judge.connections t.live i e places at in
@@ -263,7 +264,8 @@ module _ (local : Local) (w : Whole) (t : Sessions) (f : Called local w) (apart 
       not_empty (units_at p front) (units_at p rest) v (sym (place_parts p front rest v is) ∙ none)
 
   ordered_one : (n r : ℕ) (front rest : List Placed) (o : Option ℕ) (v : Value) → f.tagged ≡ front ++ (o, v) ∷ rest →
-      StrayIf f.shut w.end f.refs f.home w.judge.course.disconnects.strays o v rest → IsNotZero v → is_for (Some n) v ≡ true → CcAt n r rest →
+      StrayIf f.shut w.end f.refs f.home w.judge.course.disconnects.strays o v rest → IsNotZero v → is_for (Some n) v ≡ true →
+      CcAt n r rest →
       ⊥
   ordered_one n r front rest None v is stray zero mine k = differ (is_for (Some n) v) mine (ap (is_for (Some n)) stray.is)
   ordered_one n r front rest (Some p) v is stray zero mine k = by (slice_get w.judge.connections p) refl

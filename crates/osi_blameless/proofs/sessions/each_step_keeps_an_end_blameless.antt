@@ -182,7 +182,8 @@ module _ (proper : AllProper) (barred : Class) (d : Direction) (local : Local) (
 
       other_by : Passing → Stays deeds new
       other_by (all_taken so) =
-          goes (other_goes proper barred d local Inv k deeds at octets units old new (all, read, refl) g so.passed so.not so.judged so.never)
+          goes (other_goes proper barred d local Inv k deeds at octets units old new
+          (all, read, refl) g so.passed so.not so.judged so.never)
       other_by (then_done s) = ended s
       other_by (then_rests r) = rested r
 

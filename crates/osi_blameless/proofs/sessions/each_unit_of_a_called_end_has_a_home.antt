@@ -64,7 +64,8 @@ not_empty [] ys v e = absurd (cc)
 not_empty (x ∷ xs) ys v e = absurd (cc)
 
 module _ (local : Local) (w : Whole) (t : Sessions) (f : Called local w) (apart : NamesApart w.judge.connections)
-    (named : AreNamedApart way.Left w.judge.connections) (places : HaveSamePlaces w.judge.connections t.live) (lasts : w.end.ended ≡ None) where
+    (named : AreNamedApart way.Left w.judge.connections) (places : HaveSamePlaces w.judge.connections t.live)
+    (lasts : w.end.ended ≡ None) where
   abbrev StandsAt : ℕ → Connection → Type 0
   StandsAt p c = Stand local f.shut w.end w.coming (units_at p f.tagged) (units_at p f.came) (w.begun && first_at p f.tagged) (f.refs p) c
 

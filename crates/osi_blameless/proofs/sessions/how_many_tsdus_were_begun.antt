@@ -5,10 +5,9 @@ use Rattle.osi_blameless.proofs.Vocabulary.{◌≡◌, ◌≤◌, flat_map-appen
 use Rattle.osi_blameless.proofs.Vocabulary.{move_keeps, all as all_sent, Ends, Standing, give_out, hand_in, hand_out, Move, MovesAlong}
 use Rattle.osi_blameless.proofs.Vocabulary.{part_out, parts_out, take_in, tsdus_in, tsdus_out, unit_parts, Part, tsdus, tsdus_after, uncut}
 use Rattle.osi_blameless.proofs.Vocabulary.{End, fresh_of, no_calls, AreCalls, Deeds, said_in, is_gone, closed, ends_whole, left_over}
-use Rattle.osi_blameless.proofs.Vocabulary.{parts_of, never, awaited, unknown, Said}
+use Rattle.osi_blameless.proofs.Vocabulary.{parts_of, never, awaited, unknown, Said, over}
 use Rattle.osi_honest.specs.Courses.{Course}
 use Rattle.osi_honest.specs.Courses.Course.{is_open}
-use Rattle.osi_honest.specs.Courses.Gone.{over}
 use Rattle.osi_blameless.proofs.sessions.a_session_that_is_shown_is_not_to_blame.{octets_in, parts_put, tsdus_more}
 
 -- ---- parts one after the other

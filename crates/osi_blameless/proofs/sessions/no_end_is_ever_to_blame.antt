@@ -9,13 +9,10 @@ use Rattle.osi_blameless.proofs.in_class_0_one_side_alone_is_judged.{IsLoose}
 use Rattle.osi_blameless.proofs.no_unit_of_an_end_breaks_a_rule.{always_unbroken}
 use Rattle.osi_blameless.proofs.small_facts_that_many_lemmas_use.{zero_two}
 use Rattle.osi_blameless.proofs.what_the_turns_among_steps_do.{ComesByDoing, comes_by_steps}
-use Rattle.osi_blameless.proofs.sessions.a_calling_end_without_class_2_puts_no_dt.{calling_puts_none}
-use Rattle.osi_blameless.proofs.sessions.an_end_that_has_said_nothing_is_not_to_blame.{HasSaidNothing, mute_keeps}
 use Rattle.osi_blameless.proofs.sessions.an_end_of_class_0_has_begun_what_a_judge_has_joined.{begun_until_two}
 use Rattle.osi_blameless.proofs.sessions.nobody_of_a_side_is_to_blame.{NeverToBlame, NoneIsToBlame}
 use Rattle.osi_blameless.proofs.sessions.what_an_end_keeps_until_class_2.{StandsUntilTwo, keeps_until_two}
-use Rattle.osi_blameless.proofs.sessions.what_a_called_end_keeps_unless_in_class_0.{StandsOrSelected, called_keeps}
-use Rattle.osi_blameless.proofs.sessions.what_a_calling_end_keeps_unless_in_class_0.{StandsQuiet, calling_keeps}
+use Rattle.osi_blameless.proofs.sessions.what_an_end_keeps_unless_in_class_0.{UnlessZero, keeps_unless_zero}
 use Rattle.osi_blameless.proofs.sessions.no_session_is_to_blame_unless_class_2_is_selected.{ends_well}
 use Rattle.osi_blameless.proofs.sessions.no_session_is_to_blame_unless_class_0_is_selected.{never_to_blame}
 use Rattle.osi_blameless.proofs.sessions.a_loss_is_in_class_2_at_a_judge.{capture_two, firm_in_zero}
@@ -56,23 +53,13 @@ module _ (known : Known) (known_of : AsSent) (parts : AsParts) (caller : CallerL
   in_zero : (d : Direction) → NeverIf d (selected ≡ Some Zero)
   in_zero d begin fresh comes few zero =
       by_class_0 d zero
-      (ends_well known d local (StandsUntilTwo d local known.proper) (keeps_until_two local known.proper known_of parts caller called d)
-      (begun_until_two d local known.proper) begin capture fresh comes (record { not = λ two. zero_two selected zero two; few = few }))
+      (ends_well known d local (StandsUntilTwo d local) (keeps_until_two local known.proper known_of parts caller called d)
+      (begun_until_two d local) begin capture fresh comes (record { not = λ two. zero_two selected zero two; few = few }))
 
-  -- a calling end without class 2 has said nothing, unless in class 0
   without : (d : Direction) → NeverIf d (selected ≡ Some Zero → ⊥)
-  without Right begin fresh comes few not =
-      never_to_blame known.proper Right local (StandsOrSelected local known.proper)
-      (called_keeps local known.proper known_of parts caller called) begin capture fresh comes (record { not = not; few = few })
-  without Left begin fresh comes few not = by local.class2 refl
-    where
-      by : (b : Bool) → local.class2 ≡ b → NeverToBlame Left course
-      by true two =
-          never_to_blame known.proper Left local (StandsQuiet local two known.proper)
-          (calling_keeps local two known.proper known_of parts caller called) begin capture fresh comes (record { not = not; few = few })
-      by false none =
-          never_to_blame known.proper Left local (HasSaidNothing Left local)
-          (mute_keeps known.proper Left local (calling_puts_none local none)) begin capture fresh comes (record { not = not; few = few })
+  without d begin fresh comes few not =
+      never_to_blame known.proper d local (UnlessZero d local) (keeps_unless_zero local known.proper known_of parts caller called d) begin
+      capture fresh comes (record { not = not; few = few })
 
   -- ---- so an end is blameless
 

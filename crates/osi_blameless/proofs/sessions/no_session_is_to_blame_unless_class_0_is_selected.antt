@@ -44,9 +44,11 @@ module _ (proper : AllProper) (d : Direction) (local : Local) (Inv : (ℕ → De
 
     one_by : (r : Reach) → how_far ≡ r → Comes Zero d NoRest at v c new
     one_by reach.Nothing far =
-        is_taken (taken_on (λ all. let no : reach.Nothing ≡ reach.Everything = sym far ∙ all in cc)) (nothing_goes (other d) at v c far so.judged)
+        is_taken (taken_on (λ all. let no : reach.Nothing ≡ reach.Everything = sym far ∙ all in cc))
+        (nothing_goes (other d) at v c far so.judged)
     one_by reach.Connection far =
-        is_taken (taken_on (λ all. let no : reach.Connection ≡ reach.Everything = sym far ∙ all in cc)) (part_goes (other d) at v c far so.judged)
+        is_taken (taken_on (λ all. let no : reach.Connection ≡ reach.Everything = sym far ∙ all in cc))
+        (part_goes (other d) at v c far so.judged)
     one_by reach.Side far = absurd (so.not (side_known (other d) at v c far (so.sure.agrees Zero)))
     one_by reach.Everything far = is_done (all_done d (other d) at v c far so.never)
 

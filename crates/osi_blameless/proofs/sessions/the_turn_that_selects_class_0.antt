@@ -9,14 +9,13 @@ use Rattle.osi_carrier.specs.State.{State as Carrier}
 use Rattle.osi_blameless.proofs.steps_are_events.{IsFollowed}
 use Rattle.osi_blameless.proofs.small_facts_that_many_lemmas_use.{can_more as all_more, none_some}
 use Rattle.osi_blameless.proofs.what_is_put_is_what_is_written.{none_written}
-use Rattle.osi_blameless.proofs.sessions.a_called_end_is_ready.{waits_above}
+use Rattle.osi_blameless.proofs.sessions.an_end_is_ready_for_each_cc_that_passes.{waits_above}
 use Rattle.osi_blameless.proofs.sessions.a_called_end_of_class_2_has_its_lines.{has_lines}
-use Rattle.osi_blameless.proofs.sessions.a_called_end_stands_as_units_pass.{StandsCalled}
 use Rattle.osi_blameless.proofs.sessions.a_turn_after_which_a_cc_of_class_0_waits.{dts_after, no_cc_taken, turns_waiting}
 use Rattle.osi_blameless.proofs.sessions.a_turn_of_an_end_in_class_0.{cc_not_dt}
 use Rattle.osi_blameless.proofs.sessions.all_connections_stand.{AllStand}
 use Rattle.osi_blameless.proofs.sessions.an_end_answers_with_class_0.{StandsAnswering, first}
-use Rattle.osi_blameless.proofs.sessions.an_end_stands_as_units_pass.{known_at}
+use Rattle.osi_blameless.proofs.sessions.an_end_stands_as_units_pass.{StandsInTwo, known_at}
 use Rattle.osi_blameless.proofs.sessions.an_end_stands_before_a_class_is_selected.{StandInNone}
 use Rattle.osi_blameless.proofs.sessions.an_end_stands_in_class_0.{known_in}
 use Rattle.osi_blameless.proofs.sessions.each_reference_of_an_end_is_new.{GoesOn, turns_ahead}
@@ -40,17 +39,17 @@ module _ (deeds : ℕ → Deeds) (known then_known : Known) (put : List Value) (
   all_unnamed s t none a = search arith
 
 -- It has selected no class, or its CC of class 2 waits: each connection that it has open has a CC that waits.
-pub record StandsUnselected (local : Local) (proper : AllProper) (deeds : ℕ → Deeds) (j : Joint) : Type 0 where
-  pub stands : StandsCalled local proper deeds j
+pub record StandsUnselected (local : Local) (deeds : ℕ → Deeds) (j : Joint) : Type 0 where
+  pub stands : StandsInTwo Right local deeds j
   pub sure : Sure j.course
   pub class : j.course.traffic.course.class ≡ None
   pub quiet : AllByRecursion IsQuiet (units_in j.coming)
   pub uncalled : AreUncalled j.course.sessions
   pub shut : (q peer : ℕ) → 0 < q → stage_at q j.holding.end.carrier ≡ amid peer → (n : ℕ) × HasCc n q j.put
 
-pub unselected_so : (local : Local) (proper : AllProper) (deeds : ℕ → Deeds) (j : Joint) → StandsUnselected local proper deeds j →
+pub unselected_so : (local : Local) (deeds : ℕ → Deeds) (j : Joint) → StandsUnselected local deeds j →
     StandInNone Right deeds j
-unselected_so local proper deeds j h = record {
+unselected_so local deeds j h = record {
   sure = h.sure;
   class = h.class;
   all = all_unnamed deeds (known_at j) (known_in j.holding.end.carrier (units_in j.coming)) j.put j.begun j.course.traffic j.course.sessions
@@ -90,8 +89,8 @@ same_cc n m x y e = cc
 module _ (local : Local) (proper : AllProper) (turn : Turn) (old new : Joint) (t : TakesTurn turn old new) (deeds : ℕ → Deeds)
     (on : Continues false deeds old.holding turn new.holding)
     (life : (r : ℕ) → 0 < r → Life false r (stage_at r old.holding.end.carrier) on.took on.put (stage_at r new.holding.end.carrier))
-    (units : t.units ≡ all_units on.put) (sure : IsFirm old.course.traffic.course) (all : StandsUnselected local proper deeds old) where
-  abbrev h : StandsCalled local proper deeds old
+    (units : t.units ≡ all_units on.put) (sure : IsFirm old.course.traffic.course) (all : StandsUnselected local deeds old) where
+  abbrev h : StandsInTwo Right local deeds old
   h = all.stands
 
   abbrev end : Carrier
@@ -129,7 +128,7 @@ module _ (local : Local) (proper : AllProper) (turn : Turn) (old new : Joint) (t
     empty : old.put ≡ []
     empty =
         none_two z.x.source answer z.more old.put t.units (subst (AreAlike (confirm z.x.source answer ∷ z.more)) t.put alike) refl
-        h.own.two
+        h.own.holds.two
 
     all_put : all_units on.put ≡ confirm starts.n x ∷ starts.rest
     all_put = sym units ∙ ap (λ (l : List Value). l ++ t.units) (sym empty) ∙ sym t.put ∙ starts.is
@@ -153,16 +152,18 @@ module _ (local : Local) (proper : AllProper) (turn : Turn) (old new : Joint) (t
         sym source
         ∙ one_of (IsFor x.source) (all_units front) (all_units later) (confirm m y)
         (grind (arith, all_units_more, all_for)) m y refl
-    is_x q more (takes_cc may y front later is) = no_cc_taken local proper turn old new t deeds on life units q q y front later all.quiet may is
+    is_x q more (takes_cc may y front later is) =
+        no_cc_taken local proper turn old new t deeds on life units q q y front later all.quiet may is
 
     some : old.begun ≡ true → old.put ≡ [] → ⊥
     some begun =
         let g = h.own.ahead.followed in
-        let lines = has_lines local old g h.can h.own.two (going_on old.course.traffic.course clear) in
+        let lines = has_lines local old g h.can h.own.holds.two (going_on old.course.traffic.course clear) in
         none_written old.put g.whole.put (sym g.put) (λ none. lines.called.some (g.begun ∙ begun) (sym lines.called.put ∙ none))
 
     pub turns_selecting : StandsAnswering local (λ r. then_did (deeds r) (on.more r)) new
     turns_selecting =
         turns_waiting local proper turn old new t deeds on life units ahead.ahead then_can starts.n x starts.rest starts.is starts.not_two
-        (grind (arith, less)) (unselected_so local proper deeds old all) some ((grind (arith, less, empty)) ∙ ap (waiting_for (Some starts.n)) (sym empty))
-        (parts_taken (deeds x.source).calls ∙ ap parts_of (h.own.unheard x.source less)) dts is_x
+        (grind (arith, less)) (unselected_so local deeds old all) some
+        ((grind (arith, less, empty)) ∙ ap (waiting_for (Some starts.n)) (sym empty))
+        (parts_taken (deeds x.source).calls ∙ ap parts_of (h.own.holds.unheard x.source less)) dts is_x

@@ -1,5 +1,5 @@
--- What comes to an end that gets class 0 is in order: before a CC nothing for a connection, and no CC after it. So a calling end takes no DT
--- before its connection opens. For the session of the connection of an end in class 0.
+-- What comes to an end that gets class 0 is in order: before a CC nothing for a connection, and no CC after it. So a calling end takes no
+-- DT before its connection opens. For the session of the connection of an end in class 0.
 use Rattle.osi_blameless.proofs.Vocabulary.{[], append_assoc, List, refl, Some, subst, sym, true, ℕ, ◌++◌, ◌∙◌, ◌∷◌, ◌≡◌, append-nil}
 use Rattle.osi_blameless.proofs.Vocabulary.{AllByRecursion, acknowledge, confirm, Connect, data0, data2, disconnect, disconnected, error}
 use Rattle.osi_blameless.proofs.Vocabulary.{request, Value, early, Time as Stage, all_units_more, Opens, all_units, Marked, picked_join}

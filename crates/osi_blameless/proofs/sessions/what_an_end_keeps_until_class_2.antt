@@ -20,22 +20,22 @@ use Rattle.osi_blameless.proofs.sessions.the_turn_that_selects_class_0.{StandsUn
 use Rattle.osi_blameless.proofs.sessions.what_is_asked_of_what_holds_at_each_step.{Keeps, Leads, leads_either}
 
 -- Before class 0 is selected: a calling end awaits its CC; a called end has not selected class 0, or its CC that does so has not passed.
-abbrev pub StandsBefore : Direction → Local → AllProper → (ℕ → Deeds) → Joint → Type 0
-StandsBefore Left local proper deeds j = StandsUnanswered local deeds j
-StandsBefore Right local proper deeds j = StandsUnselected local proper deeds j ⊎ StandsAnswering local deeds j
+abbrev pub StandsBefore : Direction → Local → (ℕ → Deeds) → Joint → Type 0
+StandsBefore Left local deeds j = StandsUnanswered local deeds j
+StandsBefore Right local deeds j = StandsUnselected local deeds j ⊎ StandsAnswering local deeds j
 
-pub none_selected : (d : Direction) (local : Local) (proper : AllProper) (deeds : ℕ → Deeds) (j : Joint) →
-    StandsBefore d local proper deeds j → j.course.traffic.course.class ≡ None
-none_selected Left local proper deeds j h = h.none.class
-none_selected Right local proper deeds j (inl h) = h.class
-none_selected Right local proper deeds j (inr h) = h.none.class
+pub none_selected : (d : Direction) (local : Local) (deeds : ℕ → Deeds) (j : Joint) →
+    StandsBefore d local deeds j → j.course.traffic.course.class ≡ None
+none_selected Left local deeds j h = h.none.class
+none_selected Right local deeds j (inl h) = h.class
+none_selected Right local deeds j (inr h) = h.none.class
 
-abbrev pub StandsUntilTwo : Direction → Local → AllProper → (ℕ → Deeds) → Joint → Type 0
-StandsUntilTwo d local proper deeds j = StandsBefore d local proper deeds j ⊎ StandsInZero d local deeds j
+abbrev pub StandsUntilTwo : Direction → Local → (ℕ → Deeds) → Joint → Type 0
+StandsUntilTwo d local deeds j = StandsBefore d local deeds j ⊎ StandsInZero d local deeds j
 
 module _ (local : Local) (proper : AllProper) (known_of : AsSent) (parts : AsParts) (caller : CallerLaw) (called : CalledLaw) where
   abbrev Until : Direction → (ℕ → Deeds) → Joint → Type 0
-  Until d = StandsUntilTwo d local proper
+  Until d = StandsUntilTwo d local
 
   zero_leads : (d : Direction) → Leads Two d local (StandsInZero d local) (Until d)
   zero_leads d = record {
@@ -65,7 +65,7 @@ module _ (local : Local) (proper : AllProper) (known_of : AsSent) (parts : AsPar
         unanswered_none_amid local known_of parts caller called deeds at octets front back old new step courses passed not h;
   }
 
-  unselected_leads : Leads Two Right local (StandsUnselected local proper) (Until Right)
+  unselected_leads : Leads Two Right local (StandsUnselected local) (Until Right)
   unselected_leads = record {
     own_begins = λ deeds old new step courses few h. inl (inl (unselected_own_begins local proper deeds old new step courses few h));
     other_begins = λ deeds old new step h. inl (inl (unselected_other_begins local proper deeds old new step h));
@@ -75,9 +75,9 @@ module _ (local : Local) (proper : AllProper) (known_of : AsSent) (parts : AsPar
         inl (inl (unselected_other_passes local proper deeds at octets units old new step passed h));
     turn = λ turn old new t deeds does f g lasts h. inl (unselected_turns local proper turn old new t deeds does lasts.0 h);
     none = λ deeds j courses h.
-        unselected_none known_of parts caller called deeds j courses (unselected_so local proper deeds j h);
+        unselected_none known_of parts caller called deeds j courses (unselected_so local deeds j h);
     none_amid = λ deeds at octets front back old new step courses passed not h.
-        unselected_none_amid known_of parts caller called deeds old courses (unselected_so local proper deeds old h) at front passed;
+        unselected_none_amid known_of parts caller called deeds old courses (unselected_so local deeds old h) at front passed;
   }
 
   answering_leads : Leads Two Right local (StandsAnswering local) (Until Right)
@@ -94,15 +94,15 @@ module _ (local : Local) (proper : AllProper) (known_of : AsSent) (parts : AsPar
         unselected_none_amid known_of parts caller called deeds old courses h.none at front passed;
   }
 
-  before_leads : (d : Direction) → Leads Two d local (StandsBefore d local proper) (Until d)
+  before_leads : (d : Direction) → Leads Two d local (StandsBefore d local) (Until d)
   before_leads Left = unanswered_leads
   before_leads Right =
-      leads_either Two Right local (StandsUnselected local proper) (StandsAnswering local) (Until Right) unselected_leads answering_leads
+      leads_either Two Right local (StandsUnselected local) (StandsAnswering local) (Until Right) unselected_leads answering_leads
 
   pub keeps_until_two : (d : Direction) → Keeps Two d local (Until d)
   keeps_until_two d = record {
     begins = begins_by d;
-    leads = leads_either Two d local (StandsBefore d local proper) (StandsInZero d local) (Until d) (before_leads d) (zero_leads d);
+    leads = leads_either Two d local (StandsBefore d local) (StandsInZero d local) (Until d) (before_leads d) (zero_leads d);
   }
     where
       begins_by : (d : Direction) (h : Holding) → IsFresh (calls_from d) local h → Until d (λ r. no_deeds) (begin h)

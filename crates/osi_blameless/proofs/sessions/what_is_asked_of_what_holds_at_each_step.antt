@@ -1,12 +1,12 @@
 -- What is asked of what holds of an end and a judge at each step, by which nobody of the end is to blame as long as one class is not
 -- selected: class 2, or class 0. And what units are while so much is judged. For the laws that no session of an end is to blame.
-use Rattle.osi_blameless.proofs.Vocabulary.{◌≡◌, ◌≢◌, ◌∙◌, ◌⊎◌, inl, inr, refl, sym, ap, subst, ℕ, ◌^◌, ◌<◌, ◌≤◌, Bool, false, if◌then◌else◌, List}
-use Rattle.osi_blameless.proofs.Vocabulary.{[], ◌∷◌, ◌++◌, length, Some, is_some, arith, slice_get, length-append, Value, Class, Two, Zero}
-use Rattle.osi_blameless.proofs.Vocabulary.{Local, Capture, other, Direction, TooMany, class_for, is_stopped, takes, packet, unit, IsFirm}
-use Rattle.osi_blameless.proofs.Vocabulary.{IsOngoing, packet_begins, Holding, Deeds, no_deeds, then_did, IsFresh, Turn, Cause, Joined}
-use Rattle.osi_blameless.proofs.Vocabulary.{spoken, marked, marks_of, moved, unit_passes, units_pass, unread, unread_mark, unread_moment}
-use Rattle.osi_blameless.proofs.Vocabulary.{way_of, heard, after, Joint, Step, Steps, TakesTurn, begin, begins_other, begins_own}
-use Rattle.osi_blameless.proofs.Vocabulary.{passes_other, passes_own, calls_from}
+use Rattle.osi_blameless.proofs.Vocabulary.{◌≡◌, ◌≢◌, ◌∙◌, ◌⊎◌, inl, inr, refl, sym, ap, subst, ℕ, ◌^◌, ◌<◌, ◌≤◌, Bool, false}
+use Rattle.osi_blameless.proofs.Vocabulary.{if◌then◌else◌, List, [], ◌∷◌, ◌++◌, length, Some, is_some, arith, slice_get, length-append}
+use Rattle.osi_blameless.proofs.Vocabulary.{Value, Class, Two, Zero, Local, Capture, other, Direction, TooMany, class_for, is_stopped}
+use Rattle.osi_blameless.proofs.Vocabulary.{takes, packet, unit, IsFirm, IsOngoing, packet_begins, Holding, Deeds, no_deeds, then_did}
+use Rattle.osi_blameless.proofs.Vocabulary.{IsFresh, Turn, Cause, Joined, spoken, marked, marks_of, moved, unit_passes, units_pass, unread}
+use Rattle.osi_blameless.proofs.Vocabulary.{unread_mark, unread_moment, way_of, heard, after, Joint, Step, Steps, TakesTurn, begin}
+use Rattle.osi_blameless.proofs.Vocabulary.{begins_other, begins_own, passes_other, passes_own, calls_from}
 use Rattle.osi_rules.specs.Sides as sides
 use Rattle.osi_rules.specs.Traffic.{State as Traffic}
 use Rattle.osi_rules.specs.Traffic as traffic
@@ -104,6 +104,20 @@ pub record Keeps (barred : Class) (d : Direction) (local : Local) (Inv : (ℕ �
   pub begins : (h : Holding) → IsFresh (calls_from d) local h → Inv (λ r. no_deeds) (begin h)
   pub leads : Leads barred d local Inv Inv
 
+-- and more follows from that
+pub leads_more : (barred : Class) (d : Direction) (local : Local) (Inv Some_of Then : (ℕ → Deeds) → Joint → Type 0) →
+    ((deeds : ℕ → Deeds) (j : Joint) → Some_of deeds j → Then deeds j) → Leads barred d local Inv Some_of → Leads barred d local Inv Then
+leads_more barred d local Inv Some_of Then f k = record {
+  own_begins = λ deeds old new step courses few h. f deeds new (k.own_begins deeds old new step courses few h);
+  other_begins = λ deeds old new step h. f deeds new (k.other_begins deeds old new step h);
+  own_passes = λ deeds at v old new step own lasts not h. f deeds new (k.own_passes deeds at v old new step own lasts not h);
+  other_passes = λ deeds at octets units old new step passed not h.
+      f deeds new (k.other_passes deeds at octets units old new step passed not h);
+  turn = λ turn old new t deeds does g h lasts i. f _ new (k.turn turn old new t deeds does g h lasts i);
+  none = k.none;
+  none_amid = k.none_amid;
+}
+
 -- one of two holds
 either : {A B C : Type 0} → (A → C) → (B → C) → A ⊎ B → C
 either f g (inl a) = f a
@@ -118,7 +132,8 @@ leads_either barred d local A B Then a b = record {
   own_passes = λ deeds at v old new step own lasts not h.
       either (a.own_passes deeds at v old new step own lasts not) (b.own_passes deeds at v old new step own lasts not) h;
   other_passes = λ deeds at octets units old new step passed not h.
-      either (a.other_passes deeds at octets units old new step passed not) (b.other_passes deeds at octets units old new step passed not) h;
+      either (a.other_passes deeds at octets units old new step passed not)
+      (b.other_passes deeds at octets units old new step passed not) h;
   turn = λ turn old new t deeds does f g lasts h.
       either (a.turn turn old new t deeds does f g lasts) (b.turn turn old new t deeds does f g lasts) h;
   none = λ deeds j courses h. either (a.none deeds j courses) (b.none deeds j courses) h;

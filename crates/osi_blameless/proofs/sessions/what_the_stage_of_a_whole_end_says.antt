@@ -171,7 +171,8 @@ stage_of side.Left local j f firm = (runs_staged local j f).stage (ap (λ (s : S
 stage_of side.Right local j f firm = (called_joined local j f).stage (grind arith)
 
 -- it has put DTs alone in class 0
-pub zero_put : (d : Direction) (local : Local) (w : Whole) → w.judge.course.class ≡ Some Zero → StageOf d local w → AllByRecursion IsDt0 w.put
+pub zero_put : (d : Direction) (local : Local) (w : Whole) → w.judge.course.class ≡ Some Zero → StageOf d local w →
+    AllByRecursion IsDt0 w.put
 zero_put side.Left local w class h = dts_put local w h class
 zero_put side.Right local w class h = called_puts local w class h
 

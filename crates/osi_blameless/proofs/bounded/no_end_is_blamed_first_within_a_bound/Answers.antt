@@ -1,6 +1,6 @@
-use Rattle.osi_blameless.proofs.Vocabulary.{ℕ, ◌<◌, ◌^◌, true, false, List, length, Local, Capture, Left, Right, AsSent, said_again, Direction, calls_from}
-use Rattle.osi_blameless.proofs.Vocabulary.{Holding, SpduLaws, IsFresh, IsSeen, Run, Turn, all_proper, Known, can_begin, first_in, comes_to}
-use Rattle.osi_blameless.proofs.Vocabulary.{comes_within, AreOctets}
+use Rattle.osi_blameless.proofs.Vocabulary.{ℕ, ◌<◌, ◌^◌, true, false, List, length, Local, Capture, Left, Right, AsSent, said_again}
+use Rattle.osi_blameless.proofs.Vocabulary.{Direction, calls_from, Holding, SpduLaws, IsFresh, IsSeen, Run, Turn, all_proper, Known}
+use Rattle.osi_blameless.proofs.Vocabulary.{can_begin, first_in, comes_to, comes_within, AreOctets}
 use Rattle.osi_blameless.proofs.sessions.a_bound_changes_no_first_break.{blameless_within}
 use Rattle.osi_blameless.proofs.sessions.a_judge_with_a_bound_holds_what_passed.{first_told, some_told}
 use Rattle.osi_blameless.proofs.sessions.no_end_is_ever_to_blame.{IsBlameless, blameless, blameless_first}

@@ -1,4 +1,5 @@
-use Rattle.osi_blameless.proofs.Vocabulary.{Option, Some, subst, ◌≡◌, ◌<◌, ◌^◌, true, false, List, length, Local, Left, Right, Holding, Direction, calls_from}
+use Rattle.osi_blameless.proofs.Vocabulary.{Option, Some, subst, ◌≡◌, ◌<◌, ◌^◌, true, false, List, length, Local, Left, Right, Holding}
+use Rattle.osi_blameless.proofs.Vocabulary.{Direction, calls_from}
 use Rattle.osi_blameless.proofs.Vocabulary.{said_again, SpduLaws, AsSent, Capture, all_proper, Known, can_begin, IsFresh, IsSeen, Run, Turn}
 use Rattle.osi_blameless.proofs.Vocabulary.{AreOctets, BreaksFirst, IsFirstOf, first_in, IsFed, comes_to, First, Judge, IsJudged}
 use Rattle.osi_blameless.proofs.sessions.no_end_is_ever_to_blame.{IsBlameless, blameless, blameless_first}
@@ -74,10 +75,10 @@ returns-clause-both_at_a_judge c = λ mine theirs begin end called_begin called_
 
 pub returns-clause-called_nowhere : goal.returns-clause-called_nowhere
 returns-clause-called_nowhere c = λ local begin end turns capture i j fresh run octets seen few quiet there.
-    none_among Right (comes_to capture).course.sessions i j (blameless_so c Right local begin end turns capture fresh run octets seen few).never.now
-    there
+    none_among Right (comes_to capture).course.sessions i j
+    (blameless_so c Right local begin end turns capture fresh run octets seen few).never.now there
 
 pub returns-clause-calling_nowhere : goal.returns-clause-calling_nowhere
 returns-clause-calling_nowhere c = λ local begin end turns capture i j fresh run octets seen few quiet there.
-    none_among Left (comes_to capture).course.sessions i j (blameless_so c Left local begin end turns capture fresh run octets seen few).never.now
-    there
+    none_among Left (comes_to capture).course.sessions i j
+    (blameless_so c Left local begin end turns capture fresh run octets seen few).never.now there

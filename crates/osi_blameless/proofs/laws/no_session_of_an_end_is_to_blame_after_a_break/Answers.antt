@@ -1,5 +1,6 @@
 use Rattle.osi_blameless.proofs.Vocabulary.{AsSent, said_again, SpduLaws, all_proper, Known, can_begin, Left, Right, comes_to, Direction}
-use Rattle.osi_blameless.proofs.Vocabulary.{AreOctets, Capture, Holding, IsFresh, IsSeen, List, Local, Run, Turn, calls_from, length, ◌<◌, ◌^◌}
+use Rattle.osi_blameless.proofs.Vocabulary.{AreOctets, Capture, Holding, IsFresh, IsSeen, List, Local, Run, Turn, calls_from, length, ◌<◌}
+use Rattle.osi_blameless.proofs.Vocabulary.{◌^◌}
 use Rattle.osi_blameless.proofs.sessions.no_end_is_ever_to_blame.{IsBlameless, blameless, none_among}
 use Rattle.osi_blameless.proofs.laws.no_session_of_an_end_is_to_blame_after_a_break.Goals as goal
 
