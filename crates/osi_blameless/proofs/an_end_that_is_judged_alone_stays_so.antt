@@ -1,7 +1,7 @@
 -- Steps after what nobody can read keep a claim on what has passed; and a unit of an end that alone is judged, in class 0, is right.
 -- For the law that no session of an end is to blame after a break.
-use Rattle.osi_blameless.proofs.Vocabulary.{◌≡◌, ◌∙◌, ℕ, Bool, List, [], ◌∷◌, sym, ap, subst, Value, Local, other, Direction, Kept}
-use Rattle.osi_blameless.proofs.Vocabulary.{calls_from, is_stopped, takes, AllProper, Course, way_of, Joint, Step, Steps, begins_other}
+use Rattle.osi_blameless.proofs.Vocabulary.{◌≡◌, ◌∙◌, ℕ, List, [], ◌∷◌, sym, ap, subst, Value, Local, other, Direction, Kept}
+use Rattle.osi_blameless.proofs.Vocabulary.{calls_from, is_stopped, takes, Course, way_of, Joint, Step, Steps, begins_other}
 use Rattle.osi_blameless.proofs.Vocabulary.{begins_own, passes_other, passes_own, turns, LaterAlong, LaterSteps, StepsAlong, units_by}
 use Rattle.osi_rules.specs.Traffic.{State as Traffic}
 use Rattle.osi_fair.specs.Wholes as wholes

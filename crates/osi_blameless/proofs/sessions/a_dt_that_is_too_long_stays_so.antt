@@ -1,8 +1,8 @@
 -- In class 0 a DT with which the TSDU of its side is too long breaks that rule; and so it would later, whatever the other side has sent.
 -- For a TSDU of the other side that becomes too long.
-use Rattle.osi_blameless.proofs.Vocabulary.{arith, ◌≡◌, ◌∙◌, refl, sym, ap, subst, ℕ, zero, suc, ◌+◌, ◌<◌, Bool, true, false, List, [], ◌∷◌}
-use Rattle.osi_blameless.proofs.Vocabulary.{map, length, nat_le, Some, None, eqb-true, leb-false, slice_get, Value, data0, longest_tsdu}
-use Rattle.osi_blameless.proofs.Vocabulary.{Zero, other, Direction, Left, Right, Connection, Broke, Kept, Reach, is_applied, first_failed}
+use Rattle.osi_blameless.proofs.Vocabulary.{arith, ◌≡◌, ◌∙◌, refl, sym, ap, subst, ℕ, zero, suc, ◌+◌, ◌<◌, Bool, false, List, [], ◌∷◌}
+use Rattle.osi_blameless.proofs.Vocabulary.{map, length, nat_le, Some, eqb-true, leb-false, slice_get, Value, data0, longest_tsdu}
+use Rattle.osi_blameless.proofs.Vocabulary.{Zero, other, Direction, Right, Connection, Broke, Kept, Reach, is_applied, first_failed}
 use Rattle.osi_blameless.proofs.Vocabulary.{begins, own, State, class_for, connection_after, is_stopped, takes, unlike, IsFirm}
 use Rattle.osi_blameless.proofs.Vocabulary.{after_change, Course, unit_passes, way_of}
 use Rattle.osi_rules.specs.declared.findings.Rule.TheVariants as rule

@@ -1,12 +1,11 @@
 -- A turn of a called end after which its CC of class 0 waits: the one in which the end puts this CC, and each one until it passes. What the
 -- end puts after the CC is for this connection, and it takes nothing there yet.
 -- For the session of the connection of an end in class 0.
-use Rattle.osi_blameless.proofs.Vocabulary.{◌≡◌, ◌∙◌, refl, sym, ap, subst, ℕ, ◌-◌, ◌<◌, true, false, List, [], ◌∷◌, ◌++◌}
-use Rattle.osi_blameless.proofs.Vocabulary.{map, Option, Some, None, arith, inl, inr, ◌⊎◌, ◌≢◌, AllByRecursion}
-use Rattle.osi_blameless.proofs.Vocabulary.{Connect, Value, confirm, written, parts_in, Part, Zero, Local, unit_octets, Right}
-use Rattle.osi_blameless.proofs.Vocabulary.{State, Selecting, zero_puts, IsFirm, picked_join, Continues, Deeds, then_did}
-use Rattle.osi_blameless.proofs.Vocabulary.{units_in, Marked, all_units, is_of_link, Turn, AllProper, Life, early, stage_at, all_units_more}
-use Rattle.osi_blameless.proofs.Vocabulary.{taken_more, CanBeWritten, Joint, TakesTurn, parts_of, HaveSamePlaces}
+use Rattle.osi_blameless.proofs.Vocabulary.{◌≡◌, ◌∙◌, refl, sym, ap, subst, ℕ, ◌-◌, ◌<◌, true, false, List, [], ◌∷◌, ◌++◌, map, Option}
+use Rattle.osi_blameless.proofs.Vocabulary.{Some, None, arith, inl, inr, ◌⊎◌, ◌≢◌, AllByRecursion, Connect, Value, confirm, written}
+use Rattle.osi_blameless.proofs.Vocabulary.{parts_in, Part, Local, unit_octets, Right, Selecting, zero_puts, IsFirm, picked_join, Continues}
+use Rattle.osi_blameless.proofs.Vocabulary.{Deeds, then_did, units_in, Marked, all_units, Turn, AllProper, Life, early, stage_at}
+use Rattle.osi_blameless.proofs.Vocabulary.{all_units_more, taken_more, CanBeWritten, Joint, TakesTurn, parts_of, HaveSamePlaces}
 use Rattle.std.proofs.lemmas.List.Concat.{flat_map-append}
 use Rattle.osi_carrier.specs.State.{State as Carrier}
 use Rattle.osi_judge.specs.Courses.{Course as Passed}

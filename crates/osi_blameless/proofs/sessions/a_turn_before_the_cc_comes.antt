@@ -1,7 +1,7 @@
 -- Until a calling end gets a CC, a turn of it leaves all its connections standing at a judge: none is open in it, so it puts nothing there,
 -- and takes nothing. For the session of the connection of an end in class 0.
-use Rattle.osi_blameless.proofs.Vocabulary.{◌≡◌, ◌∙◌, refl, sym, ap, subst, ℕ, ◌<◌, true, List, [], ◌∷◌, ◌++◌, Option, Some, arith, ◌⊎◌}
-use Rattle.osi_blameless.proofs.Vocabulary.{◌==◌, nat_lt, AllByRecursion, Value, confirm, Connect, Local, Left, Right, reference_of}
+use Rattle.osi_blameless.proofs.Vocabulary.{◌≡◌, ◌∙◌, sym, ap, subst, ℕ, ◌<◌, true, List, [], ◌∷◌, Option, Some, arith, ◌⊎◌}
+use Rattle.osi_blameless.proofs.Vocabulary.{nat_lt, AllByRecursion, Value, confirm, Local, Left, Right, reference_of}
 use Rattle.osi_blameless.proofs.Vocabulary.{Continues, Deeds, then_did, units_in, Marked, all_units, is_of_link, Turn, AllProper, Life}
 use Rattle.osi_blameless.proofs.Vocabulary.{early, stage_at, all_units_more, Joint, TakesTurn}
 use Rattle.osi_carrier.specs.State.{State as Carrier}

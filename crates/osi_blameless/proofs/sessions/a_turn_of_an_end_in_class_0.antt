@@ -1,13 +1,12 @@
 -- Once class 0 is selected, a turn of an end leaves all its connections standing at a judge: what it puts is for its one connection, and
 -- what it takes there is the first of what is in flight. And no session of it is to blame then. For the session of the connection of an end
 -- in class 0.
-use Rattle.osi_blameless.proofs.Vocabulary.{◌≡◌, ◌∙◌, refl, sym, ap, subst, ℕ, ◌<◌, ◌≤◌, Bool, true, false, List, [], ◌∷◌, ◌++◌, Option}
-use Rattle.osi_blameless.proofs.Vocabulary.{Some, None, arith, is_some, inl, inr, ◌⊎◌, ◌==◌, slice_get, AllByRecursion, eqb-true, Connect}
-use Rattle.osi_blameless.proofs.Vocabulary.{Value, confirm, Two, Zero, Local, Direction, Left, Right, other, Connection, is_open, own}
-use Rattle.osi_blameless.proofs.Vocabulary.{State, Whole, unlike, IsFirm, AreApart, Continues, Deeds, then_did, units_in, Marked, all_units}
-use Rattle.osi_blameless.proofs.Vocabulary.{Turn, AllProper, Life, amid, early, past, stage_at, all_units_more, Joined, reference_of, Joint}
-use Rattle.osi_blameless.proofs.Vocabulary.{TakesTurn, IsOneOf, differ, calls_from, way_of, Part, AsSent, AsParts, CalledLaw, CallerLaw}
-use Rattle.osi_blameless.proofs.Vocabulary.{units_pass, is_of_link, Time}
+use Rattle.osi_blameless.proofs.Vocabulary.{◌≡◌, ◌∙◌, refl, sym, ap, subst, ℕ, ◌<◌, Bool, true, false, List, ◌∷◌, ◌++◌, Option, Some, arith}
+use Rattle.osi_blameless.proofs.Vocabulary.{inl, inr, ◌⊎◌, ◌==◌, slice_get, AllByRecursion, eqb-true, Connect, Value, confirm, Two, Local}
+use Rattle.osi_blameless.proofs.Vocabulary.{Direction, Left, Right, other, Connection, is_open, own, State, Whole, unlike, IsFirm}
+use Rattle.osi_blameless.proofs.Vocabulary.{Continues, Deeds, then_did, units_in, Marked, all_units, Turn, AllProper, Life, early, past}
+use Rattle.osi_blameless.proofs.Vocabulary.{stage_at, all_units_more, Joined, reference_of, Joint, TakesTurn, IsOneOf, calls_from, way_of}
+use Rattle.osi_blameless.proofs.Vocabulary.{AsSent, AsParts, CalledLaw, CallerLaw, units_pass, is_of_link, Time}
 use Rattle.osi_carrier.specs.State.{State as Carrier}
 use Rattle.osi_fair.specs.Wholes as wholes
 use Rattle.osi_judge.specs.Courses.{Course as Passed}
@@ -34,7 +33,7 @@ use Rattle.osi_blameless.proofs.sessions.what_a_turn_puts_goes_to_its_peer.{all_
 use Rattle.osi_blameless.proofs.sessions.what_a_turn_puts_waits.{Agree, marks_wait}
 use Rattle.osi_blameless.proofs.sessions.what_an_end_takes_at_each_stage.{AreCalm, turn_takes}
 use Rattle.osi_blameless.proofs.sessions.what_is_asked_of_what_holds_at_each_step.{ArePassed, HaveCourses}
-use Rattle.osi_blameless.proofs.sessions.what_stands_of_a_connection.{Takes, waiting_for}
+use Rattle.osi_blameless.proofs.sessions.what_stands_of_a_connection.{waiting_for}
 use Rattle.osi_blameless.proofs.sessions.what_the_stage_of_a_whole_end_says.{AwaitsCc, IsDt0, stage_of, zero_awaits, zero_put}
 
 -- a CC is not written as a DT

@@ -2,11 +2,10 @@
 -- connection is the first of what is left over for it.
 -- For the session of each connection of an end.
 use Rattle.osi_blameless.proofs.Vocabulary.{AllByRecursion, AllProper, CanBeWritten, Connection, Continues, Course, Deeds, Direction}
-use Rattle.osi_blameless.proofs.Vocabulary.{HaveSamePlaces, IsOngoing, Joined, Joint, Left, Life, List, Local, None, Part, Right, Some}
+use Rattle.osi_blameless.proofs.Vocabulary.{HaveSamePlaces, IsOngoing, Joined, Joint, Left, Life, List, Local, Part, Right, Some}
 use Rattle.osi_blameless.proofs.Vocabulary.{TakesTurn, Time, Tracked, Turn, Value, [], all_units, ap, arith, calls_from, early, false, inl}
 use Rattle.osi_blameless.proofs.Vocabulary.{inr, is_closing, is_some, le-leb, lt-ltb, none_of, number_is, other, reference_of, slice_get}
 use Rattle.osi_blameless.proofs.Vocabulary.{stage_at, subst, sym, then_did, true, units_in, ℕ, ◌++◌, ◌<◌, ◌∙◌, ◌≡◌, ◌≢◌, ◌≤◌, ◌⊎◌}
-use Rattle.osi_carrier.specs.State.{State as Carrier}
 use Rattle.osi_judge.specs.Courses.{Course as Passed}
 use Rattle.osi_blameless.proofs.sessions.an_end_is_ready_for_each_cc_that_passes as ccs
 use Rattle.osi_blameless.proofs.sessions.an_end_is_ready_for_each_cr_that_passes as crs

@@ -1,12 +1,12 @@
 -- From the turn in which a called end puts its CC of class 0 until this CC passes, all its connections stand at a judge; and after that, as
 -- in class 0. For the session of the connection of an end in class 0.
 use Rattle.osi_blameless.proofs.Vocabulary.{[], ap, Bool, false, length, List, None, Option, refl, Some, subst, sym, true, ℕ, ◌++◌, ◌<◌}
-use Rattle.osi_blameless.proofs.Vocabulary.{◌≤◌, ◌≢◌, ◌^◌, ◌∙◌, ◌∷◌, ◌≡◌, eqb-true, append-nil, append_assoc, AllByRecursion, slice_get}
-use Rattle.osi_blameless.proofs.Vocabulary.{units_of, confirm, Connect, Value, parts_in, Two, Zero, Local, class_of, Traffic as State}
-use Rattle.osi_blameless.proofs.Vocabulary.{takes, Left, Right, AllProper, amid, stage_at, CanBeWritten, Deeds, units_in, units_read}
-use Rattle.osi_blameless.proofs.Vocabulary.{Joined, Sessions, spoken, unit_passes, units_pass, heard, left_class, begins_other, begins_own}
+use Rattle.osi_blameless.proofs.Vocabulary.{◌^◌, ◌∙◌, ◌∷◌, ◌≡◌, eqb-true, append-nil, append_assoc, AllByRecursion, slice_get}
+use Rattle.osi_blameless.proofs.Vocabulary.{confirm, Connect, Value, parts_in, Two, Zero, Local, class_of, Traffic as State}
+use Rattle.osi_blameless.proofs.Vocabulary.{takes, Left, Right, AllProper, amid, stage_at, CanBeWritten, Deeds, units_in}
+use Rattle.osi_blameless.proofs.Vocabulary.{Joined, spoken, unit_passes, units_pass, heard, left_class, begins_other, begins_own}
 use Rattle.osi_blameless.proofs.Vocabulary.{Joint, Holding, passes_other, passes_own, Steps, parts_of, arith, packet_begins, first_is}
-use Rattle.osi_blameless.proofs.Vocabulary.{calls_from, Class, AsSent, AsParts, CalledLaw, CallerLaw}
+use Rattle.osi_blameless.proofs.Vocabulary.{Class, AsSent, AsParts, CalledLaw, CallerLaw}
 use Rattle.osi_carrier.specs.State.{State as Carrier}
 use Rattle.osi_rules.specs.declared.directions.Direction.TheVariants as way
 use Rattle.osi_fair.specs.Wholes as wholes
@@ -14,19 +14,19 @@ use Rattle.osi_judge.specs.Courses.{Course as Passed}
 use Rattle.osi_blameless.proofs.small_facts_that_many_lemmas_use.{all_join}
 use Rattle.osi_blameless.proofs.what_a_taker_passes_over.{mild_of}
 use Rattle.osi_blameless.proofs.sessions.a_cc_of_class_0_opens_one_connection.{HasEffect, cc_answers, has_effect}
-use Rattle.osi_blameless.proofs.sessions.a_turn_does_what_its_deeds_say.{units_join}
+use Rattle.osi_blameless.proofs.sessions.a_turn_does_what_its_deeds_say.{units_more}
 use Rattle.osi_blameless.proofs.sessions.a_unit_is_joined_where_it_is_named.{joined_named}
 use Rattle.osi_blameless.proofs.sessions.all_connections_stand.{there_too}
 use Rattle.osi_blameless.proofs.sessions.an_end_stands_before_a_class_is_selected.{AllInNone, StandInNone, none_other_begins}
 use Rattle.osi_blameless.proofs.sessions.an_end_stands_before_a_class_is_selected.{none_own_begins}
-use Rattle.osi_blameless.proofs.sessions.an_end_stands_in_class_0.{AllInZero, IsGone, StandsInZero, asking_quiet, known_in, none_named}
+use Rattle.osi_blameless.proofs.sessions.an_end_stands_in_class_0.{IsGone, StandsInZero, asking_quiet, known_in, none_named}
 use Rattle.osi_blameless.proofs.sessions.an_end_stands_in_class_0.{only_asking, unseen_stands}
 use Rattle.osi_blameless.proofs.sessions.class_0_keeps_its_one_place.{HasOne}
-use Rattle.osi_blameless.proofs.sessions.connections_have_the_same_places.{unit_joins, unit_knows}
+use Rattle.osi_blameless.proofs.sessions.connections_have_the_same_places.{unit_knows}
 use Rattle.osi_blameless.proofs.sessions.each_reference_of_an_end_is_new.{GoesOn, IsAhead, begins_other_ahead, begins_own_ahead, other_up}
 use Rattle.osi_blameless.proofs.sessions.each_reference_of_an_end_is_new.{passes_highest, passes_other_ahead}
 use Rattle.osi_blameless.proofs.sessions.each_step_leaves_class_0_one_connection.{sure_claim}
-use Rattle.osi_blameless.proofs.sessions.no_connection_is_opened_before_a_class_is_selected.{AreUncalled, uncalled_claim}
+use Rattle.osi_blameless.proofs.sessions.no_connection_is_opened_before_a_class_is_selected.{uncalled_claim}
 use Rattle.osi_blameless.proofs.sessions.nobody_of_a_side_is_to_blame.{NoneIsToBlame}
 use Rattle.osi_blameless.proofs.sessions.steps_of_either_class_leave_all_standing.{IsRight, any_passes_own, stand_none}
 use Rattle.osi_blameless.proofs.sessions.units_of_class_0_come_after_its_cc.{IsQuiet, quiet_ccs, quiet_none, quiet_order}
@@ -134,9 +134,7 @@ module _ (local : Local) where
         StandsAnswering deeds new
     answering_other_passes at packet units old new (octets, read, is) passed h =
         let mid : Joint = record old { course = units_pass Left at units old.course; coming = old.coming ++ packet ∷ [] } in
-        let one : units_in (packet ∷ []) ≡ units = append-nil (units_read (units_of packet)) ∙ ap units_read read in
-        let all : units_in old.coming ++ units ≡ units_in mid.coming =
-        sym (units_join old.coming (packet ∷ []) ∙ ap (λ (l : List Value). units_in old.coming ++ l) one) in
+        let all = units_more old.coming packet units read in
         let end = old.holding.end.carrier in
         let b = h.ahead.bound in
         subst (StandsAnswering deeds) (sym is) (answering_on old mid h
@@ -192,12 +190,8 @@ module _ (local : Local) where
 
         one : HasOne Right x.source (IsGone end) mid.course.traffic mid.course.sessions
         one =
-            subst (λ (s : State). HasOne Right x.source (IsGone end) s mid.course.sessions) (sym (unit_knows Right at cc_is c))
-            (subst (λ (t : Sessions). HasOne Right x.source (IsGone end) (takes way.Right cc_is c.traffic).state t)
-            (sym (unit_joins Right at cc_is c))
-            (cc_answers n x at c h.none.all.places right.goes h.none.class right.firm h.none.all.judged
-            (grind (arith, mild_of)) (IsGone end)
-            h.none.new.live h.none.new.done))
+            cc_answers n x at c h.none.all.places right.goes h.none.class right.firm h.none.all.judged (grind (arith, mild_of)) (IsGone end)
+            h.none.new
 
         cc_passes : StandsInZero Right local deeds mid
         cc_passes =

@@ -3,14 +3,13 @@
 -- session of the connection of an end in class 0.
 use Rattle.osi_blameless.proofs.Vocabulary.{◌≡◌, ◌≢◌, ◌∙◌, refl, sym, ap, subst, ℕ, ◌^◌, ◌<◌, ◌≤◌, Bool, true, false, List, [], ◌∷◌, ◌++◌}
 use Rattle.osi_blameless.proofs.Vocabulary.{length, map, Option, Some, None, is_some, arith, slice_get, append-nil, append_assoc, ◌||◌, ◌⊎◌}
-use Rattle.osi_blameless.proofs.Vocabulary.{inl, inr, AllByRecursion, units_of, Connect, HasFieldsInRange, Value, acknowledge, confirm}
-use Rattle.osi_blameless.proofs.Vocabulary.{data0, data2, disconnect, disconnected, error, request, written, units_fit, units_found}
-use Rattle.osi_blameless.proofs.Vocabulary.{unit_parts, Class, Two, Zero, Local, EndReason, Direction, Left, Right, Finding, TooMany, Reach}
-use Rattle.osi_blameless.proofs.Vocabulary.{is_applied, State, class_for, class_of, is_stopped, stops_by, takes, stops_are_said, has_given}
-use Rattle.osi_blameless.proofs.Vocabulary.{Whole, Holding, fresh_apart, no_item, left_class, zero_stays, Holds, holds_next, Deeds}
-use Rattle.osi_blameless.proofs.Vocabulary.{no_deeds, units_in, units_read, IsFresh, AllProper, amid, past, stage_at, stage_over, Joined}
-use Rattle.osi_blameless.proofs.Vocabulary.{Sessions, spoken, taken, Course, packet_begins, unit_passes, units_pass, heard, parts_of}
-use Rattle.osi_blameless.proofs.Vocabulary.{way_of, Joint, Steps, begin, begins_other, begins_own, passes_other, passes_own, AsSent}
+use Rattle.osi_blameless.proofs.Vocabulary.{inl, inr, AllByRecursion, Connect, HasFieldsInRange, Value, acknowledge, confirm, data0, data2}
+use Rattle.osi_blameless.proofs.Vocabulary.{disconnect, disconnected, error, request, written, units_fit, units_found, Class, Two, Zero}
+use Rattle.osi_blameless.proofs.Vocabulary.{Local, EndReason, Left, Right, Finding, TooMany, Reach, is_applied, State, class_for, class_of}
+use Rattle.osi_blameless.proofs.Vocabulary.{is_stopped, stops_by, takes, stops_are_said, has_given, Whole, Holding, fresh_apart, no_item}
+use Rattle.osi_blameless.proofs.Vocabulary.{left_class, Holds, holds_next, Deeds, no_deeds, units_in, IsFresh, AllProper, amid, past}
+use Rattle.osi_blameless.proofs.Vocabulary.{stage_at, stage_over, Joined, spoken, Course, packet_begins, unit_passes, units_pass, heard}
+use Rattle.osi_blameless.proofs.Vocabulary.{parts_of, Joint, Steps, begin, begins_other, begins_own, passes_other, passes_own, AsSent}
 use Rattle.osi_blameless.proofs.Vocabulary.{AsParts, CalledLaw, CallerLaw, Part}
 use Rattle.osi_carrier.specs.State.{State as Carrier}
 use Rattle.osi_rules.specs.declared.directions.Direction.TheVariants as way
@@ -21,15 +20,14 @@ use Rattle.osi_blameless.proofs.small_facts_that_many_lemmas_use.{all_front, all
 use Rattle.osi_blameless.proofs.steps_are_events.{own_first}
 use Rattle.osi_blameless.proofs.what_a_taker_passes_over.{IsMild, mild_reach}
 use Rattle.osi_blameless.proofs.sessions.a_cc_of_class_0_opens_one_connection.{awaits_this, cc_opens, effect, opens_within}
-use Rattle.osi_blameless.proofs.sessions.a_turn_does_what_its_deeds_say.{units_join}
+use Rattle.osi_blameless.proofs.sessions.a_turn_does_what_its_deeds_say.{units_more}
 use Rattle.osi_blameless.proofs.sessions.all_connections_stand.{AllStand, all_room}
 use Rattle.osi_blameless.proofs.sessions.an_end_stands_before_a_class_is_selected.{AllInNone, StandInNone, none_other_begins}
 use Rattle.osi_blameless.proofs.sessions.an_end_stands_before_a_class_is_selected.{none_own_begins}
 use Rattle.osi_blameless.proofs.sessions.an_end_stands_in_class_0.{AllInZero, IsGone, StandsInZero, known_in, none_named, same_known}
 use Rattle.osi_blameless.proofs.sessions.an_end_stands_in_class_0.{units_zero, within_higher}
-use Rattle.osi_blameless.proofs.sessions.class_0_keeps_its_one_place.{HasOne}
 use Rattle.osi_blameless.proofs.sessions.connections_have_the_same_places.{unit_joins, unit_knows}
-use Rattle.osi_blameless.proofs.sessions.each_reference_of_an_end_is_new.{AreUpTo, GoesOn, IsAhead, IsUpTo, IsWithin, begins_other_ahead}
+use Rattle.osi_blameless.proofs.sessions.each_reference_of_an_end_is_new.{AreUpTo, GoesOn, IsAhead, IsWithin, begins_other_ahead}
 use Rattle.osi_blameless.proofs.sessions.each_reference_of_an_end_is_new.{begins_own_ahead, first_ahead, gives_new, other_up}
 use Rattle.osi_blameless.proofs.sessions.each_reference_of_an_end_is_new.{passes_highest}
 use Rattle.osi_blameless.proofs.sessions.each_reference_of_an_end_is_new.{passes_other_ahead, unit_up}
@@ -209,11 +207,8 @@ module _ (local : Local) (deeds : ℕ → Deeds) (end : Carrier) (put : List Val
             class = selects ∙ ap (λ (a : Class). Some a) zero_is;
             all = then_all coming v c h k
                 (ap (waiting_for (Some x.source)) none_put, same_known Left deeds 0 end put begun at coming v refl);
-            one = subst (λ (s : State). HasOne Left n (IsGone end) s (after v c).sessions) (sym (unit_knows Right at v c))
-                (subst (λ (t : Sessions). HasOne Left n (IsGone end) (takes way.Right v c.traffic).state t)
-                (sym (unit_joins Right at v c))
-                (cc_opens n x at c h.all.places right.goes h.class right.firm h.all.judged right.mild
-                (IsGone end) h.new b below others_gone));
+            one = cc_opens n x at c h.all.places right.goes h.class right.firm h.all.judged right.mild (IsGone end) h.new b below
+                others_gone;
             ccs = all_join (IsCcFor n) coming (v ∷ []) (quiet_ccs n coming h.quiet) ((λ m y is. same_number n m x y is), tt);
             order = quiet_cc coming n x h.quiet;
           })
@@ -354,10 +349,7 @@ module _ (local : Local) where
         b = h.ahead.bound
 
         all : units_in old.coming ++ units ≡ units_in mid.coming
-        all =
-            sym (units_join old.coming (packet ∷ [])
-            ∙ ap (λ (l : List Value). units_in old.coming ++ l)
-            (append-nil (units_read (units_of packet)) ∙ ap units_read read))
+        all = units_more old.coming packet units read
 
         g : GoesOn Left first b mid
         g =

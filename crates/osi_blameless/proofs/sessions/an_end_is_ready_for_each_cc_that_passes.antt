@@ -4,14 +4,13 @@
 -- For all connections of an end and a judge.
 use Rattle.osi_blameless.proofs.Vocabulary.{◌≡◌, ◌∙◌, ◌⊎◌, inl, inr, refl, sym, ap, subst, ℕ, ◌<◌, ◌≤◌, Bool, true, false, List, [], ◌∷◌}
 use Rattle.osi_blameless.proofs.Vocabulary.{◌++◌, Some, None, Option, IsSome, arith, if◌then◌else◌, is_some, slice_get, leb-false, leb-true}
-use Rattle.osi_blameless.proofs.Vocabulary.{AllByRecursion, append-nil, units_of, Value, acknowledge, confirm, data0, data2, disconnect}
-use Rattle.osi_blameless.proofs.Vocabulary.{disconnected, error, request, Class, Two, Zero, Local, Standing, link_of, value_at, EndReason}
-use Rattle.osi_blameless.proofs.Vocabulary.{Right, Connection, is_refused, has_given, Holding, Whole, picked_join, picked_rest, AreApart}
-use Rattle.osi_blameless.proofs.Vocabulary.{Continues, Deeds, no_deeds, then_did, units_in, units_read, units_taken, Marked, all_units}
-use Rattle.osi_blameless.proofs.Vocabulary.{units_at, IsFresh, Turn, over_acts, AllProper, Life, WhenPast, amid, early, past, stage_at}
-use Rattle.osi_blameless.proofs.Vocabulary.{stage_by, stage_is, stage_over, all_units_more, taken_more, CanBeWritten, Sessions, Course}
-use Rattle.osi_blameless.proofs.Vocabulary.{Joint, Steps, TakesTurn, begin, begins_other, begins_own, passes_other, passes_own, parts_of}
-use Rattle.osi_blameless.proofs.Vocabulary.{HaveSamePlaces, differ, above_up, IsOngoing}
+use Rattle.osi_blameless.proofs.Vocabulary.{AllByRecursion, Value, acknowledge, confirm, data0, data2, disconnect, disconnected, error}
+use Rattle.osi_blameless.proofs.Vocabulary.{request, Class, Two, Zero, Local, Standing, link_of, value_at, EndReason, Right, Connection}
+use Rattle.osi_blameless.proofs.Vocabulary.{is_refused, has_given, Whole, picked_join, picked_rest, AreApart, Continues, Deeds, then_did}
+use Rattle.osi_blameless.proofs.Vocabulary.{units_in, units_taken, Marked, all_units, units_at, Turn, over_acts, AllProper, Life, WhenPast}
+use Rattle.osi_blameless.proofs.Vocabulary.{amid, early, past, stage_at, stage_by, stage_is, stage_over, all_units_more, taken_more}
+use Rattle.osi_blameless.proofs.Vocabulary.{CanBeWritten, Sessions, Course, Joint, Steps, TakesTurn, passes_own, parts_of, HaveSamePlaces}
+use Rattle.osi_blameless.proofs.Vocabulary.{differ, above_up, IsOngoing}
 use Rattle.osi_carrier.specs.State.{Connection as Live, State as Carrier, asked}
 use Rattle.osi_fair.specs.Wholes as wholes
 use Rattle.osi_honest.proofs.courses.how_long_a_connection_is_open.{Stage}
@@ -21,13 +20,13 @@ use Rattle.osi_blameless.proofs.steps_are_events.{IsFollowed}
 use Rattle.osi_blameless.proofs.sessions.a_called_end_of_class_2_has_its_lines.{HasLines, has_lines}
 use Rattle.osi_blameless.proofs.sessions.a_called_end_of_class_2_puts_no_dt_of_class_0.{called_turn_two}
 use Rattle.osi_blameless.proofs.sessions.an_end_of_class_2_goes_on.{OwnInTwo}
-use Rattle.osi_blameless.proofs.sessions.a_turn_does_what_its_deeds_say.{turn_leaves, turn_uses, units_join}
+use Rattle.osi_blameless.proofs.sessions.a_turn_does_what_its_deeds_say.{turn_leaves, turn_uses}
 use Rattle.osi_blameless.proofs.sessions.a_unit_is_joined_where_it_is_named.{joined_any}
 use Rattle.osi_blameless.proofs.sessions.all_connections_stand.{there_too}
 use Rattle.osi_blameless.proofs.sessions.each_cc_of_a_called_end_opens_another_connection.{put_ordered}
-use Rattle.osi_blameless.proofs.sessions.each_reference_of_an_end_is_new.{GoesOn, IsAhead, above_unused, begins_other_ahead}
-use Rattle.osi_blameless.proofs.sessions.each_reference_of_an_end_is_new.{begins_own_ahead, passes_above, passes_other_ahead}
-use Rattle.osi_blameless.proofs.sessions.each_reference_of_an_end_is_new.{passes_own_ahead, turns_ahead, AreUpTo, IsUpTo}
+use Rattle.osi_blameless.proofs.sessions.each_reference_of_an_end_is_new.{GoesOn, IsAhead, above_unused}
+use Rattle.osi_blameless.proofs.sessions.each_reference_of_an_end_is_new.{passes_above}
+use Rattle.osi_blameless.proofs.sessions.each_reference_of_an_end_is_new.{passes_own_ahead, turns_ahead, IsUpTo}
 use Rattle.osi_blameless.proofs.sessions.each_unit_of_a_called_end_has_a_home.{OpensByNoCc, called_marked}
 use Rattle.osi_blameless.proofs.sessions.each_unit_of_a_turn_has_one_connection.{HasHome, IsMarked}
 use Rattle.osi_blameless.proofs.sessions.nothing_comes_before_a_cc_passes.{IsBelow, below_higher, none_waits}

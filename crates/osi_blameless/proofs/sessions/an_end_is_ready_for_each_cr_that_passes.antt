@@ -1,25 +1,17 @@
 -- An end of class 2 is ready for each CR of it that passes: nothing is done at its connection, nothing in flight is for it, and its
 -- reference is new. And what passes and turns keep it so, as long as both sides are judged.
 -- For all connections of an end and a judge.
-use Rattle.osi_blameless.proofs.Vocabulary.{◌≡◌, ◌∙◌, refl, sym, ap, subst, ℕ, ◌<◌, ◌≤◌, true, List, [], ◌∷◌, ◌++◌, arith}
-use Rattle.osi_blameless.proofs.Vocabulary.{AllByRecursion, append-nil, units_of, Value, acknowledge, confirm, data0, data2, disconnect}
-use Rattle.osi_blameless.proofs.Vocabulary.{disconnected, error, request, Local, Left, State, Holding, Event, HappenAlong, Whole}
-use Rattle.osi_blameless.proofs.Vocabulary.{first_joined, next_joined, Followed, IsOngoing, Continues, Deeds, no_deeds, then_did, units_in}
-use Rattle.osi_blameless.proofs.Vocabulary.{units_read, IsFresh, Turn, AllProper, Life, stage_at, stage_is, Joint, Steps, TakesTurn, begin}
-use Rattle.osi_blameless.proofs.Vocabulary.{begins_other, begins_own, passes_other, passes_own, HaveSamePlaces}
-use Rattle.osi_carrier.specs.State.{State as Carrier}
-use Rattle.osi_rules.specs.declared.directions.Direction.TheVariants as way
-use Rattle.osi_fair.specs.Wholes as wholes
-use Rattle.osi_fair.proofs.a_calling_end_is_fair_in_class_2.{Joined}
-use Rattle.osi_blameless.proofs.steps_are_events.{IsFollowed, own_first}
+use Rattle.osi_blameless.proofs.Vocabulary.{◌≡◌, refl, sym, subst, ℕ, ◌<◌, true, AllByRecursion, Value, acknowledge, confirm, data0, data2}
+use Rattle.osi_blameless.proofs.Vocabulary.{disconnect, disconnected, error, request, Local, Left, IsOngoing, Continues, Deeds, then_did}
+use Rattle.osi_blameless.proofs.Vocabulary.{units_in, Turn, AllProper, Life, stage_at, Joint, Steps, TakesTurn, passes_own, HaveSamePlaces}
+use Rattle.osi_blameless.proofs.steps_are_events.{own_first}
 use Rattle.osi_blameless.proofs.sessions.a_whole_end_runs_along.{first, whole_followed}
 use Rattle.osi_blameless.proofs.sessions.a_turn_does_what_its_deeds_say.{turn_leaves}
 use Rattle.osi_blameless.proofs.sessions.what_a_turn_puts_goes_to_its_peer.{all_back}
 use Rattle.osi_blameless.proofs.sessions.an_end_of_class_2_goes_on.{AsksInTwo, OwnInTwo, in_higher}
 use Rattle.osi_blameless.proofs.sessions.crs_that_wait_are_above_those_that_passed.{passes_asked}
-use Rattle.osi_blameless.proofs.sessions.each_reference_of_an_end_is_new.{IsAhead, GoesOn, IsUpTo, begins_other_ahead, begins_own_ahead}
-use Rattle.osi_blameless.proofs.sessions.each_reference_of_an_end_is_new.{passes_other_ahead, other_up, passes_own_ahead, turns_ahead}
-use Rattle.osi_blameless.proofs.sessions.nothing_is_done_before_a_cr_passes.{AreUndone, IsNoZero, cr_calm, cr_ready, known_from, none_come}
+use Rattle.osi_blameless.proofs.sessions.each_reference_of_an_end_is_new.{passes_own_ahead, turns_ahead}
+use Rattle.osi_blameless.proofs.sessions.nothing_is_done_before_a_cr_passes.{IsNoZero, cr_calm, cr_ready, known_from, none_come}
 use Rattle.osi_blameless.proofs.sessions.nothing_is_done_before_a_cr_passes.{may_take, turn_undone}
 use Rattle.osi_blameless.proofs.sessions.what_passes_leaves_all_standing.{IsReady}
 

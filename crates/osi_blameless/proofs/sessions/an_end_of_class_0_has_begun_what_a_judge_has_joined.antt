@@ -1,8 +1,8 @@
 -- An end of class 0 to which no DT is in flight has begun of a TSDU what a judge has joined of it.
 -- For a TSDU of the other side that becomes too long.
-use Rattle.osi_blameless.proofs.Vocabulary.{arith, ◌≡◌, ◌∙◌, ◌⊎◌, inl, inr, refl, ap, subst, ℕ, ◌<◌, List, [], Some, eq-eqb, eqb-true}
+use Rattle.osi_blameless.proofs.Vocabulary.{arith, ◌≡◌, ◌∙◌, inl, inr, refl, ap, subst, ℕ, ◌<◌, List, [], Some, eq-eqb}
 use Rattle.osi_blameless.proofs.Vocabulary.{slice_get, AllByRecursion, Standing, Part, Two, Zero, Local, RiseFrom, linked, other}
-use Rattle.osi_blameless.proofs.Vocabulary.{Direction, Left, Right, has_given, unlike, IsFirm, Deeds, AllProper, IsZeroAt, IsSane, amid}
+use Rattle.osi_blameless.proofs.Vocabulary.{Direction, Left, Right, has_given, IsFirm, Deeds, IsZeroAt, IsSane, amid}
 use Rattle.osi_blameless.proofs.Vocabulary.{stage_at, stage_is, Joined, spoken, begun_octets, Joint, State, is_open, own, way_of, true, sym}
 use Rattle.osi_carrier.specs.State.{State as Carrier}
 use Rattle.osi_fair.specs.Pieces.{units_in}

@@ -1,14 +1,14 @@
 -- What holds of an end of class 2 alone beside a judge: of what it has put and not yet passed, and of what has come. So it is at the
 -- beginning, as packets begin, and as those of the other side pass.
 -- For all connections of an end and a judge.
-use Rattle.osi_blameless.proofs.Vocabulary.{◌≡◌, ◌∙◌, ◌⊎◌, inl, refl, sym, ap, subst, ℕ, ◌<◌, ◌≤◌, List, [], ◌∷◌, ◌++◌, Some, arith}
-use Rattle.osi_blameless.proofs.Vocabulary.{AllByRecursion, append-nil, units_of, Value, Local, Direction, Left, Right, other, Holding}
-use Rattle.osi_blameless.proofs.Vocabulary.{Deeds, no_deeds, units_in, units_read, units_taken, IsFresh, AllProper, stage_is, packet_begins}
+use Rattle.osi_blameless.proofs.Vocabulary.{◌≡◌, ◌⊎◌, inl, refl, sym, subst, ℕ, ◌<◌, ◌≤◌, List, [], ◌∷◌, ◌++◌, Some, arith}
+use Rattle.osi_blameless.proofs.Vocabulary.{AllByRecursion, Value, Local, Direction, Left, Right, other, Holding}
+use Rattle.osi_blameless.proofs.Vocabulary.{Deeds, no_deeds, units_in, units_taken, IsFresh, AllProper, stage_is, packet_begins}
 use Rattle.osi_blameless.proofs.Vocabulary.{units_pass, Joint, Steps, begin, begins_other, begins_own, passes_other, calls_from, true}
 use Rattle.osi_carrier.specs.State.{State as Carrier}
 use Rattle.osi_fair.specs.Wholes as wholes
 use Rattle.osi_blameless.proofs.small_facts_that_many_lemmas_use.{all_join}
-use Rattle.osi_blameless.proofs.sessions.a_turn_does_what_its_deeds_say.{units_join}
+use Rattle.osi_blameless.proofs.sessions.a_turn_does_what_its_deeds_say.{units_more}
 use Rattle.osi_blameless.proofs.sessions.each_reference_of_an_end_is_new.{AreUpTo, IsAhead, begins_other_ahead, begins_own_ahead}
 use Rattle.osi_blameless.proofs.sessions.each_reference_of_an_end_is_new.{first_ahead, passes_other_ahead}
 use Rattle.osi_blameless.proofs.sessions.nothing_comes_before_a_cc_passes.{IsBelow, below_higher}
@@ -123,9 +123,7 @@ module _ (d : Direction) (local : Local) (proper : AllProper) (deeds : ℕ → D
       (h : Own old) → MayCome d h.ahead.bound units → AreUpTo d h.ahead.bound new.course.sessions → Own new
   two_other_passes at packet units old new (octets, read, is) h may up =
       let mid : Joint = record old { course = units_pass (other d) at units old.course; coming = old.coming ++ packet ∷ [] } in
-      let one : units_in (packet ∷ []) ≡ units = append-nil (units_read (units_of packet)) ∙ ap units_read read in
-      let all : units_in old.coming ++ units ≡ units_in mid.coming =
-      sym (units_join old.coming (packet ∷ []) ∙ ap (λ (l : List Value). units_in old.coming ++ l) one) in
+      let all = units_more old.coming packet units read in
       let b = h.ahead.bound in
       let end = old.holding.end.carrier in
       let g = passes_other_ahead d first proper at packet units old mid (octets, read, refl) h.ahead

@@ -2,14 +2,13 @@
 -- For the session of each connection of an end.
 use Rattle.osi_blameless.proofs.Vocabulary.{[], ap, false, length, List, refl, Some, subst, sym, true, ℕ, ◌++◌, ◌<◌, ◌^◌, ◌∙◌, ◌∷◌, ◌≡◌}
 use Rattle.osi_blameless.proofs.Vocabulary.{append-nil, AllByRecursion, slice_get, units_of, Value, CanBeWritten, Deeds, no_deeds, units_in}
-use Rattle.osi_blameless.proofs.Vocabulary.{units_read, Holding, Joined, spoken, none, unit_passes, units_pass, heard, begins_other}
-use Rattle.osi_blameless.proofs.Vocabulary.{begins_own, Joint, begin, passes_other, passes_own, Steps, Direction, other, HaveSamePlaces}
-use Rattle.osi_blameless.proofs.Vocabulary.{arith, packet_begins, calls_from, fresh_apart, no_item, ◌≢◌, Continues, then_did, all_units}
-use Rattle.osi_blameless.proofs.Vocabulary.{Turn, TakesTurn, reference_of, Part, AllProper, HasFieldsInRange, IsFresh, IsOctets, IsOngoing}
+use Rattle.osi_blameless.proofs.Vocabulary.{Holding, Joined, spoken, none, unit_passes, units_pass, heard, begins_other, begins_own, Joint}
+use Rattle.osi_blameless.proofs.Vocabulary.{begin, passes_other, passes_own, Steps, Direction, other, HaveSamePlaces, arith, packet_begins}
+use Rattle.osi_blameless.proofs.Vocabulary.{calls_from, fresh_apart, no_item, AllProper, HasFieldsInRange, IsFresh, IsOctets, IsOngoing}
 use Rattle.osi_blameless.proofs.Vocabulary.{Left, Local, Ok, Right, State, units_fit, units_found}
 use Rattle.osi_honest.specs.Courses.{Course}
 use Rattle.osi_blameless.proofs.sessions.a_right_dt_has_one_place.{AreUsedApart, named_apart}
-use Rattle.osi_blameless.proofs.sessions.a_turn_does_what_its_deeds_say.{units_join}
+use Rattle.osi_blameless.proofs.sessions.a_turn_does_what_its_deeds_say.{units_more}
 use Rattle.osi_blameless.proofs.sessions.all_connections_stand.{AllStand, all_room}
 use Rattle.osi_blameless.proofs.sessions.each_reference_of_an_end_is_new.{AreUpTo, IsUpTo, gives_new, units_up}
 use Rattle.osi_blameless.proofs.sessions.an_end_hears_what_breaks_no_rule.{AreFine, AreHeard}
@@ -137,9 +136,7 @@ module _ (d : Direction) (local : Local) (proper : AllProper) (deeds : ℕ → D
       AreHeard d deeds (may_take old.holding.end.carrier) old.put old.begun at (units_in old.coming ++ units)
       (units_pass (other d) at units old.course) → OwnInTwo d local deeds new → Stands old → Stands new
   other_passes_with at packet units old new (octets, read, is) k own h =
-      let one : units_in (packet ∷ []) ≡ units = append-nil (units_read (units_of packet)) ∙ ap units_read read in
-      let all : units_in old.coming ++ units ≡ units_in (old.coming ++ packet ∷ []) =
-      sym (units_join old.coming (packet ∷ []) ∙ ap (λ (l : List Value). units_in old.coming ++ l) one) in
+      let all = units_more old.coming packet units read in
       let after = units_pass (other d) at units old.course in
       let live = may_take old.holding.end.carrier in
       subst Stands (sym is) (record {
@@ -209,7 +206,7 @@ hears_front Left local two deeds at octets front back j all read fine h =
     let plain = fine_plain b at front j.course fine in
     record {
       heard = crs_heard.units_heard local j.put h.can deeds (may_take j.holding.end.carrier) j.begun at front
-      (units_in j.coming) j.course fine
+          (units_in j.coming) j.course fine
           (all_front HasFieldsInRange front back
           (ranges_of (front ++ back) (units_fit (front ++ back) octets (units_found octets (front ++ back) all read)))) behind
           (record { stand = h.standing.all; distinct = h.distinct; shut = h.shut });

@@ -1,7 +1,7 @@
 -- Before a class is selected all connections of an end stand at a judge, calling or called: nothing that has come is for one of them. So it
 -- is as packets begin, and as the end goes on.
 -- For the session of the connection of an end in class 0.
-use Rattle.osi_blameless.proofs.Vocabulary.{◌≡◌, ◌≢◌, ◌∙◌, sym, ap, subst, ℕ, ◌^◌, ◌<◌, Bool, true, false, List, [], ◌++◌, length, None}
+use Rattle.osi_blameless.proofs.Vocabulary.{◌≡◌, ◌≢◌, ◌∙◌, sym, ap, subst, ℕ, ◌^◌, ◌<◌, Bool, true, false, List, [], length, None}
 use Rattle.osi_blameless.proofs.Vocabulary.{Some, slice_get, AllByRecursion, Value, Direction, Left, Right, other, Deeds, then_did}
 use Rattle.osi_blameless.proofs.Vocabulary.{units_in, Turn, Joined, Sessions, spoken, heard, Course, packet_begins, Joint, TakesTurn}
 use Rattle.osi_carrier.specs.State.{State as Carrier}

@@ -3,27 +3,27 @@
 -- For the session of the connection of an end in class 0.
 use Rattle.osi_blameless.proofs.Vocabulary.{◌≡◌, ◌≢◌, ◌∙◌, refl, sym, ap, subst, ℕ, ◌^◌, ◌<◌, ◌≤◌, Bool, true, false, List, [], ◌∷◌, ◌++◌}
 use Rattle.osi_blameless.proofs.Vocabulary.{length, Option, Some, None, arith, slice_get, append-nil, append_assoc, AllByRecursion}
-use Rattle.osi_blameless.proofs.Vocabulary.{units_of, Connect, Value, acknowledge, confirm, data0, data2, disconnect, disconnected, error}
+use Rattle.osi_blameless.proofs.Vocabulary.{Connect, Value, acknowledge, confirm, data0, data2, disconnect, disconnected, error}
 use Rattle.osi_blameless.proofs.Vocabulary.{request, is_over, list_all, not, unlike, eqb-true, ◌==◌, is_refused, differ, unit_parts, Part}
-use Rattle.osi_blameless.proofs.Vocabulary.{Class, Two, Zero, Local, Direction, Left, Right, other, State, class_for, is_stopped, takes}
-use Rattle.osi_blameless.proofs.Vocabulary.{left_class, zero_stays, Deeds, units_in, units_read, past, stage_at, Joined, Sessions, spoken}
-use Rattle.osi_blameless.proofs.Vocabulary.{taken, Course, packet_begins, unit_passes, units_pass, heard, way_of, Joint, Steps}
+use Rattle.osi_blameless.proofs.Vocabulary.{Class, Two, Zero, Local, Direction, Left, Right, other, State, class_for, takes}
+use Rattle.osi_blameless.proofs.Vocabulary.{zero_stays, Deeds, units_in, past, stage_at, Joined, Sessions, spoken}
+use Rattle.osi_blameless.proofs.Vocabulary.{Course, packet_begins, unit_passes, units_pass, heard, way_of, Joint, Steps}
 use Rattle.osi_blameless.proofs.Vocabulary.{begins_other, begins_own, passes_other, passes_own, amid, AllProper, calls_from, IsFirm}
 use Rattle.osi_carrier.specs.State.{State as Carrier}
 use Rattle.osi_rules.specs.declared.directions.Direction.TheVariants as way
 use Rattle.osi_fair.specs.Naming.{unit as passing}
 use Rattle.osi_fair.specs.Wholes as wholes
-use Rattle.osi_blameless.proofs.what_a_taker_passes_over.{IsMild, mild_of}
+use Rattle.osi_blameless.proofs.what_a_taker_passes_over.{IsMild}
 use Rattle.osi_blameless.proofs.small_facts_that_many_lemmas_use.{all_join, none_some, same_one, zero_two}
 use Rattle.osi_blameless.proofs.sessions.a_dt_of_class_0_has_one_place.{IsOnly, is_live_there}
 use Rattle.osi_blameless.proofs.sessions.a_dt_of_class_0_is_in_flight.{zero_grows, zero_stays as flight_stays}
 use Rattle.osi_blameless.proofs.sessions.a_dt_of_class_0_leaves_all_standing as in_zero
 use Rattle.osi_blameless.proofs.sessions.a_dt_of_class_0_leaves_all_standing.{GrowsThere, IsHeardZero, IsZero, told_there}
-use Rattle.osi_blameless.proofs.sessions.a_turn_does_what_its_deeds_say.{units_join}
+use Rattle.osi_blameless.proofs.sessions.a_turn_does_what_its_deeds_say.{units_more}
 use Rattle.osi_blameless.proofs.sessions.all_connections_stand.{AllStand, all_begin_other, all_begin_own}
 use Rattle.osi_blameless.proofs.sessions.class_0_has_one_connection.{all_so}
-use Rattle.osi_blameless.proofs.sessions.class_0_keeps_its_one_place.{HasOne, IsStill, one_begins, one_passes, zero_still}
-use Rattle.osi_blameless.proofs.sessions.connections_have_the_same_places.{unit_joins, unit_knows}
+use Rattle.osi_blameless.proofs.sessions.class_0_keeps_its_one_place.{HasOne, IsStill, one_begins, one_stays, zero_still}
+use Rattle.osi_blameless.proofs.sessions.connections_have_the_same_places.{unit_knows}
 use Rattle.osi_blameless.proofs.sessions.each_reference_of_an_end_is_new.{GoesOn, IsAhead, IsUpTo, IsWithin, begins_other_ahead}
 use Rattle.osi_blameless.proofs.sessions.each_reference_of_an_end_is_new.{begins_own_ahead, other_up, passes_other_ahead, passes_own_ahead}
 use Rattle.osi_blameless.proofs.sessions.each_step_leaves_class_0_one_connection.{Sure, is_zero, sure_claim}
@@ -133,10 +133,7 @@ module _ (d : Direction) (deeds : ℕ → Deeds) (r : ℕ) (end : Carrier) (put 
           class = ap (λ (s : State). s.course.class) (unit_knows (other d) at v c)
               ∙ zero_stays (passing (way_of (other d)) v) c.traffic h.class;
           all = all;
-          one = subst (λ (s : State). HasOne d r (IsGone end) s (after v c).sessions) (sym (unit_knows (other d) at v c))
-              (subst (λ (t : Sessions). HasOne d r (IsGone end) (takes (way_of (other d)) v c.traffic).state t)
-              (sym (unit_joins (other d) at v c))
-              (one_passes d (other d) r (IsGone end) at v c.traffic c.sessions h.one h.all.places still));
+          one = one_stays d (other d) r (IsGone end) at v c h.one h.all.places still;
           ccs = all_join (IsCcFor r) coming (v ∷ []) h.ccs (cc_for, tt);
           order = order_more coming v h.order later;
         }
@@ -306,10 +303,7 @@ own_zero d deeds r at v old new (read, octets, put, begun, is) dt right h =
           ∙ zero_stays (passing (way_of d) v) old.course.traffic h.class;
       all = (any_passes_own d deeds known at v old mid (read, octets, put, begun, refl) h.sure right
           (λ not. absurd (not (knows_own d v old.course h.sure h.class dt right))) (record { all = h.all })).all;
-      one = subst (λ (s : State). HasOne d r (IsGone end) s mid.course.sessions) (sym (unit_knows d at v old.course))
-          (subst (λ (t : Sessions). HasOne d r (IsGone end) (takes (way_of d) v old.course.traffic).state t)
-          (sym (unit_joins d at v old.course))
-          (one_passes d d r (IsGone end) at v old.course.traffic old.course.sessions h.one h.all.places (dt_still v dt)));
+      one = one_stays d d r (IsGone end) at v old.course h.one h.all.places (dt_still v dt);
       ccs = h.ccs;
       order = h.order;
     })
@@ -388,9 +382,7 @@ module _ (d : Direction) (local : Local) (proper : AllProper) (deeds : ℕ → D
   zero_other_passes at packet units old new (octets, read, is) passed h =
       let mid : Joint = record old { course = units_pass (other d) at units old.course; coming = old.coming ++ packet ∷ [] } in
       let b = h.ahead.bound in
-      let one : units_in (packet ∷ []) ≡ units = append-nil (units_read (units_of packet)) ∙ ap units_read read in
-      let all : units_in old.coming ++ units ≡ units_in mid.coming =
-      sym (units_join old.coming (packet ∷ []) ∙ ap (λ (l : List Value). units_in old.coming ++ l) one) in
+      let all = units_more old.coming packet units read in
       let end = old.holding.end.carrier in
       subst Stands (sym is) (stands_on old mid h
       (passes_other_ahead d first proper at packet units old mid (octets, read, refl) h.ahead

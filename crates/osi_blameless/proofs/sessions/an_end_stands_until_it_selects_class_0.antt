@@ -1,10 +1,10 @@
 -- Until a called end selects class 0 all its connections stand at a judge, while it has selected no class and while its CC of class 2
 -- waits. For the session of the connection of an end in class 0.
 use Rattle.osi_blameless.proofs.Vocabulary.{arith, ◌≡◌, ◌∙◌, ◌⊎◌, inl, inr, refl, sym, ap, subst, ℕ, ◌^◌, ◌<◌, Bool, true, false}
-use Rattle.osi_blameless.proofs.Vocabulary.{if◌then◌else◌, List, [], ◌∷◌, ◌++◌, length, Some, None, slice_get, AllByRecursion, append-nil}
-use Rattle.osi_blameless.proofs.Vocabulary.{units_of, Connect, Value, confirm, Two, Zero, Local, Left, Right, IsNoCc}
+use Rattle.osi_blameless.proofs.Vocabulary.{if◌then◌else◌, List, [], ◌∷◌, ◌++◌, length, Some, None, slice_get, AllByRecursion}
+use Rattle.osi_blameless.proofs.Vocabulary.{Connect, Value, confirm, Two, Zero, Local, Left, Right, IsNoCc}
 use Rattle.osi_blameless.proofs.Vocabulary.{State, class_for, Holding, Selecting, left_class, IsClear, IsFirm, Deeds, no_deeds}
-use Rattle.osi_blameless.proofs.Vocabulary.{then_did, units_in, units_read, Marked, all_units, IsFresh, Turn, AllProper, amid, stage_at}
+use Rattle.osi_blameless.proofs.Vocabulary.{then_did, units_in, Marked, all_units, IsFresh, Turn, AllProper, amid, stage_at}
 use Rattle.osi_blameless.proofs.Vocabulary.{stage_is, stage_there, all_units_more, CanBeWritten, Joined, spoken, packet_begins, unit_passes}
 use Rattle.osi_blameless.proofs.Vocabulary.{units_pass, heard, Joint, Steps, TakesTurn, begin, begins_other, begins_own, passes_other}
 use Rattle.osi_blameless.proofs.Vocabulary.{passes_own, going_on, IsOngoing, takes, class_of, Class, ◌==◌}
@@ -19,8 +19,8 @@ use Rattle.osi_blameless.proofs.sessions.an_end_stands_as_units_pass.{stands_fir
 use Rattle.osi_blameless.proofs.sessions.an_end_stands_as_units_pass.{stands_own_begins, stands_own_passes}
 use Rattle.osi_blameless.proofs.sessions.a_cc_of_class_0_opens_one_connection.{has_effect}
 use Rattle.osi_blameless.proofs.sessions.a_turn_after_which_a_cc_of_class_0_waits.{no_cc_taken}
-use Rattle.osi_blameless.proofs.sessions.a_turn_does_what_its_deeds_say.{turn_leaves, units_join}
-use Rattle.osi_blameless.proofs.sessions.an_end_answers_with_class_0.{StandsAnswering, first, units_select_none, units_unselected}
+use Rattle.osi_blameless.proofs.sessions.a_turn_does_what_its_deeds_say.{turn_leaves, units_more}
+use Rattle.osi_blameless.proofs.sessions.an_end_answers_with_class_0.{StandsAnswering, first, units_unselected}
 use Rattle.osi_blameless.proofs.sessions.an_end_hears_what_breaks_no_rule.{AreFine}
 use Rattle.osi_blameless.proofs.sessions.connections_have_the_same_places.{Agree, unit_knows}
 use Rattle.osi_blameless.proofs.sessions.each_reference_of_an_end_is_new.{turns_ahead}
@@ -154,9 +154,7 @@ module _ (local : Local) (proper : AllProper) where
         Steps Right (passes_other at packet units) old new → ArePassed Two Right at units old.course → Stands old → Stands new
     unselected_other_passes at packet units old new (octets, read, is) passed h =
         let mid : Joint = record old { course = units_pass Left at units old.course; coming = old.coming ++ packet ∷ [] } in
-        let one : units_in (packet ∷ []) ≡ units = append-nil (units_read (units_of packet)) ∙ ap units_read read in
-        let all : units_in old.coming ++ units ≡ units_in mid.coming =
-        sym (units_join old.coming (packet ∷ []) ∙ ap (λ (l : List Value). units_in old.coming ++ l) one) in
+        let all = units_more old.coming packet units read in
         let after = units_unselected deeds old.holding.end.carrier old.put old.begun at units (units_in old.coming) old.course passed
         (unselected_so local deeds old h) in
         subst Stands (sym is) (record {

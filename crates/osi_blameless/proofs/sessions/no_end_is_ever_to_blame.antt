@@ -1,7 +1,7 @@
 -- No session of an end is ever to blame, whatever the other side breaks, whichever class is selected; so the first break of all is of the
 -- other side. For the laws that no session of an end is to blame after a break, nor blamed first.
-use Rattle.osi_blameless.proofs.Vocabulary.{slice_get, ◌⊎◌, ℕ, inl, inr, ◌≡◌, refl, ◌^◌, ◌<◌, Bool, false, true, List, length, Option, Some}
-use Rattle.osi_blameless.proofs.Vocabulary.{Class, Zero, Local, Capture, Direction, Left, Right, other, AsSent, AsParts, CalledLaw}
+use Rattle.osi_blameless.proofs.Vocabulary.{slice_get, ◌⊎◌, ℕ, inl, inr, ◌≡◌, ◌^◌, ◌<◌, List, length, Option, Some}
+use Rattle.osi_blameless.proofs.Vocabulary.{Class, Zero, Local, Capture, Direction, other, AsSent, AsParts, CalledLaw}
 use Rattle.osi_blameless.proofs.Vocabulary.{CallerLaw, Holding, IsFresh, IsSeen, Run, Turn, Known, IsToBlame, Joined, Sessions, Course}
 use Rattle.osi_blameless.proofs.Vocabulary.{comes_to, AreOctets, differ, BreaksFirst, First, calls_from}
 use Rattle.osi_blameless.proofs.a_capture_is_steps.{capture_steps}

@@ -2,7 +2,7 @@
 -- its one connection, and waits there.
 -- For the session of the connection of an end in class 0.
 use Rattle.osi_blameless.proofs.Vocabulary.{◌≡◌, ◌∙◌, refl, sym, ap, ℕ, zero, suc, ◌<◌, Bool, true, false, List, [], ◌∷◌, ◌++◌, Option}
-use Rattle.osi_blameless.proofs.Vocabulary.{Some, arith, is_some, append_assoc, inl, inr, ◌⊎◌, ◌==◌, nat_lt, AllByRecursion, eq-eqb}
+use Rattle.osi_blameless.proofs.Vocabulary.{arith, is_some, append_assoc, inl, inr, ◌⊎◌, ◌==◌, nat_lt, AllByRecursion, eq-eqb}
 use Rattle.osi_blameless.proofs.Vocabulary.{lt-ltb, Connect, Value, confirm, request, AreApart, Answers, Opens, Continues, Deeds, Marked}
 use Rattle.osi_blameless.proofs.Vocabulary.{all_units, is_of_link, Turn, Life, amid, early, opens_by, past, stage_at, stays}
 use Rattle.osi_blameless.proofs.Vocabulary.{none_mark, Joint, differ, Time}

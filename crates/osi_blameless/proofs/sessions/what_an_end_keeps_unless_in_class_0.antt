@@ -75,7 +75,8 @@ besides_own_passes Right local deeds at v old new step h =
     step_kept UncalledUntil uncalled_claim Right (passes_own at v) old new step h.besides
 
 besides_other_passes : (d : Direction) (local : Local) (deeds : ℕ → Deeds) (at : ℕ) (octets : List ℕ) (units : List Value)
-    (old new : Joint) → Steps d (passes_other at octets units) old new → AreFine d at units old.course → StandsBeside d local deeds old → Besides d new
+    (old new : Joint) → Steps d (passes_other at octets units) old new → AreFine d at units old.course → StandsBeside d local deeds old →
+    Besides d new
 besides_other_passes Left local deeds at octets units old new step fine h =
     passes_other_quiet local h.two deeds at octets units old new step h.stands.own fine h.besides
 besides_other_passes Right local deeds at octets units old new step fine h =
@@ -194,11 +195,14 @@ turn_beside Right local proper turn old new t deeds does f g clear h =
           mute = subst (λ (c : Passed). IsMute Right c.sessions) (sym t.course)
               (all_mute deeds (known_at old) old.put old.begun old.course.traffic old.course.sessions h.stands.standing.all firm
               (h.besides no_class));
-          why = (can, λ two. first_not_zero z.x.source (acceptance Zero z.size z.x local z.r) z.more new.put (record {
-            same = ap (λ (l : List Value). map written l) (sym z.put) ∙ g.put;
-            can = subst (AllByRecursion CanBeWritten) z.put g.can;
-            can_too = can;
-          }) refl two);
+          why = (
+            can,
+            λ two. first_not_zero z.x.source (acceptance Zero z.size z.x local z.r) z.more new.put (record {
+              same = ap (λ (l : List Value). map written l) (sym z.put) ∙ g.put;
+              can = subst (AllByRecursion CanBeWritten) z.put g.can;
+              can_too = can;
+            }) refl two,
+          );
         })
 
 -- ---- as it is asked for

@@ -1,4 +1,4 @@
-use Rattle.osi_blameless.proofs.Vocabulary.{ℕ, ◌<◌, ◌^◌, true, false, List, length, Local, Capture, Left, Right, AsSent, said_again}
+use Rattle.osi_blameless.proofs.Vocabulary.{ℕ, ◌<◌, ◌^◌, List, length, Local, Capture, Left, Right, AsSent, said_again}
 use Rattle.osi_blameless.proofs.Vocabulary.{Direction, calls_from, Holding, SpduLaws, IsFresh, IsSeen, Run, Turn, all_proper, Known}
 use Rattle.osi_blameless.proofs.Vocabulary.{can_begin, first_in, comes_to, comes_within, AreOctets}
 use Rattle.osi_blameless.proofs.sessions.a_bound_changes_no_first_break.{blameless_within}

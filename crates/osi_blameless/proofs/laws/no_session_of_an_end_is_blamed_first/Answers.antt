@@ -1,4 +1,4 @@
-use Rattle.osi_blameless.proofs.Vocabulary.{Option, Some, subst, ◌≡◌, ◌<◌, ◌^◌, true, false, List, length, Local, Left, Right, Holding}
+use Rattle.osi_blameless.proofs.Vocabulary.{Option, Some, subst, ◌≡◌, ◌<◌, ◌^◌, List, length, Local, Left, Right, Holding}
 use Rattle.osi_blameless.proofs.Vocabulary.{Direction, calls_from}
 use Rattle.osi_blameless.proofs.Vocabulary.{said_again, SpduLaws, AsSent, Capture, all_proper, Known, can_begin, IsFresh, IsSeen, Run, Turn}
 use Rattle.osi_blameless.proofs.Vocabulary.{AreOctets, BreaksFirst, IsFirstOf, first_in, IsFed, comes_to, First, Judge, IsJudged}
