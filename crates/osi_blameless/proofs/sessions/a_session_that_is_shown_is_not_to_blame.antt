@@ -19,6 +19,13 @@ use Rattle.osi_honest.specs.Courses.Course.{is_open}
 use Rattle.osi_honest.proofs.courses.what_was_said_is_explained.{units_put}
 use Rattle.osi_judge.specs.Lines as lines
 
+-- what the laws of messages and of sessions state
+pub record SessionLaws : Type 0 where
+  pub sent : AsSent
+  pub parts : AsParts
+  pub caller : CallerLaw
+  pub called : CalledLaw
+
 -- ---- what was said is a run of a session, also if more was heard than it took
 
 -- the session took the first of these

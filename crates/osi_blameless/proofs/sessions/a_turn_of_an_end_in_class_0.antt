@@ -2,11 +2,11 @@
 -- what it takes there is the first of what is in flight. And no session of it is to blame then. For the session of the connection of an end
 -- in class 0.
 use Rattle.osi_blameless.proofs.Vocabulary.{◌≡◌, ◌∙◌, refl, sym, ap, subst, ℕ, ◌<◌, Bool, true, false, List, ◌∷◌, ◌++◌, Option, Some, arith}
-use Rattle.osi_blameless.proofs.Vocabulary.{inl, inr, ◌⊎◌, ◌==◌, slice_get, AllByRecursion, eqb-true, Connect, Value, confirm, Two, Local}
+use Rattle.osi_blameless.proofs.Vocabulary.{inl, inr, ◌⊎◌, ◌==◌, slice_get, AllByRecursion, eqb-true, Connect, Value, confirm, Local}
 use Rattle.osi_blameless.proofs.Vocabulary.{Direction, Left, Right, other, Connection, is_open, own, State, Whole, unlike, IsFirm}
 use Rattle.osi_blameless.proofs.Vocabulary.{Continues, Deeds, then_did, units_in, Marked, all_units, Turn, AllProper, Life, early, past}
 use Rattle.osi_blameless.proofs.Vocabulary.{stage_at, all_units_more, Joined, reference_of, Joint, TakesTurn, IsOneOf, calls_from, way_of}
-use Rattle.osi_blameless.proofs.Vocabulary.{AsSent, AsParts, CalledLaw, CallerLaw, units_pass, is_of_link, Time}
+use Rattle.osi_blameless.proofs.Vocabulary.{is_of_link, Time}
 use Rattle.osi_carrier.specs.State.{State as Carrier}
 use Rattle.osi_fair.specs.Wholes as wholes
 use Rattle.osi_judge.specs.Courses.{Course as Passed}
@@ -16,15 +16,13 @@ use Rattle.osi_blameless.proofs.sessions.a_dt_of_class_0_has_one_place.{IsOnly, 
 use Rattle.osi_blameless.proofs.sessions.a_turn_does_what_its_deeds_say.{turn_leaves, turn_uses}
 use Rattle.osi_blameless.proofs.sessions.a_turn_leaves_all_standing.{IsOfOne, Turns, of_done, of_live}
 use Rattle.osi_blameless.proofs.sessions.all_connections_stand.{one_at}
-use Rattle.osi_blameless.proofs.sessions.an_end_stands_in_class_0.{AllInZero, IsGone, StandsInZero, known_in, place_of_one, units_zero}
+use Rattle.osi_blameless.proofs.sessions.an_end_stands_in_class_0.{AllInZero, IsGone, StandsInZero, known_in, place_of_one}
 use Rattle.osi_blameless.proofs.sessions.an_end_stands_in_class_0.{within_higher}
 use Rattle.osi_blameless.proofs.sessions.class_0_keeps_its_one_place.{HasOne, still_gone}
 use Rattle.osi_blameless.proofs.sessions.each_reference_of_an_end_is_new.{GoesOn, IsWithin, turns_ahead}
 use Rattle.osi_blameless.proofs.sessions.each_step_leaves_class_0_one_connection.{Sure, is_zero}
 use Rattle.osi_blameless.proofs.sessions.each_unit_of_a_calling_end_has_a_home.{IsWrittenAs, first as first_octet, not_two, written_as}
-use Rattle.osi_blameless.proofs.sessions.nobody_of_a_side_is_to_blame.{NoneIsToBlame}
 use Rattle.osi_blameless.proofs.sessions.steps_leave_all_standing.{step_turns}
-use Rattle.osi_blameless.proofs.sessions.steps_of_either_class_leave_all_standing.{stand_none}
 use Rattle.osi_blameless.proofs.sessions.units_of_class_0_come_after_its_cc.{InOrder, IsCcFor, order_back, order_calm}
 use Rattle.osi_blameless.proofs.sessions.what_a_turn_puts_at_the_connections_that_are_open.{WasOpen, agree_apart, agree_one, all_marked}
 use Rattle.osi_blameless.proofs.sessions.what_a_turn_puts_at_the_connections_that_are_open.{open_before, past_apart, puts_cc}
@@ -32,7 +30,6 @@ use Rattle.osi_blameless.proofs.sessions.what_a_turn_puts_at_the_connections_tha
 use Rattle.osi_blameless.proofs.sessions.what_a_turn_puts_goes_to_its_peer.{all_back, all_so, one_of}
 use Rattle.osi_blameless.proofs.sessions.what_a_turn_puts_waits.{Agree, marks_wait}
 use Rattle.osi_blameless.proofs.sessions.what_an_end_takes_at_each_stage.{AreCalm, turn_takes}
-use Rattle.osi_blameless.proofs.sessions.what_is_asked_of_what_holds_at_each_step.{ArePassed, HaveCourses}
 use Rattle.osi_blameless.proofs.sessions.what_stands_of_a_connection.{waiting_for}
 use Rattle.osi_blameless.proofs.sessions.what_the_stage_of_a_whole_end_says.{AwaitsCc, IsDt0, stage_of, zero_awaits, zero_put}
 
@@ -217,21 +214,3 @@ module _ (d : Direction) (local : Local) (proper : AllProper) (turn : Turn) (old
     amid_is = λ q peer some is. is_r q some (then_open (calls_from d) turn old new deeds on life q peer some is);
     some = λ begun none. h.some (sym t.begun ∙ begun) (none_first old.put t.units (sym t.put ∙ none));
   }
-
--- ---- nobody is to blame
-
-module _ (known_of : AsSent) (parts : AsParts) (caller : CallerLaw) (called : CalledLaw) (d : Direction) (local : Local)
-    (deeds : ℕ → Deeds) (j : Joint) (courses : HaveCourses d deeds j) (h : StandsInZero d local deeds j) where
-  pub zero_none : NoneIsToBlame d j.course.sessions
-  zero_none =
-      stand_none known_of parts caller called d deeds j.put j.begun j.holding.end courses
-      (known_in j.holding.end.carrier (units_in j.coming)) j.course.traffic j.course.sessions h.zero.all
-
-  -- after some units of a packet
-  pub zero_none_amid : (at : ℕ) (front : List Value) → ArePassed Two d at front j.course →
-      NoneIsToBlame d (units_pass (other d) at front j.course).sessions
-  zero_none_amid at front passed =
-      let after = units_zero d deeds h.r j.holding.end.carrier j.put j.begun at front (units_in j.coming) j.course passed h.zero in
-      stand_none known_of parts caller called d deeds j.put j.begun j.holding.end courses
-      (known_in j.holding.end.carrier (units_in j.coming ++ front)) (units_pass (other d) at front j.course).traffic
-      (units_pass (other d) at front j.course).sessions after.all

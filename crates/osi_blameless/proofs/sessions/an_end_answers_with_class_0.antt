@@ -1,12 +1,11 @@
 -- From the turn in which a called end puts its CC of class 0 until this CC passes, all its connections stand at a judge; and after that, as
 -- in class 0. For the session of the connection of an end in class 0.
 use Rattle.osi_blameless.proofs.Vocabulary.{[], ap, Bool, false, length, List, None, Option, refl, Some, subst, sym, true, ℕ, ◌++◌, ◌<◌}
-use Rattle.osi_blameless.proofs.Vocabulary.{◌^◌, ◌∙◌, ◌∷◌, ◌≡◌, eqb-true, append-nil, append_assoc, AllByRecursion, slice_get}
-use Rattle.osi_blameless.proofs.Vocabulary.{confirm, Connect, Value, parts_in, Two, Zero, Local, class_of, Traffic as State}
-use Rattle.osi_blameless.proofs.Vocabulary.{takes, Left, Right, AllProper, amid, stage_at, CanBeWritten, Deeds, units_in}
-use Rattle.osi_blameless.proofs.Vocabulary.{Joined, spoken, unit_passes, units_pass, heard, left_class, begins_other, begins_own}
-use Rattle.osi_blameless.proofs.Vocabulary.{Joint, Holding, passes_other, passes_own, Steps, parts_of, arith, packet_begins, first_is}
-use Rattle.osi_blameless.proofs.Vocabulary.{Class, AsSent, AsParts, CalledLaw, CallerLaw}
+use Rattle.osi_blameless.proofs.Vocabulary.{◌^◌, ◌∙◌, ◌∷◌, ◌≡◌, eqb-true, append-nil, append_assoc, AllByRecursion, slice_get, confirm}
+use Rattle.osi_blameless.proofs.Vocabulary.{Connect, Value, parts_in, Two, Zero, Local, class_of, Traffic as State, takes, Left, Right}
+use Rattle.osi_blameless.proofs.Vocabulary.{AllProper, amid, stage_at, CanBeWritten, Deeds, units_in, Joined, spoken, unit_passes}
+use Rattle.osi_blameless.proofs.Vocabulary.{units_pass, heard, left_class, begins_other, begins_own, Joint, Holding, passes_other}
+use Rattle.osi_blameless.proofs.Vocabulary.{passes_own, Steps, parts_of, arith, packet_begins, first_is, Class}
 use Rattle.osi_carrier.specs.State.{State as Carrier}
 use Rattle.osi_rules.specs.declared.directions.Direction.TheVariants as way
 use Rattle.osi_fair.specs.Wholes as wholes
@@ -27,8 +26,7 @@ use Rattle.osi_blameless.proofs.sessions.each_reference_of_an_end_is_new.{GoesOn
 use Rattle.osi_blameless.proofs.sessions.each_reference_of_an_end_is_new.{passes_highest, passes_other_ahead}
 use Rattle.osi_blameless.proofs.sessions.each_step_leaves_class_0_one_connection.{sure_claim}
 use Rattle.osi_blameless.proofs.sessions.no_connection_is_opened_before_a_class_is_selected.{uncalled_claim}
-use Rattle.osi_blameless.proofs.sessions.nobody_of_a_side_is_to_blame.{NoneIsToBlame}
-use Rattle.osi_blameless.proofs.sessions.steps_of_either_class_leave_all_standing.{IsRight, any_passes_own, stand_none}
+use Rattle.osi_blameless.proofs.sessions.steps_of_either_class_leave_all_standing.{IsRight, any_passes_own}
 use Rattle.osi_blameless.proofs.sessions.units_of_class_0_come_after_its_cc.{IsQuiet, quiet_ccs, quiet_none, quiet_order}
 use Rattle.osi_blameless.proofs.sessions.what_is_asked_of_what_holds_at_each_step.{ArePassed, HaveCourses, early as tolerable}
 use Rattle.osi_blameless.proofs.sessions.what_passes_leaves_all_standing.{IsReady}
@@ -220,21 +218,3 @@ module _ (local : Local) where
         let first_step = subst (λ (v : Value). Steps Right (passes_own at v) old new) (sym same) step in
         let first_right = subst (λ (v : Value). IsRight Right v old.course) (sym same) right in
         subst (StandsInZero Right local deeds) (sym first_step.4) (cc_passes at old new h first_step first_right)
-
--- ---- nobody is to blame
-
-module _ (known_of : AsSent) (parts : AsParts) (caller : CallerLaw) (called : CalledLaw) (deeds : ℕ → Deeds) (j : Joint)
-    (courses : HaveCourses Right deeds j) (h : StandInNone Right deeds j) where
-  pub unselected_none : NoneIsToBlame Right j.course.sessions
-  unselected_none =
-      stand_none known_of parts caller called Right deeds j.put j.begun j.holding.end courses
-      (known_in j.holding.end.carrier (units_in j.coming)) j.course.traffic j.course.sessions h.all
-
-  -- after some units of a packet
-  pub unselected_none_amid : (at : ℕ) (front : List Value) → ArePassed Two Right at front j.course →
-      NoneIsToBlame Right (units_pass Left at front j.course).sessions
-  unselected_none_amid at front passed =
-      stand_none known_of parts caller called Right deeds j.put j.begun j.holding.end courses
-      (known_in j.holding.end.carrier (units_in j.coming ++ front)) (units_pass Left at front j.course).traffic
-      (units_pass Left at front j.course).sessions
-      (units_unselected deeds j.holding.end.carrier j.put j.begun at front (units_in j.coming) j.course passed h).all

@@ -1,16 +1,16 @@
 -- Until a calling end gets a CC, all its connections stand at a judge, whatever classes it offers: at the beginning, and after what passes
 -- and is no break, or is passed over. The CC of class 0 opens the connection for which it comes, and no other one is left then. For the
 -- session of the connection of an end in class 0.
-use Rattle.osi_blameless.proofs.Vocabulary.{◌≡◌, ◌≢◌, ◌∙◌, refl, sym, ap, subst, ℕ, ◌^◌, ◌<◌, ◌≤◌, Bool, true, false, List, [], ◌∷◌, ◌++◌}
-use Rattle.osi_blameless.proofs.Vocabulary.{length, map, Option, Some, None, is_some, arith, slice_get, append-nil, append_assoc, ◌||◌, ◌⊎◌}
-use Rattle.osi_blameless.proofs.Vocabulary.{inl, inr, AllByRecursion, Connect, HasFieldsInRange, Value, acknowledge, confirm, data0, data2}
-use Rattle.osi_blameless.proofs.Vocabulary.{disconnect, disconnected, error, request, written, units_fit, units_found, Class, Two, Zero}
-use Rattle.osi_blameless.proofs.Vocabulary.{Local, EndReason, Left, Right, Finding, TooMany, Reach, is_applied, State, class_for, class_of}
-use Rattle.osi_blameless.proofs.Vocabulary.{is_stopped, stops_by, takes, stops_are_said, has_given, Whole, Holding, fresh_apart, no_item}
-use Rattle.osi_blameless.proofs.Vocabulary.{left_class, Holds, holds_next, Deeds, no_deeds, units_in, IsFresh, AllProper, amid, past}
-use Rattle.osi_blameless.proofs.Vocabulary.{stage_at, stage_over, Joined, spoken, Course, packet_begins, unit_passes, units_pass, heard}
-use Rattle.osi_blameless.proofs.Vocabulary.{parts_of, Joint, Steps, begin, begins_other, begins_own, passes_other, passes_own, AsSent}
-use Rattle.osi_blameless.proofs.Vocabulary.{AsParts, CalledLaw, CallerLaw, Part}
+use Rattle.osi_blameless.proofs.Vocabulary.{units_of, IsOctets, Ok, ◌≡◌, ◌≢◌, ◌∙◌, refl, sym, ap, subst, ℕ, ◌^◌, ◌<◌, ◌≤◌, Bool, true}
+use Rattle.osi_blameless.proofs.Vocabulary.{false, List, [], ◌∷◌, ◌++◌, length, map, Option, Some, None, is_some, arith, slice_get}
+use Rattle.osi_blameless.proofs.Vocabulary.{append-nil, append_assoc, ◌||◌, ◌⊎◌, inl, inr, AllByRecursion, Connect, HasFieldsInRange, Value}
+use Rattle.osi_blameless.proofs.Vocabulary.{acknowledge, confirm, data0, data2, disconnect, disconnected, error, request, written}
+use Rattle.osi_blameless.proofs.Vocabulary.{units_fit, units_found, Class, Two, Zero, Local, EndReason, Left, Right, Finding, TooMany}
+use Rattle.osi_blameless.proofs.Vocabulary.{Reach, is_applied, State, class_for, class_of, is_stopped, stops_by, takes, stops_are_said}
+use Rattle.osi_blameless.proofs.Vocabulary.{has_given, Whole, Holding, fresh_apart, no_item, left_class, Holds, holds_next, Deeds, no_deeds}
+use Rattle.osi_blameless.proofs.Vocabulary.{units_in, IsFresh, AllProper, amid, past, stage_at, stage_over, Joined, spoken, Course}
+use Rattle.osi_blameless.proofs.Vocabulary.{packet_begins, unit_passes, units_pass, heard, parts_of, Joint, Steps, begin, begins_other}
+use Rattle.osi_blameless.proofs.Vocabulary.{begins_own, passes_other, passes_own}
 use Rattle.osi_carrier.specs.State.{State as Carrier}
 use Rattle.osi_rules.specs.declared.directions.Direction.TheVariants as way
 use Rattle.osi_fair.specs.Wholes as wholes
@@ -32,10 +32,9 @@ use Rattle.osi_blameless.proofs.sessions.each_reference_of_an_end_is_new.{begins
 use Rattle.osi_blameless.proofs.sessions.each_reference_of_an_end_is_new.{passes_highest}
 use Rattle.osi_blameless.proofs.sessions.each_reference_of_an_end_is_new.{passes_other_ahead, unit_up}
 use Rattle.osi_blameless.proofs.sessions.each_step_leaves_class_0_one_connection.{fresh_sure, sure_claim}
-use Rattle.osi_blameless.proofs.sessions.nobody_of_a_side_is_to_blame.{NoneIsToBlame}
 use Rattle.osi_blameless.proofs.sessions.nothing_is_done_before_a_cr_passes.{AreUndone, cr_ready}
 use Rattle.osi_blameless.proofs.sessions.references_of_an_end_are_distinct.{AreDistinct, GivesNew, unit_distinct}
-use Rattle.osi_blameless.proofs.sessions.steps_of_either_class_leave_all_standing.{IsRight, IsTolerable, any_passes_own, stand_none}
+use Rattle.osi_blameless.proofs.sessions.steps_of_either_class_leave_all_standing.{IsRight, IsTolerable, any_passes_own}
 use Rattle.osi_blameless.proofs.sessions.units_of_class_0_come_after_its_cc.{IsCcFor, IsQuiet, quiet_cc, quiet_ccs, quiet_none}
 use Rattle.osi_blameless.proofs.sessions.what_is_asked_of_what_holds_at_each_step.{ArePassed, HaveCourses, IsTakenEarly, units_not}
 use Rattle.osi_blameless.proofs.sessions.what_is_asked_of_what_holds_at_each_step.{early as tolerable}
@@ -108,6 +107,11 @@ module _ (local : Local) (deeds : ℕ → Deeds) (end : Carrier) (put : List Val
   pub data Comes (b : ℕ) (coming : List Value) (c : Course) : Type 0 where
     none_yet : Unanswered coming c → Comes b coming c
     then_zero : (r : ℕ) → IsWithin b r → AllInZero Left deeds r end put begun coming c → Comes b coming c
+
+  pub comes_all : (b : ℕ) (coming : List Value) (c : Course) → Comes b coming c →
+      AllStand Left deeds (known_in end coming) put begun c.traffic c.sessions
+  comes_all b coming c (none_yet none) = none.all
+  comes_all b coming c (then_zero r within z) = z.all
 
   module _ (coming : List Value) (v : Value) (c : Course) (h : Unanswered coming c) (k : IsTakenEarly Left v c) where
     right : IsTolerable Right v c
@@ -283,6 +287,18 @@ module _ (local : Local) where
   were_given : (j : Joint) (a : IsAhead Left first j) → j.holding.end.carrier.ended ≡ None → a.bound ≤ j.holding.end.carrier.given
   were_given j a lasts = grind (arith, none_of)
 
+  -- the first of the units of a packet come
+  pub unanswered_comes : (deeds : ℕ → Deeds) (at : ℕ) (octets : List ℕ) (front back : List Value) (j : Joint) → IsOctets octets →
+      units_of octets ≡ Ok (front ++ back) → ArePassed Two Left at front j.course →
+      ((units_pass Right at front j.course).traffic.course.class ≡ Some Two → ⊥) → (h : StandsUnanswered deeds j) →
+      Comes local deeds j.holding.end.carrier j.put j.begun at h.ahead.bound (units_in j.coming ++ front)
+      (units_pass Right at front j.course)
+  unanswered_comes deeds at octets front back j all read passed not h =
+      units_come local deeds j.holding.end.carrier j.put j.begun at h.ahead.bound (were_given j h.ahead) front (units_in j.coming) j.course
+      (all_front HasFieldsInRange front back
+      (ranges_of (front ++ back) (units_fit (front ++ back) octets (units_found octets (front ++ back) all read)))) passed not
+      (search (arith, runs_staged)) h.ahead.below h.none
+
   -- ---- at the beginning
 
   pub unanswered_first : (holding : Holding) → IsFresh true local holding → StandsUnanswered (λ r. no_deeds) (begin holding)
@@ -335,9 +351,8 @@ module _ (local : Local) where
     unanswered_other_passes at packet units old new (octets, read, is) passed not h =
         subst (λ (j : Joint). Stands j ⊎ StandsInZero Left local deeds j) (sym is)
         (by (subst (λ (l : List Value). Comes local deeds end old.put old.begun at b l mid.course) all
-        (units_come local deeds end old.put old.begun at b (were_given old h.ahead) units (units_in old.coming) old.course
-        (ranges_of units (units_fit units packet (units_found packet units octets read))) passed
-        (λ two. not (ap (λ (j : Joint). j.course.traffic.course.class) is ∙ two)) (search (arith, runs_staged)) h.ahead.below h.none)))
+        (unanswered_comes deeds at packet units [] old octets (read ∙ ap (λ (l : List Value). Ok l) (sym (append-nil units))) passed
+        (λ two. not (ap (λ (j : Joint). j.course.traffic.course.class) is ∙ two)) h)))
       where
         mid : Joint
         mid = record old { course = units_pass Right at units old.course; coming = old.coming ++ packet ∷ [] }
@@ -432,41 +447,3 @@ module _ (local : Local) where
         ((runs_staged local old f).stage (ap (λ (t : State). t.course.left_stopped) f.judge ∙ right.goes)) s.is
         (f.begun ∙ begun) zero_not in
         subst Stands (sym is) (by_kind at v old new.put f.whole f.judge kind (read, octets, put, begun, refl) right h)
-
-  -- ---- nobody is to blame
-
-  module _ (known_of : AsSent) (parts : AsParts) (caller : CallerLaw) (called : CalledLaw) (deeds : ℕ → Deeds) where
-    pub unanswered_none : (j : Joint) → HaveCourses Left deeds j → StandsUnanswered deeds j → NoneIsToBlame Left j.course.sessions
-    unanswered_none j courses h =
-        stand_none known_of parts caller called Left deeds j.put j.begun j.holding.end courses
-        (known_in j.holding.end.carrier (units_in j.coming)) j.course.traffic j.course.sessions h.none.all
-
-    -- after the first of the units of a packet
-    pub unanswered_none_amid : (at : ℕ) (octets : List ℕ) (front back : List Value) (old new : Joint) →
-        Steps Left (passes_other at octets (front ++ back)) old new → HaveCourses Left deeds old → ArePassed Two Left at front old.course →
-        ((units_pass Right at front old.course).traffic.course.class ≡ Some Two → ⊥) → StandsUnanswered deeds old →
-        NoneIsToBlame Left (units_pass Right at front old.course).sessions
-    unanswered_none_amid at octets front back old new (all_octets, read, is) courses passed not h =
-        by (units_come local deeds end old.put old.begun at h.ahead.bound (were_given old h.ahead) front (units_in old.coming) old.course
-        (all_front HasFieldsInRange front back
-        (ranges_of (front ++ back) (units_fit (front ++ back) octets (units_found octets (front ++ back) all_octets read)))) passed not
-        (search (arith, runs_staged)) h.ahead.below h.none)
-      where
-        end : Carrier
-        end = old.holding.end.carrier
-
-        then : Course
-        then = units_pass Right at front old.course
-
-        known_then : ℕ → List Part → Type 0
-        known_then = known_in end (units_in old.coming ++ front)
-
-        by : Comes local deeds end old.put old.begun at h.ahead.bound (units_in old.coming ++ front) then → NoneIsToBlame Left then.sessions
-        by (none_yet none) =
-            stand_none known_of parts caller called Left deeds old.put old.begun old.holding.end courses known_then then.traffic
-            then.sessions
-            none.all
-        by (then_zero r within z) =
-            stand_none known_of parts caller called Left deeds old.put old.begun old.holding.end courses known_then then.traffic
-            then.sessions
-            z.all

@@ -1,5 +1,6 @@
 -- What holds of an end and a judge as long as both sides are judged and one class is not selected: each step keeps it.
 -- For the laws that no session of an end is to blame.
+use Rattle.osi_blameless.proofs.sessions.steps_of_either_class_leave_all_standing.{none_so}
 use Rattle.osi_blameless.proofs.Vocabulary.{arith, ◌≡◌, sym, subst, ℕ, ◌^◌, ◌<◌, List, length, Some, slice_get, AllByRecursion, Value}
 use Rattle.osi_blameless.proofs.Vocabulary.{Class, Local, other, Direction, Deeds, all_did, no_deeds, Turn, AllProper, IsSane, turn_sane}
 use Rattle.osi_blameless.proofs.Vocabulary.{fresh_sane, fresh_course, CanBeWritten, End, Holding, IsFresh, Joined, spoken, units_pass}
@@ -116,7 +117,9 @@ module _ (proper : AllProper) (barred : Class) (d : Direction) (local : Local) (
         still_goes deeds deeds (passes_own at v) old new step g
         (subst (λ (j : Joint). IsStillJudged barred j.course) (sym step.4) (nothing_judged barred d at v old.course far g.judged))
         (subst (λ (j : Joint). NeverToBlame d j.course) (sym step.4) (never_unit d d at v old.course g.never
-        (subst (λ (j : Joint). NoneIsToBlame d j.course.sessions) step.4 (k.leads.none deeds new own_courses own_holds))))
+        (subst (λ (j : Joint). NoneIsToBlame d j.course.sessions) step.4
+        (none_so k.laws d deeds new.put new.begun new.holding.end new.course own_courses
+        (k.leads.stands deeds new own_holds)))))
         own_holds own_courses (subst (λ (j : Joint). IsSane j.holding) (sym step.4) g.sane)
         (subst (AllByRecursion CanBeWritten) step.2 g.can).1
 

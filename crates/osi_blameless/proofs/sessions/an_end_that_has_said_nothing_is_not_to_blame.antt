@@ -11,25 +11,18 @@ use Rattle.osi_judge.specs.Connections.{packet_begins}
 use Rattle.osi_judge.specs.Connections as joined
 use Rattle.osi_blameless.proofs.steps_are_events.{IsFollowed, step_followed}
 use Rattle.osi_blameless.proofs.what_the_turns_among_steps_do.{TurnDoes}
-use Rattle.osi_blameless.proofs.sessions.nobody_of_a_side_is_to_blame.{NoneIsToBlame}
+use Rattle.osi_blameless.proofs.sessions.nobody_of_a_side_is_to_blame.{IsMute}
 use Rattle.osi_blameless.proofs.sessions.all_connections_stand.{map_of}
 use Rattle.osi_blameless.proofs.sessions.connections_have_the_same_places.{Agree, packet_agrees, unit_agrees, unit_joins, units_agree}
 use Rattle.osi_blameless.proofs.sessions.what_a_unit_does_at_its_place.{Does, asks_again, asks_more, nowhere, somewhere, unit_does}
 use Rattle.osi_blameless.proofs.sessions.what_stands_of_a_connection.{is_part}
 use Rattle.osi_blameless.proofs.sessions.what_is_asked_of_what_holds_at_each_step.{Leads}
+use Rattle.osi_blameless.proofs.sessions.steps_of_either_class_leave_all_standing.{silent}
 
 -- ---- sides that have said nothing
 
 abbrev IsUnsaid : Direction → Joined → Type 0
 IsUnsaid d j = (spoken d j).said ≡ []
-
--- of all connections
-pub record IsMute (d : Direction) (t : Sessions) : Type 0 where
-  pub live : (i : ℕ) (j : Joined) → slice_get t.live i ≡ Some j → (spoken d j).said ≡ []
-  pub done : (i : ℕ) (j : Joined) → slice_get t.done i ≡ Some j → (spoken d j).said ≡ []
-
-pub mute_none : (d : Direction) (t : Sessions) → IsMute d t → NoneIsToBlame d t
-mute_none d t h = grind arith
 
 -- ---- what passes
 
@@ -136,6 +129,6 @@ module _ (proper : AllProper) (d : Direction) (local : Local) (Why : Joint → T
       mute = subst (λ (c : Course). IsMute d c.sessions) (sym t.course) h.mute;
       why = k.turns turn old new t deeds does h.why;
     };
-    none = λ deeds j courses h. mute_none d j.course.sessions h.mute;
-    none_amid = grind (arith, mute_none, mute_units);
+    stands = λ deeds j h. silent h.mute;
+    stands_amid = λ deeds at octets front back old new step taken not h. silent (mute_units d at front old.course h.places h.mute);
   }

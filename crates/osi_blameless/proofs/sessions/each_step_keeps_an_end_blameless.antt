@@ -1,6 +1,7 @@
 -- The induction over steps: if each step keeps what holds of an end and a judge as long as both sides are judged and one class is not
 -- selected, nobody of the end is ever to blame; or something else holds from a unit of the other side on. For the laws that no session of
 -- an end is to blame, in either class.
+use Rattle.osi_blameless.proofs.sessions.steps_of_either_class_leave_all_standing.{none_so}
 use Rattle.osi_blameless.proofs.Vocabulary.{◌≡◌, ◌∙◌, ◌⊎◌, inl, inr, refl, sym, ap, subst, ℕ, ◌^◌, ◌<◌, false, Ok, List, [], ◌∷◌, ◌++◌}
 use Rattle.osi_blameless.proofs.Vocabulary.{length, Option, Some, append_assoc, append-nil, arith, slice_get, IsOctets, units_of, Value}
 use Rattle.osi_blameless.proofs.Vocabulary.{Class, Local, Capture, other, Direction, Finding, is_applied, reach_of, class_for, takes}
@@ -136,9 +137,10 @@ module _ (proper : AllProper) (barred : Class) (d : Direction) (local : Local) (
         then_blameless taken =
             let parts : units ≡ (front ++ v ∷ []) ++ back = is ∙ sym (append_assoc front (v ∷ []) back) in
             subst (λ (c : Passed). NoneIsToBlame d c.sessions) joined
-            (k.leads.none_amid deeds at octets (front ++ v ∷ []) back old new
-            (subst (λ (l : List Value). Steps d (passes_other at octets l) old new) parts (all, read, refl)) g.courses taken
-            (λ is. next_not (ap (λ (c : Passed). c.traffic.course.class) (sym joined) ∙ is)) g.holds)
+            (none_so k.laws d deeds old.put old.begun old.holding.end (After (front ++ v ∷ [])) g.courses
+            (k.leads.stands_amid deeds at octets (front ++ v ∷ []) back old new
+            (subst (λ (l : List Value). Steps d (passes_other at octets l) old new) parts (all, read, refl)) taken
+            (λ is. next_not (ap (λ (c : Passed). c.traffic.course.class) (sym joined) ∙ is)) g.holds))
 
         on : IsPassed barred d v (After front) → IsStillJudged barred next → SoFar barred d at (front ++ v ∷ []) old.course
         on passed judged =

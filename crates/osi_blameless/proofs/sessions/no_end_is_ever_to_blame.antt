@@ -1,9 +1,8 @@
 -- No session of an end is ever to blame, whatever the other side breaks, whichever class is selected; so the first break of all is of the
 -- other side. For the laws that no session of an end is to blame after a break, nor blamed first.
-use Rattle.osi_blameless.proofs.Vocabulary.{slice_get, ◌⊎◌, ℕ, inl, inr, ◌≡◌, ◌^◌, ◌<◌, List, length, Option, Some}
-use Rattle.osi_blameless.proofs.Vocabulary.{Class, Zero, Local, Capture, Direction, other, AsSent, AsParts, CalledLaw}
-use Rattle.osi_blameless.proofs.Vocabulary.{CallerLaw, Holding, IsFresh, IsSeen, Run, Turn, Known, IsToBlame, Joined, Sessions, Course}
-use Rattle.osi_blameless.proofs.Vocabulary.{comes_to, AreOctets, differ, BreaksFirst, First, calls_from}
+use Rattle.osi_blameless.proofs.Vocabulary.{slice_get, ◌⊎◌, ℕ, inl, inr, ◌≡◌, ◌^◌, ◌<◌, List, length, Option, Some, Class, Zero, Local}
+use Rattle.osi_blameless.proofs.Vocabulary.{Capture, Direction, other, Holding, IsFresh, IsSeen, Run, Turn, Known, IsToBlame, Joined}
+use Rattle.osi_blameless.proofs.Vocabulary.{Sessions, Course, comes_to, AreOctets, differ, BreaksFirst, First, calls_from}
 use Rattle.osi_blameless.proofs.a_capture_is_steps.{capture_steps}
 use Rattle.osi_blameless.proofs.in_class_0_one_side_alone_is_judged.{IsLoose}
 use Rattle.osi_blameless.proofs.no_unit_of_an_end_breaks_a_rule.{always_unbroken}
@@ -18,6 +17,7 @@ use Rattle.osi_blameless.proofs.sessions.no_session_is_to_blame_unless_class_0_i
 use Rattle.osi_blameless.proofs.sessions.a_loss_is_in_class_2_at_a_judge.{capture_two, firm_in_zero}
 use Rattle.osi_blameless.proofs.sessions.steps_of_either_class_leave_all_standing.{zero_by}
 use Rattle.osi_blameless.proofs.sessions.the_first_break_of_all_is_of_the_other_side.{IsUnblamed, capture_unblamed, first_of_all}
+use Rattle.osi_blameless.proofs.sessions.a_session_that_is_shown_is_not_to_blame.{SessionLaws}
 
 pub none_among : (d : Direction) (s : Sessions) (i : ℕ) (j : Joined) → NoneIsToBlame d s →
     (slice_get s.live i ≡ Some j) ⊎ (slice_get s.done i ≡ Some j) → IsToBlame d j → ⊥
@@ -33,8 +33,7 @@ pub record IsBlameless (d : Direction) (c : Course) : Type 0 where
 pub blameless_first : (d : Direction) (f : First) (c : Course) → IsBlameless d c → BreaksFirst f c.past → f.direction ≡ other d
 blameless_first d f c h b = first_of_all d f c.past h.never.past h.transport.past b
 
-module _ (known : Known) (known_of : AsSent) (parts : AsParts) (caller : CallerLaw) (called : CalledLaw) (local : Local)
-    (capture : Capture) where
+module _ (known : Known) (laws : SessionLaws) (local : Local) (capture : Capture) where
   abbrev course : Course
   course = (comes_to capture).course
 
@@ -53,12 +52,12 @@ module _ (known : Known) (known_of : AsSent) (parts : AsParts) (caller : CallerL
   in_zero : (d : Direction) → NeverIf d (selected ≡ Some Zero)
   in_zero d begin fresh comes few zero =
       by_class_0 d zero
-      (ends_well known d local (StandsUntilTwo d local) (keeps_until_two local known.proper known_of parts caller called d)
+      (ends_well known d local (StandsUntilTwo d local) (keeps_until_two local known.proper laws d)
       (begun_until_two d local) begin capture fresh comes (record { not = λ two. zero_two selected zero two; few = few }))
 
   without : (d : Direction) → NeverIf d (selected ≡ Some Zero → ⊥)
   without d begin fresh comes few not =
-      never_to_blame known.proper d local (UnlessZero d local) (keeps_unless_zero local known.proper known_of parts caller called d) begin
+      never_to_blame known.proper d local (UnlessZero d local) (keeps_unless_zero local known.proper laws d) begin
       capture fresh comes (record { not = not; few = few })
 
   -- ---- so an end is blameless

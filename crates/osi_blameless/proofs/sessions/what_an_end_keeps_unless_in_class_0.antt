@@ -2,16 +2,15 @@
 -- Then nobody of the end is to blame, also after a connection has lost its judgement.
 -- For the law that no session of an end is blamed first.
 use Rattle.osi_fair.specs.Wholes as wholes
+use Rattle.osi_blameless.proofs.Vocabulary.{AllByRecursion, AllProper, Bool, CanBeWritten, Connection, Deeds, Direction, Holding, IsFresh}
+use Rattle.osi_blameless.proofs.Vocabulary.{IsOngoing, Joint, Left, List, Local, None, Right, Selecting, Sessions, Some, State, Steps}
+use Rattle.osi_blameless.proofs.Vocabulary.{TakesTurn, Tracked, Turn, Two, Value, Zero, [], acceptance, all_units, ap, arith, begin}
+use Rattle.osi_blameless.proofs.Vocabulary.{begins_other, begins_own, calls_from, early, false, firm_unless_two, inl, inr, is_closing, map}
+use Rattle.osi_blameless.proofs.Vocabulary.{no_deeds, other, passes_other, passes_own, refl, selecting_passes, slice_get, stage_at, subst}
+use Rattle.osi_blameless.proofs.Vocabulary.{sym, then_did, true, turns, unit_passes, units_in, written, ℕ, ◌++◌, ◌<◌, ◌∙◌, ◌∷◌, ◌≡◌, ◌⊎◌}
 use Rattle.osi_judge.specs.Courses.{Course as Passed}
 use Rattle.osi_blameless.proofs.sessions.a_turn_of_an_end_of_class_2.{answers_turn, asks_turn}
 use Rattle.osi_blameless.proofs.sessions.what_stands_of_a_connection.{Known}
-use Rattle.osi_blameless.proofs.Vocabulary.{AllByRecursion, AllProper, AsParts, AsSent, Bool, CalledLaw, CallerLaw, CanBeWritten}
-use Rattle.osi_blameless.proofs.Vocabulary.{Connection, Deeds, Direction, Holding, IsFresh, IsOngoing, Joint, Left, List, Local}
-use Rattle.osi_blameless.proofs.Vocabulary.{None, Right, Selecting, Sessions, Some, State, Steps, TakesTurn, Tracked, Turn, Two, Value}
-use Rattle.osi_blameless.proofs.Vocabulary.{Zero, [], acceptance, all_units, ap, arith, begin, begins_other, begins_own, calls_from}
-use Rattle.osi_blameless.proofs.Vocabulary.{early, false, firm_unless_two, inl, inr, is_closing, map, no_deeds, other, passes_other}
-use Rattle.osi_blameless.proofs.Vocabulary.{passes_own, refl, selecting_passes, slice_get, stage_at, subst, sym, then_did, true, turns}
-use Rattle.osi_blameless.proofs.Vocabulary.{unit_passes, units_in, units_pass, written, ℕ, ◌++◌, ◌<◌, ◌∙◌, ◌∷◌, ◌≡◌, ◌⊎◌}
 use Rattle.osi_blameless.proofs.sessions.a_called_end_answers_with_class_2_or_selects_class_0.{answers_or_selects}
 use Rattle.osi_blameless.proofs.sessions.a_called_end_has_its_lines.{called_joined}
 use Rattle.osi_blameless.proofs.sessions.all_connections_stand.{AllStand, there_too}
@@ -19,18 +18,19 @@ use Rattle.osi_blameless.proofs.sessions.an_end_hears_what_breaks_no_rule.{AreFi
 use Rattle.osi_blameless.proofs.sessions.an_end_stands_as_units_pass.{MayGetTwo, StandsInTwo, hears_front, known_at, stands_first}
 use Rattle.osi_blameless.proofs.sessions.an_end_stands_as_units_pass.{stands_other_begins, stands_other_passes, stands_own_begins}
 use Rattle.osi_blameless.proofs.sessions.an_end_stands_as_units_pass.{stands_own_passes}
-use Rattle.osi_blameless.proofs.sessions.an_end_that_has_said_nothing_is_not_to_blame.{HasSaidNothing, IsMute, KeepsSilent, mute_leads}
+use Rattle.osi_blameless.proofs.sessions.an_end_that_has_said_nothing_is_not_to_blame.{HasSaidNothing, KeepsSilent, mute_leads}
 use Rattle.osi_blameless.proofs.sessions.an_end_without_class_2_puts_no_dt.{puts_no_dt}
 use Rattle.osi_blameless.proofs.sessions.connections_have_the_same_places.{Agree, unit_knows}
 use Rattle.osi_blameless.proofs.sessions.each_unit_of_a_calling_end_has_a_home.{calling_marked}
 use Rattle.osi_blameless.proofs.sessions.no_connection_is_opened_before_a_class_is_selected.{AreUncalled, UncalledUntil, uncalled_claim}
-use Rattle.osi_blameless.proofs.sessions.nobody_of_a_side_is_to_blame.{NoneIsToBlame}
+use Rattle.osi_blameless.proofs.sessions.nobody_of_a_side_is_to_blame.{IsMute}
 use Rattle.osi_blameless.proofs.sessions.nothing_is_done_before_a_cr_passes.{known_from, may_take}
-use Rattle.osi_blameless.proofs.sessions.steps_of_either_class_leave_all_standing.{stand_none}
+use Rattle.osi_blameless.proofs.sessions.steps_of_either_class_leave_all_standing.{all_stand}
+use Rattle.osi_blameless.proofs.sessions.a_session_that_is_shown_is_not_to_blame.{SessionLaws}
 use Rattle.osi_blameless.proofs.sessions.units_written_alike_have_the_same_ccs.{AnswersTwo, first_not_zero}
 use Rattle.osi_blameless.proofs.sessions.what_has_come_before_a_cc.{AreQuiet, begin_quiet, begins_other_quiet, begins_own_quiet}
 use Rattle.osi_blameless.proofs.sessions.what_has_come_before_a_cc.{passes_other_quiet, passes_own_quiet, turns_quiet}
-use Rattle.osi_blameless.proofs.sessions.what_is_asked_of_what_holds_at_each_step.{ArePassed, HaveCourses, Keeps, Leads, leads_either}
+use Rattle.osi_blameless.proofs.sessions.what_is_asked_of_what_holds_at_each_step.{ArePassed, Keeps, Leads, leads_either}
 use Rattle.osi_blameless.proofs.small_facts_that_many_lemmas_use.{all_front, can_more, none_some}
 use Rattle.osi_blameless.proofs.steps_are_events.{IsFollowed, begin_followed, own_first}
 use Rattle.osi_blameless.proofs.what_passes_keeps_a_claim.{step_kept}
@@ -207,16 +207,7 @@ turn_beside Right local proper turn old new t deeds does f g clear h =
 
 -- ---- as it is asked for
 
-module _ (local : Local) (proper : AllProper) (known_of : AsSent) (parts : AsParts) (caller : CallerLaw) (called : CalledLaw) where
-  nobody_amid : (d : Direction) (deeds : ℕ → Deeds) (at : ℕ) (octets : List ℕ) (front back : List Value) (old new : Joint) →
-      Steps d (passes_other at octets (front ++ back)) old new → HaveCourses d deeds old → ArePassed Zero d at front old.course →
-      StandsBeside d local deeds old → NoneIsToBlame d (units_pass (other d) at front old.course).sessions
-  nobody_amid d deeds at octets front back old new step courses taken h =
-      let k = hears_front d local h.two deeds at octets front back old step.0 step.1 (fine_of d at front old.course taken) h.stands in
-      let after = units_pass (other d) at front old.course in
-      stand_none known_of parts caller called d deeds old.put old.begun old.holding.end courses
-      (known_from (may_take old.holding.end.carrier) (units_in old.coming ++ front)) after.traffic after.sessions k.heard.stand
-
+module _ (local : Local) (proper : AllProper) where
   beside_leads : (d : Direction) → Leads Zero d local (StandsBeside d local) (UnlessZero d local)
   beside_leads d = record {
     own_begins = λ deeds old new step courses few h. inl (record {
@@ -242,11 +233,10 @@ module _ (local : Local) (proper : AllProper) (known_of : AsSent) (parts : AsPar
           besides = besides_other_passes d local deeds at octets units old new step fine h;
         });
     turn = λ turn old new t deeds does f g clear h. turn_beside d local proper turn old new t deeds does f g clear h;
-    none = λ deeds j courses h.
-        stand_none known_of parts caller called d deeds j.put j.begun j.holding.end courses (known_at j) j.course.traffic j.course.sessions
-        h.stands.standing.all;
-    none_amid = λ deeds at octets front back old new step courses taken not h.
-        nobody_amid d deeds at octets front back old new step courses taken h;
+    stands = λ deeds j h. all_stand (known_at j) h.stands.standing.all;
+    stands_amid = λ deeds at octets front back old new step taken not h.
+        all_stand (known_from (may_take old.holding.end.carrier) (units_in old.coming ++ front))
+        (hears_front d local h.two deeds at octets front back old step.0 step.1 (fine_of d at front old.course taken) h.stands).heard.stand;
   }
 
   begins_unless : (d : Direction) (h : Holding) → IsFresh (calls_from d) local h → UnlessZero d local (λ r. no_deeds) (begin h)
@@ -260,10 +250,11 @@ module _ (local : Local) (proper : AllProper) (known_of : AsSent) (parts : AsPar
           let f = begin_followed Left true local h fresh in
           inr (record { followed = f; places = grind arith; mute = grind arith; why = none })
 
-  pub keeps_unless_zero : (d : Direction) → Keeps Zero d local (UnlessZero d local)
-  keeps_unless_zero d = record {
+  pub keeps_unless_zero : SessionLaws → (d : Direction) → Keeps Zero d local (UnlessZero d local)
+  keeps_unless_zero laws d = record {
     begins = begins_unless d;
     leads = leads_either Zero d local (StandsBeside d local) (HasSaidNothing d local (Silent d local)) (UnlessZero d local) (beside_leads d)
         (leads_more Zero d local (HasSaidNothing d local (Silent d local)) (HasSaidNothing d local (Silent d local)) (UnlessZero d local)
         (λ deeds j h. inr h) (mute_leads proper d local (Silent d local) (silent_so local d)));
+    laws = laws;
   }

@@ -26,7 +26,8 @@ use Rattle.osi_blameless.proofs.sessions.nobody_of_a_side_is_to_blame.{NoneIsToB
 use Rattle.osi_blameless.proofs.sessions.connections_have_the_same_places.{marked_traffic, unit_knows}
 use Rattle.osi_blameless.proofs.sessions.each_step_leaves_class_0_one_connection.{Sure, class_stays}
 use Rattle.osi_blameless.proofs.sessions.steps_leave_all_standing.{IsProper}
-use Rattle.osi_blameless.proofs.sessions.steps_of_either_class_leave_all_standing.{IsRight, IsTolerable}
+use Rattle.osi_blameless.proofs.sessions.steps_of_either_class_leave_all_standing.{IsRight, IsTolerable, StandsOrSilent}
+use Rattle.osi_blameless.proofs.sessions.a_session_that_is_shown_is_not_to_blame.{SessionLaws}
 
 -- ---- what is asked of what holds at each step
 
@@ -76,9 +77,9 @@ abbrev pub ArePassed : (barred : Class) (d : Direction) (at : ℕ) → List Valu
 ArePassed barred d at [] c = Unit {0}
 ArePassed barred d at (v ∷ vs) c = IsPassed barred d v c × ArePassed barred d at vs (unit_passes (other d) at v c)
 
--- From what holds before each step follows what holds after it, as long as so much is judged and this class is not selected. Then nobody of
--- the end is to blame, also after each unit of a packet of the other side.
-pub record Leads (barred : Class) (d : Direction) (local : Local) (Inv Then : (ℕ → Deeds) → Joint → Type 0) : Type 0 where
+-- From what holds before each step follows what holds after it, as long as so much is judged and this class is not selected. Then all
+-- connections of the end stand or it has said nothing, also after each unit of a packet of the other side.
+pub record Leads (barred : Class) (d : Direction) (local : Local) (Inv Then : (ℕ → Deeds) → Joint → Type 0) : Type 1 where
   pub own_begins : (deeds : ℕ → Deeds) (old new : Joint) → Steps d begins_own old new → HaveCourses d deeds old →
       ((i : ℕ) (j : Joined) → slice_get old.course.sessions.live i ≡ Some j → length (heard (spoken (other d) j)) < 2 ^ 64) →
       Inv deeds old → Then deeds new
@@ -93,16 +94,17 @@ pub record Leads (barred : Class) (d : Direction) (local : Local) (Inv Then : (�
       (does : TurnDoes (calls_from d) deeds turn old new t) → IsFollowed d (wholes.begin (calls_from d) local) old →
       IsFollowed d (wholes.begin (calls_from d) local) new → Lasts barred old.course → Inv deeds old →
       Then (λ r. then_did (deeds r) (does.of.on.more r)) new
-  pub none : (deeds : ℕ → Deeds) (j : Joint) → HaveCourses d deeds j → Inv deeds j → NoneIsToBlame d j.course.sessions
-  pub none_amid : (deeds : ℕ → Deeds) (at : ℕ) (octets : List ℕ) (front back : List Value) (old new : Joint) →
-      Steps d (passes_other at octets (front ++ back)) old new → HaveCourses d deeds old → ArePassed barred d at front old.course →
+  pub stands : (deeds : ℕ → Deeds) (j : Joint) → Inv deeds j → StandsOrSilent d deeds j.put j.begun j.course
+  pub stands_amid : (deeds : ℕ → Deeds) (at : ℕ) (octets : List ℕ) (front back : List Value) (old new : Joint) →
+      Steps d (passes_other at octets (front ++ back)) old new → ArePassed barred d at front old.course →
       ((units_pass (other d) at front old.course).traffic.course.class ≡ Some barred → ⊥) → Inv deeds old →
-      NoneIsToBlame d (units_pass (other d) at front old.course).sessions
+      StandsOrSilent d deeds old.put old.begun (units_pass (other d) at front old.course)
 
 -- It holds at the beginning, and each step keeps it.
-pub record Keeps (barred : Class) (d : Direction) (local : Local) (Inv : (ℕ → Deeds) → Joint → Type 0) : Type 0 where
+pub record Keeps (barred : Class) (d : Direction) (local : Local) (Inv : (ℕ → Deeds) → Joint → Type 0) : Type 1 where
   pub begins : (h : Holding) → IsFresh (calls_from d) local h → Inv (λ r. no_deeds) (begin h)
   pub leads : Leads barred d local Inv Inv
+  pub laws : SessionLaws
 
 -- and more follows from that
 pub leads_more : (barred : Class) (d : Direction) (local : Local) (Inv Some_of Then : (ℕ → Deeds) → Joint → Type 0) →
@@ -114,14 +116,18 @@ leads_more barred d local Inv Some_of Then f k = record {
   other_passes = λ deeds at octets units old new step passed not h.
       f deeds new (k.other_passes deeds at octets units old new step passed not h);
   turn = λ turn old new t deeds does g h lasts i. f _ new (k.turn turn old new t deeds does g h lasts i);
-  none = k.none;
-  none_amid = k.none_amid;
+  stands = k.stands;
+  stands_amid = k.stands_amid;
 }
 
 -- one of two holds
 either : {A B C : Type 0} → (A → C) → (B → C) → A ⊎ B → C
 either f g (inl a) = f a
 either f g (inr b) = g b
+
+either_stands : {A B : Type 0} {C : Type 1} → (A → C) → (B → C) → A ⊎ B → C
+either_stands f g (inl a) = f a
+either_stands f g (inr b) = g b
 
 pub leads_either : (barred : Class) (d : Direction) (local : Local) (A B Then : (ℕ → Deeds) → Joint → Type 0) →
     Leads barred d local A Then → Leads barred d local B Then → Leads barred d local (λ deeds j. A deeds j ⊎ B deeds j) Then
@@ -136,10 +142,10 @@ leads_either barred d local A B Then a b = record {
       (b.other_passes deeds at octets units old new step passed not) h;
   turn = λ turn old new t deeds does f g lasts h.
       either (a.turn turn old new t deeds does f g lasts) (b.turn turn old new t deeds does f g lasts) h;
-  none = λ deeds j courses h. either (a.none deeds j courses) (b.none deeds j courses) h;
-  none_amid = λ deeds at octets front back old new step courses passed not h.
-      either (a.none_amid deeds at octets front back old new step courses passed not)
-      (b.none_amid deeds at octets front back old new step courses passed not) h;
+  stands = λ deeds j h. either_stands (a.stands deeds j) (b.stands deeds j) h;
+  stands_amid = λ deeds at octets front back old new step passed not h.
+      either_stands (a.stands_amid deeds at octets front back old new step passed not)
+      (b.stands_amid deeds at octets front back old new step passed not) h;
 }
 
 -- no unit comes after a DR while class 2 is not selected

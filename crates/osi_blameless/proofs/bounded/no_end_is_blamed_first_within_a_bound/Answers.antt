@@ -1,4 +1,5 @@
-use Rattle.osi_blameless.proofs.Vocabulary.{ℕ, ◌<◌, ◌^◌, List, length, Local, Capture, Left, Right, AsSent, said_again}
+use Rattle.osi_blameless.proofs.Vocabulary.{ℕ, ◌<◌, ◌^◌, List, length, Local, Capture, Left, Right, said_again}
+use Rattle.osi_blameless.proofs.sessions.a_session_that_is_shown_is_not_to_blame.{SessionLaws}
 use Rattle.osi_blameless.proofs.Vocabulary.{Direction, calls_from, Holding, SpduLaws, IsFresh, IsSeen, Run, Turn, all_proper, Known}
 use Rattle.osi_blameless.proofs.Vocabulary.{can_begin, first_in, comes_to, comes_within, AreOctets}
 use Rattle.osi_blameless.proofs.sessions.a_bound_changes_no_first_break.{blameless_within}
@@ -9,14 +10,19 @@ use Rattle.osi_blameless.proofs.sessions.the_first_break_of_all_is_of_the_other_
 use Rattle.osi_blameless.proofs.bounded.no_end_is_blamed_first_within_a_bound.Goals as goal
 
 -- what the laws of messages and of units state
-as_sent : (c : goal.After-an_honest_session_is_explained) → AsSent
-as_sent c = record {
-  message = λ m s. said_again m (c.what_is_sent_is_read.ensures.read m s) (c.what_is_sent_is_read.ensures.said m s);
-  part = c.what_a_part_says.ensures;
-  whole = c.what_leaves_in_parts.ensures.whole;
-  parts = c.what_leaves_in_parts.ensures.parts;
-  joined = c.what_leaves_in_parts.ensures.joined;
-  full = c.what_leaves_in_parts.ensures.full;
+laws : (c : goal.After-an_honest_session_is_explained) → SessionLaws
+laws c = record {
+  sent = record {
+    message = λ m s. said_again m (c.what_is_sent_is_read.ensures.read m s) (c.what_is_sent_is_read.ensures.said m s);
+    part = c.what_a_part_says.ensures;
+    whole = c.what_leaves_in_parts.ensures.whole;
+    parts = c.what_leaves_in_parts.ensures.parts;
+    joined = c.what_leaves_in_parts.ensures.joined;
+    full = c.what_leaves_in_parts.ensures.full;
+  };
+  parts = c.what_leaves_in_parts.ensures.read;
+  caller = c.an_honest_session_is_explained.ensures.caller;
+  called = c.an_honest_session_is_explained.ensures.called;
 }
 
 known : (c : goal.After-an_honest_session_is_explained) → Known
@@ -30,8 +36,7 @@ blameless_so : (c : goal.After-an_honest_session_is_explained) (d : Direction) (
     IsSeen d turns capture → length (comes_to capture).course.past < 2 ^ 64 → IsBlameless d (comes_within most capture).course
 blameless_so c d local begin end turns capture most fresh run octets seen few =
     blameless_within most d capture
-    (blameless (known c) (as_sent c) c.what_leaves_in_parts.ensures.read c.an_honest_session_is_explained.ensures.caller
-    c.an_honest_session_is_explained.ensures.called local capture d begin end turns fresh run octets seen few)
+    (blameless (known c) (laws c) local capture d begin end turns fresh run octets seen few)
 
 pub returns-clause-called : goal.returns-clause-called
 returns-clause-called c = λ local begin end turns capture most f fresh run octets seen few first.

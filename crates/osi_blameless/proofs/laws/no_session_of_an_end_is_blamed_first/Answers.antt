@@ -1,21 +1,26 @@
-use Rattle.osi_blameless.proofs.Vocabulary.{Option, Some, subst, ◌≡◌, ◌<◌, ◌^◌, List, length, Local, Left, Right, Holding}
-use Rattle.osi_blameless.proofs.Vocabulary.{Direction, calls_from}
-use Rattle.osi_blameless.proofs.Vocabulary.{said_again, SpduLaws, AsSent, Capture, all_proper, Known, can_begin, IsFresh, IsSeen, Run, Turn}
-use Rattle.osi_blameless.proofs.Vocabulary.{AreOctets, BreaksFirst, IsFirstOf, first_in, IsFed, comes_to, First, Judge, IsJudged}
+use Rattle.osi_blameless.proofs.Vocabulary.{Option, Some, subst, ◌≡◌, ◌<◌, ◌^◌, List, length, Local, Left, Right, Holding, Direction}
+use Rattle.osi_blameless.proofs.Vocabulary.{calls_from, said_again, SpduLaws, Capture, all_proper, Known, can_begin, IsFresh, IsSeen, Run}
+use Rattle.osi_blameless.proofs.Vocabulary.{Turn, AreOctets, BreaksFirst, IsFirstOf, first_in, IsFed, comes_to, First, Judge, IsJudged}
+use Rattle.osi_blameless.proofs.sessions.a_session_that_is_shown_is_not_to_blame.{SessionLaws}
 use Rattle.osi_blameless.proofs.sessions.no_end_is_ever_to_blame.{IsBlameless, blameless, blameless_first}
 use Rattle.osi_blameless.proofs.sessions.no_end_is_ever_to_blame.{none_among}
 use Rattle.osi_blameless.proofs.sessions.the_first_break_of_all_is_of_the_other_side.{neither_first}
 use Rattle.osi_blameless.proofs.laws.no_session_of_an_end_is_blamed_first.Goals as goal
 
 -- what the laws of messages and of units state
-as_sent : (c : goal.After-the_first_break_is_the_earliest) → AsSent
-as_sent c = record {
-  message = λ m s. said_again m (c.what_is_sent_is_read.ensures.read m s) (c.what_is_sent_is_read.ensures.said m s);
-  part = c.what_a_part_says.ensures;
-  whole = c.what_leaves_in_parts.ensures.whole;
-  parts = c.what_leaves_in_parts.ensures.parts;
-  joined = c.what_leaves_in_parts.ensures.joined;
-  full = c.what_leaves_in_parts.ensures.full;
+laws : (c : goal.After-the_first_break_is_the_earliest) → SessionLaws
+laws c = record {
+  sent = record {
+    message = λ m s. said_again m (c.what_is_sent_is_read.ensures.read m s) (c.what_is_sent_is_read.ensures.said m s);
+    part = c.what_a_part_says.ensures;
+    whole = c.what_leaves_in_parts.ensures.whole;
+    parts = c.what_leaves_in_parts.ensures.parts;
+    joined = c.what_leaves_in_parts.ensures.joined;
+    full = c.what_leaves_in_parts.ensures.full;
+  };
+  parts = c.what_leaves_in_parts.ensures.read;
+  caller = c.an_honest_session_is_explained.ensures.caller;
+  called = c.an_honest_session_is_explained.ensures.called;
 }
 
 known : (c : goal.After-the_first_break_is_the_earliest) → Known
@@ -35,8 +40,7 @@ blameless_so : (c : goal.After-the_first_break_is_the_earliest) (d : Direction) 
     (capture : Capture) → IsFresh (calls_from d) local begin → Run begin turns end → AreOctets capture → IsSeen d turns capture →
     length (comes_to capture).course.past < 2 ^ 64 → IsBlameless d (comes_to capture).course
 blameless_so c d local begin end turns capture =
-    blameless (known c) (as_sent c) c.what_leaves_in_parts.ensures.read c.an_honest_session_is_explained.ensures.caller
-    c.an_honest_session_is_explained.ensures.called local capture d begin end turns
+    blameless (known c) (laws c) local capture d begin end turns
 
 pub returns-clause-called : goal.returns-clause-called
 returns-clause-called c = λ local begin end turns capture f fresh run octets seen few first.
