@@ -52,6 +52,7 @@ pub mod each_reference_of_an_end_is_new
 pub mod nothing_is_done_before_a_cr_passes
 pub mod a_whole_end_runs_along
 pub mod what_a_turn_puts_goes_to_its_peer
+pub mod what_a_turn_puts_is_written_alike
 pub mod each_unit_of_a_calling_end_has_a_home
 pub mod a_called_end_of_class_2_puts_no_dt_of_class_0
 pub mod each_unit_of_a_called_end_has_a_home

@@ -17,7 +17,7 @@ use Rattle.osi_blameless.proofs.sessions.a_turn_of_an_end_in_class_0.{cc_not_dt}
 use Rattle.osi_blameless.proofs.sessions.an_end_answers_with_class_0.{StandsAnswering, first}
 use Rattle.osi_blameless.proofs.sessions.an_end_stands_before_a_class_is_selected.{StandInNone, none_turns}
 use Rattle.osi_blameless.proofs.sessions.each_reference_of_an_end_is_new.{GoesOn, IsAhead, turns_ahead}
-use Rattle.osi_blameless.proofs.sessions.each_unit_of_a_calling_end_has_a_home.{IsWrittenAs, written_as}
+use Rattle.osi_blameless.proofs.sessions.what_a_turn_puts_is_written_alike.{IsWrittenAs, written_as}
 use Rattle.osi_blameless.proofs.sessions.units_of_class_0_come_after_its_cc.{IsQuiet, quiet_none}
 use Rattle.osi_blameless.proofs.sessions.units_written_alike_have_the_same_ccs.{AnswersTwo}
 use Rattle.osi_blameless.proofs.sessions.what_a_turn_puts_at_the_connections_that_are_open.{IsPlainDt, WasOpen, agree_one, all_marked}

@@ -11,7 +11,6 @@ use Rattle.osi_carrier.specs.State.{State as Carrier}
 use Rattle.osi_fair.specs.Wholes as wholes
 use Rattle.osi_judge.specs.Courses.{Course as Passed}
 use Rattle.osi_blameless.proofs.small_facts_that_many_lemmas_use.{all_front, early_lasts, past_not, same_one, none_first}
-use Rattle.osi_blameless.proofs.what_is_put_is_what_is_written.{written_join}
 use Rattle.osi_blameless.proofs.sessions.a_dt_of_class_0_has_one_place.{IsOnly, both_named, other_none}
 use Rattle.osi_blameless.proofs.sessions.a_turn_does_what_its_deeds_say.{turn_leaves, turn_uses}
 use Rattle.osi_blameless.proofs.sessions.a_turn_leaves_all_standing.{IsOfOne, Turns, of_done, of_live}
@@ -21,7 +20,7 @@ use Rattle.osi_blameless.proofs.sessions.an_end_stands_in_class_0.{within_higher
 use Rattle.osi_blameless.proofs.sessions.class_0_keeps_its_one_place.{HasOne, still_gone}
 use Rattle.osi_blameless.proofs.sessions.each_reference_of_an_end_is_new.{GoesOn, IsWithin, turns_ahead}
 use Rattle.osi_blameless.proofs.sessions.each_step_leaves_class_0_one_connection.{Sure, is_zero}
-use Rattle.osi_blameless.proofs.sessions.each_unit_of_a_calling_end_has_a_home.{IsWrittenAs, first as first_octet, not_two, written_as}
+use Rattle.osi_blameless.proofs.sessions.what_a_turn_puts_is_written_alike.{IsWrittenAs, first as first_octet, not_two, turn_written}
 use Rattle.osi_blameless.proofs.sessions.steps_leave_all_standing.{step_turns}
 use Rattle.osi_blameless.proofs.sessions.units_of_class_0_come_after_its_cc.{InOrder, IsCcFor, order_back, order_calm}
 use Rattle.osi_blameless.proofs.sessions.what_a_turn_puts_at_the_connections_that_are_open.{WasOpen, agree_apart, agree_one, all_marked}
@@ -89,8 +88,7 @@ module _ (d : Direction) (local : Local) (proper : AllProper) (turn : Turn) (old
   dts =
       let all = zero_put d local whole (ap (λ (x : State). x.course.class) g.ahead.followed.judge ∙ class_then ∙ z.class)
       (stage_of d local new g.ahead.followed then_firm) in
-      let written = g.ahead.followed.put in
-      grind (arith, all, written, written_join, all_back, written_as)
+      turn_written d (calls_from d) (wholes.begin (calls_from d) local) deeds turn old new t on g.ahead.followed IsDt0 all
 
   -- what holds of all that had come holds of a CC that was taken
   cc_came : (P : Value → Type 0) (q : ℕ) (x : Connect) (some later : List Marked) → stage_at q end ≡ early →

@@ -20,7 +20,7 @@ use Rattle.osi_blameless.proofs.sessions.an_end_stands_before_a_class_is_selecte
 use Rattle.osi_blameless.proofs.sessions.an_end_stands_in_class_0.{known_in}
 use Rattle.osi_blameless.proofs.sessions.each_reference_of_an_end_is_new.{GoesOn, turns_ahead}
 use Rattle.osi_blameless.proofs.sessions.each_step_leaves_class_0_one_connection.{Sure}
-use Rattle.osi_blameless.proofs.sessions.each_unit_of_a_calling_end_has_a_home.{IsWrittenAs}
+use Rattle.osi_blameless.proofs.sessions.what_a_turn_puts_is_written_alike.{IsWrittenAs}
 use Rattle.osi_blameless.proofs.sessions.no_connection_is_opened_before_a_class_is_selected.{AreUncalled}
 use Rattle.osi_blameless.proofs.sessions.units_of_class_0_come_after_its_cc.{IsQuiet}
 use Rattle.osi_blameless.proofs.sessions.units_written_alike_have_the_same_ccs.{AnswersTwo, AreAlike, HasCc, first_not_zero, has_alike}

@@ -7,7 +7,7 @@ use Rattle.osi_blameless.proofs.Vocabulary.{lt-ltb, Connect, Value, confirm, req
 use Rattle.osi_blameless.proofs.Vocabulary.{all_units, is_of_link, Turn, Life, amid, early, opens_by, past, stage_at, stays}
 use Rattle.osi_blameless.proofs.Vocabulary.{none_mark, Joint, differ, Time}
 use Rattle.osi_blameless.proofs.small_facts_that_many_lemmas_use.{amid_not}
-use Rattle.osi_blameless.proofs.sessions.each_unit_of_a_calling_end_has_a_home.{IsWrittenAs}
+use Rattle.osi_blameless.proofs.sessions.what_a_turn_puts_is_written_alike.{IsWrittenAs}
 use Rattle.osi_blameless.proofs.sessions.what_a_turn_puts_goes_to_its_peer.{none_for, one_of}
 use Rattle.osi_blameless.proofs.sessions.what_a_turn_puts_waits.{Agree}
 use Rattle.osi_blameless.proofs.sessions.what_stands_of_a_connection.{is_for}

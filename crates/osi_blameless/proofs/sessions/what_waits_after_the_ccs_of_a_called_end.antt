@@ -12,7 +12,8 @@ use Rattle.osi_honest.specs.Arriving.{is_open as opened}
 use Rattle.osi_blameless.proofs.small_facts_that_many_lemmas_use.{same_bool}
 use Rattle.osi_blameless.proofs.steps_are_events.{IsFollowed}
 use Rattle.osi_blameless.proofs.sessions.a_whole_end_runs_along.{HasLines}
-use Rattle.osi_blameless.proofs.sessions.a_called_end_of_class_2_puts_no_dt_of_class_0.{called_turn_two}
+use Rattle.osi_blameless.proofs.sessions.a_called_end_of_class_2_puts_no_dt_of_class_0.{called_put_two}
+use Rattle.osi_blameless.proofs.sessions.what_a_turn_puts_is_written_alike.{turn_not_zero}
 use Rattle.osi_blameless.proofs.sessions.all_connections_stand.{one_at}
 use Rattle.osi_blameless.proofs.sessions.each_cc_of_a_called_end_opens_another_connection.{none_open_for, open_there, same_destination}
 use Rattle.osi_blameless.proofs.sessions.each_cc_of_a_called_end_opens_another_connection.{same_source}
@@ -114,7 +115,7 @@ module _ (local : Local) (deeds : ℕ → Deeds) (turn : Turn) (old new : Joint)
 
   module _ (b : ℕ) (known : (i j : ℕ) → HasHome Right i j s t → i ≤ b) (n r : ℕ) (has : HasCc n r new.put) (above : b < r) where
     class_2 : AllByRecursion IsNotZero (all_units on.put)
-    class_2 = called_turn_two local deeds turn old new step on g after.called
+    class_2 = turn_not_zero Right false (begin false local) deeds turn old new step on g (called_put_two local g.whole after.called)
 
     module _ (front rest : List Marked) (m : Marked) (is : on.put ≡ front ++ m ∷ rest) where
       at : (P : Marked → Type 0) → AllByRecursion P on.put → P m
