@@ -2,8 +2,7 @@
 -- reports nothing and hands nothing over.
 -- For what a turn of an end does.
 use Rattle.osi_blameless.proofs.Vocabulary.{arith, ◌≡◌, ◌∙◌, ◌≤◌, not, ℕ, Bool, true, false, if◌then◌else◌, List, [], ◌∷◌, ◌++◌, length}
-use Rattle.osi_blameless.proofs.Vocabulary.{refl}
-use Rattle.osi_blameless.proofs.Vocabulary.{sym, ap, subst, Option, Some, None, option_map, is_some, Result, Ok, Err, append_assoc}
+use Rattle.osi_blameless.proofs.Vocabulary.{refl, sym, ap, subst, Option, Some, None, option_map, is_some, Result, Ok, Err, append_assoc}
 use Rattle.osi_blameless.proofs.Vocabulary.{AllByRecursion, append-nil, IsOctets, tsap_octets, units_of, Value, Fits, TpduFault, Tsap}
 use Rattle.osi_blameless.proofs.Vocabulary.{units_fit, units_found, Standing, asks, closed_on, closed_with, ended_by, link_of, may_connect}
 use Rattle.osi_blameless.proofs.Vocabulary.{open_link, sent_all, Happening, react_by, reacts, value_at, UserCall, breaks, closes, connects}

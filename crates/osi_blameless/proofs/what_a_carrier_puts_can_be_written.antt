@@ -1,17 +1,16 @@
 -- The units that a carrier puts as it takes a unit, and as its user makes a call, can be written, and its links stay numbered.
 -- For what a turn of an end does to its carrier.
-use Rattle.osi_blameless.proofs.Vocabulary.{arith, ◌≡◌, ℕ, ◌≤◌, Bool, true, false, if◌then◌else◌, List, [], ◌∷◌, Option, Some}
-use Rattle.osi_blameless.proofs.Vocabulary.{None, option_map, is_some, Result, Ok, Err, refl, subst, IfSome, AllByRecursion, tsap_octets}
-use Rattle.osi_blameless.proofs.Vocabulary.{Connect, HasFieldsInRange, IsConnect, Value, confirm, data0, disconnect, error, request, Tsap}
-use Rattle.osi_blameless.proofs.Vocabulary.{Standing, with_tsdu, accept, refuse, selected_by, LinkFault, Class, Two, Zero, closed_with}
-use Rattle.osi_blameless.proofs.Vocabulary.{link_of, open_link, sent, sent_all, connection_by, written_by, answers, before_class, denies}
-use Rattle.osi_blameless.proofs.Vocabulary.{handed_out, has_peer, in_class, in_two, in_zero, is_full, pumps, react_by, taking}
-use Rattle.osi_blameless.proofs.Vocabulary.{to_connection}
-use Rattle.osi_blameless.proofs.Vocabulary.{to_linked, to_only, to_reference, Rows, value_at, connects, user_does, closing, ends, linked}
-use Rattle.osi_blameless.proofs.Vocabulary.{EndReason, put_at, put_before, put_by, put_closing, put_for, put_for_selection, put_in}
-use Rattle.osi_blameless.proofs.Vocabulary.{put_in_two, put_in_zero, put_linked, put_only, put_sent, put_taking, put_to, put_together}
-use Rattle.osi_blameless.proofs.Vocabulary.{refusal, row_at, row_more, row_put, row_without, cc_plain, cr_by, size_in_range, AreNumbered}
-use Rattle.osi_blameless.proofs.Vocabulary.{IsNumbered, gives_written, link_opens, taken_numbered}
+use Rattle.osi_blameless.proofs.Vocabulary.{arith, ◌≡◌, ℕ, ◌≤◌, Bool, true, false, if◌then◌else◌, List, [], ◌∷◌, Option, Some, None}
+use Rattle.osi_blameless.proofs.Vocabulary.{option_map, is_some, Result, Ok, Err, refl, subst, IfSome, AllByRecursion, tsap_octets, Connect}
+use Rattle.osi_blameless.proofs.Vocabulary.{HasFieldsInRange, IsConnect, Value, confirm, data0, disconnect, error, request, Tsap, Standing}
+use Rattle.osi_blameless.proofs.Vocabulary.{with_tsdu, accept, refuse, selected_by, LinkFault, Class, Two, Zero, closed_with, link_of}
+use Rattle.osi_blameless.proofs.Vocabulary.{open_link, sent, sent_all, connection_by, written_by, answers, before_class, denies, handed_out}
+use Rattle.osi_blameless.proofs.Vocabulary.{has_peer, in_class, in_two, in_zero, is_full, pumps, react_by, taking, to_connection, to_linked}
+use Rattle.osi_blameless.proofs.Vocabulary.{to_only, to_reference, Rows, value_at, connects, user_does, closing, ends, linked, EndReason}
+use Rattle.osi_blameless.proofs.Vocabulary.{put_at, put_before, put_by, put_closing, put_for, put_for_selection, put_in, put_in_two}
+use Rattle.osi_blameless.proofs.Vocabulary.{put_in_zero, put_linked, put_only, put_sent, put_taking, put_to, put_together, refusal, row_at}
+use Rattle.osi_blameless.proofs.Vocabulary.{row_more, row_put, row_without, cc_plain, cr_by, size_in_range, AreNumbered, IsNumbered}
+use Rattle.osi_blameless.proofs.Vocabulary.{gives_written, link_opens, taken_numbered}
 use Rattle.osi_class.specs.Link.{taken}
 use Rattle.osi_carrier.specs.Calls.{sent_on}
 use Rattle.osi_carrier.specs.React.{opens}

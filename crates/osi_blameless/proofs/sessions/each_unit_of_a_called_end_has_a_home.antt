@@ -1,16 +1,14 @@
 -- Each DT and each AK that a called end of class 2 puts in a turn is for a connection that the judge knows by its references and that this
 -- end has not closed there, or for one whose CC has not passed; each other unit is for none.
 -- For all connections of an end and a judge.
-use Rattle.osi_blameless.proofs.Vocabulary.{[], ap, append_assoc, false, List, None, Option, refl, Some, subst, sym, true, ℕ, ◌&&◌, ◌++◌}
-use Rattle.osi_blameless.proofs.Vocabulary.{◌∙◌}
-use Rattle.osi_blameless.proofs.Vocabulary.{◌∷◌, ◌≡◌, AllByRecursion, slice_get, confirm, Connect, disconnect, request, Value, Standing}
-use Rattle.osi_blameless.proofs.Vocabulary.{Zero}
-use Rattle.osi_blameless.proofs.Vocabulary.{Local, value_at, linked, Carrier, is_open, is_refused, uses, silent_half, Traffic as State}
-use Rattle.osi_blameless.proofs.Vocabulary.{Connection, Phase, Left, Right, Answers, Begins, is_shut, Opens, opens, Continues, Deeds}
-use Rattle.osi_blameless.proofs.Vocabulary.{all_units, Marked, Turn, Joined, reference_of, Sessions, answering as answers, Asked, Called}
-use Rattle.osi_blameless.proofs.Vocabulary.{comes, refuses, runs, Stand, Untagged, at_first, at_join, first_at, Placed, values, NamesApart}
-use Rattle.osi_blameless.proofs.Vocabulary.{IsCalm, open_link, ◌<◌, Whole, Joint, TakesTurn, HaveSamePlaces, named_by, arith, AreNamedApart}
-use Rattle.osi_blameless.proofs.Vocabulary.{each_sound, AreApart, differ}
+use Rattle.osi_blameless.proofs.Vocabulary.{[], ap, append_assoc, false, List, None, Option, refl, Some, subst, sym, true, ℕ, ◌++◌}
+use Rattle.osi_blameless.proofs.Vocabulary.{◌∙◌, ◌∷◌, ◌≡◌, AllByRecursion, slice_get, confirm, Connect, disconnect, request, Value}
+use Rattle.osi_blameless.proofs.Vocabulary.{Standing, Local, value_at, linked, Carrier, is_open, is_refused, uses, silent_half}
+use Rattle.osi_blameless.proofs.Vocabulary.{Traffic as State, Connection, Phase, Left, Right, Answers, Begins, is_shut, Opens, opens}
+use Rattle.osi_blameless.proofs.Vocabulary.{Continues, Deeds, all_units, Marked, Turn, Joined, reference_of, Sessions, answering as answers}
+use Rattle.osi_blameless.proofs.Vocabulary.{Asked, Called, comes, refuses, runs, Untagged, Placed}
+use Rattle.osi_blameless.proofs.Vocabulary.{values, open_link, ◌<◌, Whole, Joint, TakesTurn, HaveSamePlaces, named_by}
+use Rattle.osi_blameless.proofs.Vocabulary.{arith, each_sound, AreApart, differ}
 use Rattle.osi_rules.specs.declared.directions.Direction.TheVariants as way
 use Rattle.osi_fair.specs.Wholes.{begin}
 use Rattle.osi_fair.proofs.each_connection_of_a_called_end.{Row, past}
@@ -18,7 +16,8 @@ use Rattle.osi_fair.proofs.units_by_their_place.{units_at}
 use Rattle.osi_honest.specs.Arriving.{is_open as opened}
 use Rattle.osi_blameless.proofs.small_facts_that_many_lemmas_use.{all_front, over_not, not_some}
 use Rattle.osi_blameless.proofs.steps_are_events.{IsFollowed}
-use Rattle.osi_blameless.proofs.sessions.a_called_end_has_its_lines.{HasCalled, called_joined, called_lines}
+use Rattle.osi_blameless.proofs.sessions.a_whole_end_runs_along.{HasLines}
+use Rattle.osi_blameless.proofs.sessions.a_called_end_of_class_2_puts_no_dt_of_class_0.{StandsAt, place_parts}
 use Rattle.osi_blameless.proofs.sessions.a_right_dt_has_one_place.{still_used}
 use Rattle.osi_blameless.proofs.sessions.all_connections_stand.{one_at, there_too}
 use Rattle.osi_blameless.proofs.sessions.connections_have_the_same_places.{at_same}
@@ -65,10 +64,10 @@ pub not_empty : {A : Type 0} (xs ys : List Value) (v : Value) → xs ++ v ∷ ys
 not_empty [] ys v e = absurd (cc)
 not_empty (x ∷ xs) ys v e = absurd (cc)
 
-module _ (local : Local) (w : Whole) (t : Sessions) (f : Called local w) (apart : NamesApart w.judge.connections)
-    (named : AreNamedApart way.Left w.judge.connections) (places : HaveSamePlaces w.judge.connections t.live) (lasts : w.end.ended ≡ None) where
-  abbrev StandsAt : ℕ → Connection → Type 0
-  StandsAt p c = Stand local f.shut w.end w.coming (units_at p f.tagged) (units_at p f.came) (w.begun && first_at p f.tagged) (f.refs p) c
+module _ (local : Local) (w : Whole) (t : Sessions) (lined : HasLines local w) (places : HaveSamePlaces w.judge.connections t.live)
+    (lasts : w.end.ended ≡ None) where
+  abbrev f : Called local w
+  f = lined.called
 
   -- no other connection that right has open has this reference of left
   none_open : (x : Connect) (p : ℕ) (c : Connection) → slice_get w.judge.connections p ≡ Some c → Asked x c →
@@ -76,12 +75,12 @@ module _ (local : Local) (w : Whole) (t : Sessions) (f : Called local w) (apart 
       is_open e.right.phase ≡ true → reference_of Left j ≡ Some x.source → ⊥
   none_open x p c at a i e j there here lives is =
       let used = still_used Right x.source e j (one_at w.judge.connections t.live i e j places there here)
-      (each_sound way.Left w.judge.connections apart named i e there) lives is in
-      let same : p ≡ i = named.used x.source p i c e at there (used_asked x c a) used in
+      (each_sound way.Left w.judge.connections lined.apart lined.named i e there) lives is in
+      let same : p ≡ i = lined.named.used x.source p i c e at there (used_asked x c a) used in
       grind (arith, differ)
 
   -- a connection that right has answered has the reference that the end gave it
-  given_by : (q i : ℕ) (c : Connection) → named_by c.right.phase c.right.reference ≡ Some q → StandsAt i c → f.refs i ≡ Some q
+  given_by : (q i : ℕ) (c : Connection) → named_by c.right.phase c.right.reference ≡ Some q → StandsAt local w f i c → f.refs i ≡ Some q
   given_by q i c is h = grind (arith, silent_none, named_is, refused_none)
 
   -- the CC with its reference has not passed
@@ -101,7 +100,7 @@ module _ (local : Local) (w : Whole) (t : Sessions) (f : Called local w) (apart 
   row_peer r peer link come m l h e = grind (arith, same_peer, over_not)
 
   at_home : (q peer : ℕ) (link : Standing) → value_at q w.end.live ≡ Some (linked peer link) → (p : ℕ) (c : Connection) →
-      slice_get w.judge.connections p ≡ Some c → f.refs p ≡ Some q → StandsAt p c → IsHomed Right q peer w.judge t
+      slice_get w.judge.connections p ≡ Some c → f.refs p ≡ Some q → StandsAt local w f p c → IsHomed Right q peer w.judge t
   at_home q peer link is p c at index (comes x a none ask none_given) = not_some (f.refs p) q index none_given
   at_home q peer link is p c at index (refuses x a reason put none none_given seen) = not_some (f.refs p) q index none_given
   at_home q peer link is p c at index (answers h none) =
@@ -145,7 +144,7 @@ module _ (local : Local) (w : Whole) (t : Sessions) (f : Called local w) (apart 
   IsAskedFor v = (x : Connect) → v ≡ request x → AskedAt x
 
   asked_by : (v : Value) (p : ℕ) (c : Connection) (xs ys : List Value) → slice_get w.judge.connections p ≡ Some c →
-      units_at p f.came ≡ xs ++ v ∷ ys → StandsAt p c → IsAskedFor v
+      units_at p f.came ≡ xs ++ v ∷ ys → StandsAt local w f p c → IsAskedFor v
   asked_by v p c xs ys at e (comes y a none ask index) x is =
       grind (arith, sym is ∙ only_one xs ys (request y) v (sym e ∙ ask lasts))
   asked_by v p c xs ys at e (refuses y a reason put none index seen) x is = not_empty xs ys v (sym e ∙ none)
@@ -159,9 +158,7 @@ module _ (local : Local) (w : Whole) (t : Sessions) (f : Called local w) (apart 
   one_asked front rest (Some p) v is = by (slice_get w.judge.connections p) refl
     where
       here : units_at p f.came ≡ units_at p front ++ v ∷ units_at p rest
-      here =
-          ap (units_at p) is ∙ at_join p front ((Some p, v) ∷ rest)
-          ∙ ap (λ (l : List Value). units_at p front ++ l) (at_first p v rest)
+      here = place_parts f.came p front rest v is
 
       by : (o : Option Connection) → slice_get w.judge.connections p ≡ o → IsAskedFor v
       by None e = λ x same. not_empty (units_at p front) (units_at p rest) v (sym here ∙ (f.beyond p e).1)
@@ -188,7 +185,7 @@ OpensByNoCc local deeds turn old new step on f = old.holding.end.carrier.ended �
 
 module _ (local : Local) (deeds : ℕ → Deeds) (turn : Turn) (old new : Joint) (step : TakesTurn turn old new)
     (on : Continues false deeds old.holding turn new.holding) (f : IsFollowed Right (begin false local) old)
-    (calm : IsCalm old.course.traffic.course) (two : old.holding.end.carrier.class ≡ Some Zero → ⊥)
+    (h : HasLines local f.whole)
     (places : HaveSamePlaces old.course.traffic.connections old.course.sessions.live)
     (news : AllByRecursion (λ (v : Value). GivesNew Right v old.course.sessions) (all_units on.put))
     (class_2 : AllByRecursion IsNotZero (all_units on.put))
@@ -205,12 +202,6 @@ module _ (local : Local) (deeds : ℕ → Deeds) (turn : Turn) (old new : Joint)
   abbrev LivedSo : ℕ → Type 0
   LivedSo q = Lived Right false (begin false local) deeds turn old new step on f q
 
-  lines : carrier.ended ≡ None → HasCalled local f.whole
-  lines lasts = called_lines local old f calm lasts two
-
-  apart : NamesApart f.whole.judge.connections
-  apart = (called_joined local old f).apart
-
   -- a CC that is put gives a new reference
   new_reference : (q : ℕ) (l : LivedSo q) (others answer : List Marked) → l.left.before ≡ others ++ answer → (cc_is : Connect) →
       cc_is.source ≡ q → answer ≡ (0, confirm l.peer cc_is) ∷ [] → IsUnused Right q t
@@ -226,7 +217,7 @@ module _ (local : Local) (deeds : ℕ → Deeds) (turn : Turn) (old new : Joint)
       Begins false q l.peer carrier new.holding.end.carrier l.arrived l.left → (AreApart q on.put → ⊥) →
       IsHomed Right q l.peer f.whole.judge t
   home_by lasts q positive l (opened link there none none_left) some =
-      linked_homed local f.whole t (lines lasts).called apart (lines lasts).named (grind arith)
+      linked_homed local f.whole t h (grind arith)
       (whole_lasts Right false (begin false local) deeds turn old new step on f lasts) q l.peer link
       (linked_so Right false (begin false local) deeds turn old new step on f lasts q l.peer link there)
   home_by lasts q positive l (opens shut unit opening front is others answer gives put) some = by unit opening gives is
@@ -237,7 +228,7 @@ module _ (local : Local) (deeds : ℕ → Deeds) (turn : Turn) (old new : Joint)
           absurd (search (arith, came Right false (begin false local) deeds turn old new step on f lasts (confirm n x) front q l come))
       by (request x) (called, theirs) (cc_is, source, one) come =
           subst (λ (k : ℕ). IsHomed Right q k f.whole.judge t) theirs
-          (asked_homed local f.whole t (lines lasts).called apart (lines lasts).named (grind arith)
+          (asked_homed local f.whole t h (grind arith)
           (whole_lasts Right false (begin false local) deeds turn old new step on f lasts) q x
           (came Right false (begin false local) deeds turn old new step on f lasts (request x) front q l come)
           (new_reference q l others answer put cc_is source one))

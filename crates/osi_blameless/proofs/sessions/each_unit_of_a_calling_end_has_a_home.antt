@@ -1,31 +1,29 @@
 -- Each DT and each AK that a calling end puts in a turn is for a connection that the judge knows by its references and that this end has
 -- not closed there; each other unit is for none.
 -- For all connections of an end and a judge.
-use Rattle.osi_blameless.proofs.Vocabulary.{[], ap, append_assoc, arith, Bool, false, is_some, List, map, None, Option, refl, Some, subst}
-use Rattle.osi_blameless.proofs.Vocabulary.{suc, sym, true, ℕ, ◌++◌, ◌<◌, ◌==◌, ◌∙◌, ◌∷◌, ◌≡◌, eq-eqb, AllByRecursion, slice_get, confirm}
-use Rattle.osi_blameless.proofs.Vocabulary.{Connect, data0, disconnect, request, Value, written, Standing, Local, value_at, closing, Live}
+use Rattle.osi_blameless.proofs.Vocabulary.{[], ap, append_assoc, arith, Bool, false, is_some, List, None, Option, refl, Some, subst}
+use Rattle.osi_blameless.proofs.Vocabulary.{sym, true, ℕ, ◌++◌, ◌<◌, ◌==◌, ◌∙◌, ◌∷◌, ◌≡◌, eq-eqb, AllByRecursion, slice_get, confirm}
+use Rattle.osi_blameless.proofs.Vocabulary.{Connect, disconnect, request, Value, Standing, Local, value_at, closing, Live}
 use Rattle.osi_blameless.proofs.Vocabulary.{linked, Carrier, has_given, Traffic as State, Connection, Left, amid, early, Life, opens_by}
-use Rattle.osi_blameless.proofs.Vocabulary.{past}
-use Rattle.osi_blameless.proofs.Vocabulary.{Time as Stage, stage_at, stays, all_units_more, Opens, Continues, Deeds, all_units, Marked}
-use Rattle.osi_blameless.proofs.Vocabulary.{Turn}
-use Rattle.osi_blameless.proofs.Vocabulary.{Sessions, Followed, is_tracked, IsOwned, Row, Tracked, each_picked, first_kept, is_dc, IsDc}
-use Rattle.osi_blameless.proofs.Vocabulary.{IsOngoing, names, those, those_join, Line, Whole, Joint, TakesTurn, HaveSamePlaces, AreGiven}
-use Rattle.osi_blameless.proofs.Vocabulary.{AreApart, BeforeOpen, WhileOpen, stage_by, Awaiting, FirstOf, HasNoCc, asked_so, goes, le-leb}
-use Rattle.osi_blameless.proofs.Vocabulary.{lt-ltb}
+use Rattle.osi_blameless.proofs.Vocabulary.{past, Time as Stage, stage_at, stays, all_units_more, Opens, Continues, Deeds, all_units}
+use Rattle.osi_blameless.proofs.Vocabulary.{Marked, Turn, Sessions, Followed, is_tracked, IsOwned, Row, Tracked, each_picked, first_kept}
+use Rattle.osi_blameless.proofs.Vocabulary.{is_dc, IsDc, IsOngoing, names, those, those_join, Line, Whole, Joint, TakesTurn, HaveSamePlaces}
+use Rattle.osi_blameless.proofs.Vocabulary.{AreGiven, AreApart, BeforeOpen, WhileOpen, stage_by, Awaiting, FirstOf, HasNoCc, asked_so, goes}
+use Rattle.osi_blameless.proofs.Vocabulary.{le-leb, lt-ltb, awaits}
 use Rattle.osi_carrier.specs.State.{asked}
 use Rattle.osi_fair.specs.Wholes.{begin}
-use Rattle.osi_honest.proofs.courses.the_first_cc_opens_a_connection.{awaits, opens_so}
+use Rattle.osi_honest.proofs.courses.the_first_cc_opens_a_connection.{opens_so}
 use Rattle.osi_judge.specs.Courses.{Course as Passed}
 use Rattle.osi_blameless.proofs.small_facts_that_many_lemmas_use.{and_both, over_not, all_join as all_of_both}
 use Rattle.osi_blameless.proofs.steps_are_events.{IsFollowed}
-use Rattle.osi_blameless.proofs.what_is_put_is_what_is_written.{same_written, written_join}
 use Rattle.osi_blameless.proofs.sessions.a_turn_does_what_its_deeds_say.{turn_uses}
-use Rattle.osi_blameless.proofs.sessions.a_whole_end_runs_along.{calling_followed}
+use Rattle.osi_blameless.proofs.sessions.a_whole_end_runs_along.{whole_followed}
 use Rattle.osi_blameless.proofs.sessions.connections_have_the_same_places.{at_same}
 use Rattle.osi_blameless.proofs.sessions.each_unit_of_a_turn_has_one_connection.{HasHome, IsMarked, known}
 use Rattle.osi_blameless.proofs.sessions.nothing_is_done_before_a_cr_passes.{IsNotCc, same_units}
-use Rattle.osi_blameless.proofs.sessions.what_a_turn_puts_goes_to_its_peer.{GoesTo, IsPutFor, all_back, all_so, goes_to, one_of}
-use Rattle.osi_blameless.proofs.sessions.what_a_turn_puts_goes_to_its_peer.{turn_marked, whole_lasts}
+use Rattle.osi_blameless.proofs.sessions.what_a_turn_puts_goes_to_its_peer.{GoesTo, IsPutFor, all_so, goes_to, one_of}
+use Rattle.osi_blameless.proofs.sessions.what_a_turn_puts_goes_to_its_peer.{IsNotZero, turn_marked, whole_lasts}
+use Rattle.osi_blameless.proofs.sessions.what_a_turn_puts_is_written_alike.{turn_not_zero}
 
 -- ---- a connection that is open at the judge has a home there
 
@@ -95,32 +93,8 @@ module _ (local : Local) (w : Whole) (t : Sessions) (f : Followed local w) (plac
 
 -- ---- no DT of class 0 is put
 
-abbrev pub first : List ℕ → ℕ
-first [] = 0
-first (n ∷ ns) = n
-
--- it has another length
-pub not_two : (x : ℕ) → suc (suc (suc x)) ≡ 2 → ⊥
-not_two x e = omega (arith, e)
-
-not_data0 : (end : Bool) (user : List ℕ) (s : State) (u : Value) → IsOwned s u → written u ≡ written (data0 end user) → ⊥
-not_data0 end user s u h e = grind (arith, not_two)
-
--- a unit is written as one of these
-pub record IsWrittenAs (P : Value → Type 0) (v : Value) : Type 0 where
-  pub u : Value
-  pub so : P u
-  pub same : written u ≡ written v
-
-pub written_as : (P : Value → Type 0) (us vs : List Value) → map written us ≡ map written vs → AllByRecursion P us →
-    AllByRecursion (IsWrittenAs P) vs
-written_as P [] [] e h = tt
-written_as P [] (v ∷ vs) e h = absurd (cc)
-written_as P (u ∷ us) [] e h = absurd (cc)
-written_as P (u ∷ us) (v ∷ vs) e h =
-    let one : written u ≡ written v = cc in
-    let more : map written us ≡ map written vs = cc in
-    (record { u = u; so = h.0; same = one }, written_as P us vs more h.1)
+owned_two : (s : State) (u : Value) → IsOwned s u → IsNotZero u
+owned_two s u h end user e = grind arith
 
 -- ---- a turn
 
@@ -157,22 +131,16 @@ module _ (local : Local) (two : local.class2 ≡ true) (deeds : ℕ → Deeds) (
   IsPut q = IsPutFor Left true (begin true local) deeds turn old new step on f q f.whole.judge t
 
   followed : Followed local f.whole
-  followed = calling_followed local two old f clear
+  followed = whole_followed local two old f clear
 
   places_so : HaveSamePlaces f.whole.judge.connections t.live
   places_so = subst (λ (x : State). HaveSamePlaces x.connections t.live) (sym f.judge) places
 
-  -- each unit is written as one that is owned
-  abbrev IsOwnedSo : Value → Type 0
-  IsOwnedSo v = IsWrittenAs (IsOwned g.whole.judge) v
-
-  owned_units : AllByRecursion IsOwnedSo (all_units on.put)
-  owned_units =
-      let all = (calling_followed local two new g (subst (λ (c : Passed). IsOngoing c.traffic.course) (sym step.course) clear)).owned in
-      let same : map written step.units ≡ map written (all_units on.put) =
-      same_written step.units (all_units on.put) (sym step.written ∙ on.written) in
-      let alike : map written g.whole.put ≡ map written (old.put ++ all_units on.put) = grind (arith, written_join) in
-      grind (arith, all_back, written_as (IsOwned g.whole.judge) g.whole.put (old.put ++ all_units on.put) alike all)
+  no_zero : AllByRecursion IsNotZero (all_units on.put)
+  no_zero =
+      let all = (whole_followed local two new g (subst (λ (c : Passed). IsOngoing c.traffic.course) (sym step.course) clear)).owned in
+      turn_not_zero Left true (begin true local) deeds turn old new step on g
+      (all_so (IsOwned g.whole.judge) IsNotZero (owned_two g.whole.judge) g.whole.put all)
 
   -- ---- the connection that a unit is put for
 
@@ -266,5 +234,4 @@ module _ (local : Local) (two : local.class2 ≡ true) (deeds : ℕ → Deeds) (
 
   pub calling_marked : AllByRecursion (IsMarked Left s t) on.put
   calling_marked =
-      turn_marked Left true (begin true local) deeds turn old new step on f s t (grind (arith, all_so, not_data0, owned_units))
-      (grind (arith, is_put, goes))
+      turn_marked Left true (begin true local) deeds turn old new step on f s t no_zero (grind (arith, is_put, goes))

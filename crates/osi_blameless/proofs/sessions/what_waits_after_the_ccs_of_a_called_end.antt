@@ -4,18 +4,16 @@
 use Rattle.osi_blameless.proofs.Vocabulary.{[], ap, append_assoc, arith, false, inl, inr, IsSome, List, nat_lt, None, Option, refl, Some}
 use Rattle.osi_blameless.proofs.Vocabulary.{subst, suc, sym, true, zero, ℕ, ◌++◌, ◌<◌, ◌==◌, ◌∙◌, ◌∷◌, ◌≡◌, ◌≤◌, ◌⊎◌, eq-eqb, eqb-true}
 use Rattle.osi_blameless.proofs.Vocabulary.{AllByRecursion, slice_get, confirm, Connect, disconnect, request, Value, Local, packets}
-use Rattle.osi_blameless.proofs.Vocabulary.{Carrier}
-use Rattle.osi_blameless.proofs.Vocabulary.{EndReason, Traffic as State, Right, over_acts, Answers, Begins, is_shut, Opens, opens}
-use Rattle.osi_blameless.proofs.Vocabulary.{Continues}
-use Rattle.osi_blameless.proofs.Vocabulary.{Deeds, all_units, is_of_link, Marked, Turn, Sessions, Joint, TakesTurn, HaveSamePlaces}
-use Rattle.osi_blameless.proofs.Vocabulary.{AreApart}
-use Rattle.osi_blameless.proofs.Vocabulary.{Course, differ, number_is}
+use Rattle.osi_blameless.proofs.Vocabulary.{Carrier, EndReason, Traffic as State, Right, over_acts, Answers, Begins, is_shut, Opens, opens}
+use Rattle.osi_blameless.proofs.Vocabulary.{Continues, Deeds, all_units, is_of_link, Marked, Turn, Sessions, Joint, TakesTurn}
+use Rattle.osi_blameless.proofs.Vocabulary.{HaveSamePlaces, AreApart, Course, differ, number_is}
 use Rattle.osi_fair.specs.Wholes.{begin}
 use Rattle.osi_honest.specs.Arriving.{is_open as opened}
 use Rattle.osi_blameless.proofs.small_facts_that_many_lemmas_use.{same_bool}
 use Rattle.osi_blameless.proofs.steps_are_events.{IsFollowed}
-use Rattle.osi_blameless.proofs.sessions.a_called_end_of_class_2_has_its_lines.{HasLines}
-use Rattle.osi_blameless.proofs.sessions.a_called_end_of_class_2_puts_no_dt_of_class_0.{called_turn_two}
+use Rattle.osi_blameless.proofs.sessions.a_whole_end_runs_along.{HasLines}
+use Rattle.osi_blameless.proofs.sessions.a_called_end_of_class_2_puts_no_dt_of_class_0.{called_put_two}
+use Rattle.osi_blameless.proofs.sessions.what_a_turn_puts_is_written_alike.{turn_not_zero}
 use Rattle.osi_blameless.proofs.sessions.all_connections_stand.{one_at}
 use Rattle.osi_blameless.proofs.sessions.each_cc_of_a_called_end_opens_another_connection.{none_open_for, open_there, same_destination}
 use Rattle.osi_blameless.proofs.sessions.each_cc_of_a_called_end_opens_another_connection.{same_source}
@@ -82,7 +80,7 @@ module _ (local : Local) (deeds : ℕ → Deeds) (turn : Turn) (old new : Joint)
   open_named : carrier.ended ≡ None → (q : ℕ) → 0 < q → (l : LivedSo q) →
       Begins false q l.peer carrier new.holding.end.carrier l.arrived l.left → AreApart q on.put ⊎ IsNamed q l.peer
   open_named lasts q positive l (opened link there none none_left) =
-      by (open_there local f.whole t before.called before.apart before.named (grind arith)
+      by (open_there local f.whole t before (grind arith)
       (whole_lasts Right false (begin false local) deeds turn old new step on f lasts) q l.peer link
       (linked_so Right false (begin false local) deeds turn old new step on f lasts q l.peer link there))
     where
@@ -117,7 +115,7 @@ module _ (local : Local) (deeds : ℕ → Deeds) (turn : Turn) (old new : Joint)
 
   module _ (b : ℕ) (known : (i j : ℕ) → HasHome Right i j s t → i ≤ b) (n r : ℕ) (has : HasCc n r new.put) (above : b < r) where
     class_2 : AllByRecursion IsNotZero (all_units on.put)
-    class_2 = called_turn_two local deeds turn old new step on g after.called
+    class_2 = turn_not_zero Right false (begin false local) deeds turn old new step on g (called_put_two local g.whole after.called)
 
     module _ (front rest : List Marked) (m : Marked) (is : on.put ≡ front ++ m ∷ rest) where
       at : (P : Marked → Type 0) → AllByRecursion P on.put → P m
@@ -128,7 +126,7 @@ module _ (local : Local) (deeds : ℕ → Deeds) (turn : Turn) (old new : Joint)
       forth_by l e (inl apart) = differ (m.0 == r) e (at (λ (k : Marked). (k.0 == r) ≡ false) apart)
       forth_by l e (inr (inl h)) =
           let same : l.peer ≡ n =
-          same_source local g.whole t after.called after.apart after.named places_g l.peer n r (has_whole l.peer r h)
+          same_source local g.whole t after places_g l.peer n r (has_whole l.peer r h)
           (has_whole n r has) in
           ap (λ (i : ℕ). is_for (Some i) m.1) (sym same) ∙ sym (grind arith)
           ∙ at (GoesTo r l.peer) (goes_to r on.put l.peer l.left l.gives) e
@@ -146,11 +144,11 @@ module _ (local : Local) (deeds : ℕ → Deeds) (turn : Turn) (old new : Joint)
           differ (m.0 == m.0) (eq-eqb m.0 m.0 refl) (at (λ (k : Marked). (k.0 == m.0) ≡ false) apart)
       back_by l mine (inr (inl h)) =
           eq-eqb m.0 r
-          (same_destination local g.whole t after.called after.apart after.named places_g n m.0 r
+          (same_destination local g.whole t after places_g n m.0 r
           (subst (λ (i : ℕ). HasCc i m.0 g.whole.put) (sym (peer_so l mine)) (has_whole l.peer m.0 h)) (has_whole n r has))
       back_by l mine (inr (inr h)) =
           let one = one_at s.connections t.live h.place h.connection h.joined places h.there h.here in
-          absurd (none_open_for local g.whole t after.called after.apart after.named places_g n r (has_whole n r has) h.place
+          absurd (none_open_for local g.whole t after places_g n r (has_whole n r has) h.place
           h.connection (ap (λ (x : State). slice_get x.connections h.place) judge_g ∙ h.there) h.lives
           (sym one.calling ∙ number_is h.joined.calling l.peer h.theirs ∙ sym (peer_so l mine)))
 
