@@ -148,6 +148,8 @@ class Silent(Room):
             self.assertRegex(out, f"^stream 0 .* not judged: .*{said}\nended: .* [0-9.]+ seconds")
             self.assertIn(said, watched(kept))
             self.assertIn(said, call(kept, "list")[1])
+            if "left" in said:
+                self.assertEqual(call(kept, "split", "-o", self.path("run")), (2, "", f"osi-capture: run.pcap: stream 0: {said}\n"))
             report = mock.Mock(ended=[], why=said, stream=stream_of(kept))
             self.assertEqual(annotating.comments_of(report), [(1 if "left" in said else 3, f"not judged: {said}")])
 
