@@ -62,8 +62,8 @@ class Sums:
             self.later = frame
 
     def look_for_change(self):
-        """Looks whether the first checksums are all wrong by the same number, or differ by it from a form that a card completes. (Of segments
-        of one length that may be two forms.)"""
+        """Looks whether the first checksums are all wrong by the same number, or differ by it from a form that a card completes. (It may be
+        two forms, if the segments have the same length.)"""
         if len(self.first) < ALIKE or any(found[0] == 0 for found in self.first):
             return
         self.change = {place: values[0] for place, values in enumerate(zip(*self.first)) if len(set(values)) == 1}
