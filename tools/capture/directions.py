@@ -193,7 +193,7 @@ class Direction:
         """Compares octets that are sent again with those that passed. A keepalive sends the last octet again, as any other; nothing else
         sends the last octet of a longer piece alone, and its copies may be captured late."""
         last = min(place + len(octets), self.count)
-        if place >= last or len(octets) == 1 and last == self.count <= self.heard:
+        if place >= last or len(octets) == 1 and (last == self.count <= self.heard or place < 0 and self.has_first):
             return
         if place < self.forgotten:
             self.doubt = self.doubt or (self.count, None, frame)

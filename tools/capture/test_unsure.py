@@ -101,7 +101,9 @@ class Keepalives(unittest.TestCase):
         for place in range(8, len(made.frames) + 1):
             stream = stream_of(made.frames[:place] + [alive] + made.frames[place:])
             self.assertEqual((in_turns((side, piece.octets) for side, piece in stream.by_side()), stream.gap()), (wanted, None))
-        other = made.segment("left", b"\0", ACK, FIRST["left"] + len(CR + CN) - 1)
+        first = made.segment("left", b"\0", ACK, FIRST["left"])
+        self.assertIsNone(stream_of(made.frames + [first]).gap())
+        other = made.segment("left", b"\x55", ACK, FIRST["left"] + len(CR + CN) - 1)
         self.assertRegex(str(stream_of(made.frames + [other]).gap()), "sent again as others")
 
     def test_an_octet_that_was_cut_off(self):
