@@ -176,9 +176,9 @@ class Direction:
 
     def compare(self, place, octets, frame):
         """Compares octets that are sent again with those that passed. A keepalive sends the last octet again, as any other; nothing else
-        sends it alone, if it didn't come alone, but what acknowledges it may be captured later."""
+        sends the last octet of a longer piece alone, and its copies may be captured late."""
         last = min(place + len(octets), self.count)
-        if place >= last or len(octets) == 1 and last == self.count and (last <= self.heard or len(self.passed[-1].octets) > 1):
+        if place >= last or len(octets) == 1 and (last == self.count <= self.heard or place < 0 and self.has_first):
             return
         if place < self.forgotten:
             self.doubt = self.doubt or (self.count, None, frame)
@@ -188,7 +188,8 @@ class Direction:
             piece = self.passed[at]
             first, end = max(place, piece.start), min(last, piece.start + len(piece.octets))
             before, again = piece.octets[first - piece.start:end - piece.start], octets[first - place:end - place]
-            if before != again:
+            is_alive = len(octets) == 1 < len(piece.octets) and end == piece.start + len(piece.octets)
+            if before != again and not is_alive:
                 first += next(at for at, (one, other) in enumerate(zip(before, again)) if one != other)
                 if self.doubt is None or first < self.doubt[0]:
                     self.doubt = first, piece.frame, frame

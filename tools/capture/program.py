@@ -165,6 +165,8 @@ def split(asked):
         rows = in_lines(piece.octets)
         made[side] += [note, *rows]
         made["follow"] += [note, *("\t" * (side == "right") + row for row in rows)]
+    if not made["follow"]:
+        raise BadInput(f"{asking.shown(asked.file)}: stream {stream.number}: {why_not(stream) or 'nothing passed'}")
     write_all({f"{asked.output}.{name}": "\n".join([*rows, ""]) for name, rows in made.items()})
 
 

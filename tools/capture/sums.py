@@ -34,7 +34,7 @@ class Sums:
     """The checksums of a direction."""
 
     def __init__(self):
-        self.first, self.change, self.right, self.wrong = [], None, 0, 0
+        self.first, self.change, self.right, self.wrong = [], {}, 0, 0
         # The first frames with octets and wrong checksums, and the frame from which on each one counts.
         self.hurt, self.later = set(), None
         # The most octets of a segment that the other end takes, if it says so.
@@ -62,20 +62,18 @@ class Sums:
             self.later = frame
 
     def look_for_change(self):
-        """Looks whether the first checksums are all wrong by the same number, or differ by it from a form that a card completes."""
+        """Looks whether the first checksums are all wrong by the same number, or differ by it from a form that a card completes. (It may be
+        two forms, if the segments have the same length.)"""
         if len(self.first) < ALIKE or any(found[0] == 0 for found in self.first):
             return
-        for place in range(len(self.first[0])):
-            values = {found[place] for found in self.first}
-            if len(values) == 1:
-                self.change = place, values.pop()
-                self.right, self.wrong = self.right + self.wrong, 0
-                self.hurt.clear()
-                return
+        self.change = {place: values[0] for place, values in enumerate(zip(*self.first)) if len(set(values)) == 1}
+        if self.change:
+            self.right, self.wrong = self.right + self.wrong, 0
+            self.hurt.clear()
 
     def is_changed(self, found):
         """Whether a checksum is wrong only by what was changed in all of them."""
-        return self.change is not None and found[self.change[0]] == self.change[1]
+        return any(found[place] == value for place, value in self.change.items())
 
     def is_hurt(self, frame):
         """Whether a frame was damaged on its way."""

@@ -113,21 +113,24 @@ class Again(unittest.TestCase):
             self.assertEqual((report.status, report.judged.limit), (1, None), units)
 
     def test_a_watch_says_so(self):
-        told = mock.Mock(kind=mock.Mock(), rule=mock.Mock(), connection=None)
+        told, later = (mock.Mock(kind=mock.Mock(), rule=mock.Mock(), connection=None) for _ in range(2))
         told.__str__ = lambda each: "left 1 broke packet 70 Connect BadState"
-        told.kind.name, told.rule.name = "BROKE", "BAD_STATE"
+        later.__str__ = lambda each: "right 1 broke packet 70 Accept BadState"
+        for each in (told, later):
+            each.kind.name, each.rule.name = "BROKE", "BAD_STATE"
         for units in self.KEPT + self.ENDED:
             frames_made, number = self.made(*units)
             found = []
 
             def feed(_, side, octets, found=found):
                 found.append(octets)
-                return [told] if octets == CN and found.count(CN) == 2 else []
+                return ([told] if octets == CN else [later] if octets == AC else []) if found.count(CN) == 2 else []
             with mock.patch.object(Judge, "feed", feed):
                 out = watched(frames_made)
             said = f"both kept the protocol, judged up to frame {number}, with which left opens another session" \
                 if units in self.KEPT else f"frame {number}, [0-9.]+ seconds: left 1 broke"
             self.assertRegex(out, said)
+            self.assertEqual("broke" in out, units not in self.KEPT)
 
 
 class Silent(Room):
@@ -145,6 +148,8 @@ class Silent(Room):
             self.assertRegex(out, f"^stream 0 .* not judged: .*{said}\nended: .* [0-9.]+ seconds")
             self.assertIn(said, watched(kept))
             self.assertIn(said, call(kept, "list")[1])
+            if "left" in said:
+                self.assertEqual(call(kept, "split", "-o", self.path("run")), (2, "", f"osi-capture: run.pcap: stream 0: {said}\n"))
             report = mock.Mock(ended=[], why=said, stream=stream_of(kept))
             self.assertEqual(annotating.comments_of(report), [(1 if "left" in said else 3, f"not judged: {said}")])
 

@@ -93,6 +93,19 @@ class Keepalives(unittest.TestCase):
         number = len(made.frames)
         self.unsure(self.judged(made.send("left", self.WRONG).frames), number)
 
+    def test_a_keepalive_whose_copies_are_captured_early_or_late(self):
+        """By two taps whose clocks differ: before what acknowledges its octet, and after what was sent later."""
+        made = Frames().open().talk(3)
+        alive = made.segment("left", b"\0", ACK, FIRST["left"] + len(CR + CN + DT))
+        wanted = in_turns((side, piece.octets) for side, piece in stream_of(made.frames).by_side())
+        for place in range(8, len(made.frames) + 1):
+            stream = stream_of(made.frames[:place] + [alive] + made.frames[place:])
+            self.assertEqual((in_turns((side, piece.octets) for side, piece in stream.by_side()), stream.gap()), (wanted, None))
+        first = made.segment("left", b"\0", ACK, FIRST["left"])
+        self.assertIsNone(stream_of(made.frames + [first]).gap())
+        other = made.segment("left", b"\x55", ACK, FIRST["left"] + len(CR + CN) - 1)
+        self.assertRegex(str(stream_of(made.frames + [other]).gap()), "sent again as others")
+
     def test_an_octet_that_was_cut_off(self):
         """The frame was one octet longer than what is captured of each."""
         made, number = self.lost(mtu=1_400)

@@ -170,6 +170,8 @@ class Fed(Watched):
         # How many pieces were fed, and those that aren't surely what was sent, each with its number.
         self.fed, self.unsure = 0, []
         self.head, self.is_told = {side: [] for side in streams.SIDES}, False
+        # Whether another session was found on the transport connection of one that has ended.
+        self.has_another = False
 
     def look_for_limit(self):
         if self.stream.is_over and self.limit is None and self.stream.gap():
@@ -266,10 +268,10 @@ class Fed(Watched):
         self.waiting.append((source, piece.start + len(piece.octets), status, piece.frame, line, self.fed))
 
     def is_another(self, is_second_connect):
-        """Whether what was found is only another session on the same transport connection; then the stream is judged up to there."""
-        if is_second_connect and self.follower.again:
-            self.limit = self.limit or f"judged up to {streams.Another(*self.follower.again)}"
-        return is_second_connect and self.follower.again is not None
+        """Whether what was found is only of another session on the same transport connection; the stream is judged up to its beginning."""
+        if is_second_connect and self.follower.again and not self.has_another:
+            self.has_another, self.limit = True, self.limit or f"judged up to {streams.Another(*self.follower.again)}"
+        return self.has_another
 
     def tell(self, is_end):
         """Tells what is found of octets that are acknowledged, or at the end of all; not of those that were sent again as others, nor what
