@@ -11,10 +11,10 @@ pub use Rattle.std.proofs.lemmas.List.{append-nil, append_cancel_left, length-ap
 pub use Rattle.std.proofs.lemmas.List.{take_at}
 pub use Rattle.std.proofs.lemmas.Option.{slice_get-map, slice_get_past, slice_get_within}
 pub use Rattle.std.specs.List.{AllByRecursion, list_all, list_any}
-pub use Rattle.osi_tpkt.proofs.a_prefix_of_a_packet.{empty_partial}
-pub use Rattle.osi_tpkt.proofs.a_stream_is_cut_in_one_way.{end_no_packet, some_cut}
 pub use Rattle.osi_unit.proofs.lists_of_octets_stay_octets.{octets_append, octets_cons, octets_left, octets_nil, octets_right}
 pub use Rattle.osi_unit.specs.Octets.{IsOctets}
+pub use Rattle.osi_tpkt.proofs.a_prefix_of_a_packet.{empty_partial}
+pub use Rattle.osi_tpkt.proofs.a_stream_is_cut_in_one_way.{end_no_packet, some_cut}
 pub use Rattle.osi_tpkt.specs.Packet.{IsPacket, packet_of}
 pub use Rattle.osi_tpkt.specs.Stream.{ArePackets, Ending, EndsAt, offset_of}
 pub use Rattle.osi_tpkt.specs.declared.cutting.Fed.{Fed}
@@ -65,7 +65,7 @@ pub use Rattle.osi_carrier.specs.declared.ends.EndReason.TheVariants.{NoMemory}
 pub use Rattle.osi_carrier.specs.declared.faults.OpenError.{OpenError}
 pub use Rattle.osi_carrier.specs.declared.faults.OpenError.TheVariants.{Ended, NotCaller}
 pub use Rattle.osi_session.proofs.tsdu.what_is_sent_is_taken_as_meant.{said_again}
-pub use Rattle.osi_session.specs.Listening.{Input, Listener, called}
+pub use Rattle.osi_session.specs.Listening.{Input, Listener}
 pub use Rattle.osi_session.specs.Standing.{Seen}
 pub use Rattle.osi_stack.proofs.called.what_is_sent_is_short.{SpduLaws}
 pub use Rattle.osi_stack.proofs.carried.events_one_after_the_other.{concluded_carrier}
@@ -79,7 +79,6 @@ pub use Rattle.osi_stack.specs.Feeding.{Feeds, Goes, TakesPackets, uses_all}
 pub use Rattle.osi_stack.specs.Hearing.{RunsOut, Starves, after_packet, hears_times, with_carrier, with_events}
 pub use Rattle.osi_stack.specs.Messages.{AreShort}
 pub use Rattle.osi_stack.specs.Moving.{carrier_by, to_session}
-pub use Rattle.osi_stack.specs.Rounds.UserCall.{calling}
 pub use Rattle.osi_stack.specs.Runs.{Call, Calls, carried_in, used_in}
 pub use Rattle.osi_stack.specs.State.{End, Holding}
 pub use Rattle.osi_stack.specs.declared.connecting.ConnectError.{ConnectError}
@@ -87,16 +86,17 @@ pub use Rattle.osi_rules.proofs.a_stop_is_said.{stops_are_said, stops_last}
 pub use Rattle.osi_rules.specs.Reaches.{is_applied, reach_of}
 pub use Rattle.osi_rules.specs.Rows.{Test, acknowledge_tests, confirm_tests, data0_tests, first_failed, given_again}
 pub use Rattle.osi_rules.specs.Sides.{begins, is_closed, is_closing, is_free, is_live, is_named, is_open, is_over, is_over_by, is_refused}
-pub use Rattle.osi_rules.specs.Sides.{is_silent, own, seen, uses}
+pub use Rattle.osi_rules.specs.Sides.{is_silent, own, uses}
 pub use Rattle.osi_rules.specs.Traffic.{Outcome, State, State as Traffic, asked_by, asks_by, asks_kept, asks_of, at_found, at_place}
-pub use Rattle.osi_rules.specs.Traffic.{begun_after, class_for, class_of, closing_phase, connection_after, course_after, course_after_none}
-pub use Rattle.osi_rules.specs.Traffic.{found, found_on, fresh, half_after, has_broken, in_doubt, is_report, is_stopped, judged_on}
-pub use Rattle.osi_rules.specs.Traffic.{meaning_if, meant, none_told, noted, one_told, request_tests, route, route_in, route_zero, routed}
-pub use Rattle.osi_rules.specs.Traffic.{sent_on, silent_half, stops, stops_by, takes, unnamed, unnamed_by, unnamed_told, uses_source}
+pub use Rattle.osi_rules.specs.Traffic.{begun_after, class_for, class_of, closing_phase, connection_after, course_after, found, found_on}
+pub use Rattle.osi_rules.specs.Traffic.{fresh, half_after, has_broken, in_doubt, is_report, is_stopped, judged_on, meaning_if, meant}
+pub use Rattle.osi_rules.specs.Traffic.{none_told, noted, one_told, request_tests, route, route_in, route_zero, routed, sent_on}
+pub use Rattle.osi_rules.specs.Traffic.{silent_half, stops, stops_by, takes, unnamed_by, unnamed_told, uses_source}
 pub use Rattle.osi_rules.specs.declared.connections.Connection.{Connection}
 pub use Rattle.osi_rules.specs.declared.connections.Offer.{Offer}
 pub use Rattle.osi_rules.specs.declared.courses.Course.{Course as Rules}
 pub use Rattle.osi_rules.specs.declared.directions.Direction.{Direction as Way}
+pub use Rattle.osi_rules.specs.declared.disconnects.Disconnects.{Disconnects}
 pub use Rattle.osi_rules.specs.declared.findings.Finding.{Finding}
 pub use Rattle.osi_rules.specs.declared.findings.Finding.TheVariants.{Broke, Kept, NotJudged, Outside, TooMany}
 pub use Rattle.osi_rules.specs.declared.findings.Meaning.{Meaning}
@@ -115,45 +115,45 @@ pub use Rattle.osi_side.proofs.honest.an_honest_run_stays_in_the_profile.{AllIns
 pub use Rattle.osi_side.proofs.honest.an_honest_side_is_kept.{CalledLaw, CallerLaw}
 pub use Rattle.osi_side.specs.Captures.{Capture, Passed, of, other, passed_before, stream}
 pub use Rattle.osi_side.specs.Explaining.{IsExplained}
+pub use Rattle.osi_side.specs.Findings.{broke_session}
 pub use Rattle.osi_side.specs.Judging.{IsFound}
 pub use Rattle.osi_side.specs.Profiles.{selects_outside}
 pub use Rattle.osi_side.specs.Running.{IsHonest, IsSentFrom}
-pub use Rattle.osi_side.specs.Findings.{broke_session}
 pub use Rattle.osi_side.specs.Sides.{begin_of}
 pub use Rattle.osi_side.specs.declared.directions.Direction.{Direction}
 pub use Rattle.osi_side.specs.declared.directions.Direction.TheVariants.{Left, Right}
-pub use Rattle.osi_honest.proofs.ends.an_end_that_is_over_does_nothing.{over_acts, never_lasts}
-pub use Rattle.osi_honest.proofs.ends.what_a_session_sends_fits.{AllProper}
-pub use Rattle.osi_honest.proofs.ends.what_a_session_answers_fits.{all_proper}
-pub use Rattle.osi_honest.proofs.reading.how_much_of_a_piece_is_used.{all_octets, more_used, stopped_within}
-pub use Rattle.osi_honest.proofs.ends.what_class_0_does_not_take_ends_the_end.{AreHard, IsHard, IsHardPacket, IsLast, IsZeroAt, hard_ends}
-pub use Rattle.osi_honest.proofs.reading.what_is_written_is_read_again.{packets_joined, CanBeWritten, read_again}
 pub use Rattle.osi_honest.proofs.courses.an_end_is_sound_between_turns.{IsSane, fresh_sane, leads_to, turn_sane}
 pub use Rattle.osi_honest.proofs.courses.an_end_takes_packets_up_to_its_last.{Stopped, TakesFirst, none_held, prefix_or, stopped_there}
 pub use Rattle.osi_honest.proofs.courses.how_long_a_connection_is_open.{BeforeOpen, HasNoDr, Life, Stage as Time, WhenPast, WhileOpen, amid}
 pub use Rattle.osi_honest.proofs.courses.how_long_a_connection_is_open.{early, is_dr, opens_by, past, stage_at, stage_by, stage_is}
 pub use Rattle.osi_honest.proofs.courses.how_long_a_connection_is_open.{stage_over, stage_there, stays}
-pub use Rattle.osi_honest.proofs.courses.the_first_cc_opens_a_connection.{Awaiting, FirstOf, HasNoCc, asked_so, goes}
+pub use Rattle.osi_honest.proofs.courses.the_first_cc_opens_a_connection.{Awaiting, FirstOf, HasNoCc, asked_so, awaits, goes}
 pub use Rattle.osi_honest.proofs.courses.units_of_each_connection.{all_units_more, none_mark, units_more}
 pub use Rattle.osi_honest.proofs.courses.what_a_run_does_to_it.{TurnOf, TurnsOf, fresh_course, fresh_turns, turn_continues}
 pub use Rattle.osi_honest.proofs.courses.what_calls_of_a_link_say.{fresh_of, none_said, out_more, said_more, taken_more}
 pub use Rattle.osi_honest.proofs.courses.what_sessions_hear_of_it.{Known}
 pub use Rattle.osi_honest.proofs.courses.what_units_do_to_a_course.{no_calls}
 pub use Rattle.osi_honest.proofs.courses.what_was_said_is_explained.{IsSaid, nothing, shown_said, something, units_came}
-pub use Rattle.osi_honest.proofs.keeping.what_holds_of_each_connection_stays.{row_at, row_more, row_put, row_without}
-pub use Rattle.osi_honest.proofs.sessions.the_session_of_a_request_is_a_caller.{opens_so}
+pub use Rattle.osi_honest.proofs.ends.an_end_that_is_over_does_nothing.{never_lasts, over_acts}
 pub use Rattle.osi_honest.proofs.ends.the_cn_of_a_request_fits.{can_begin}
+pub use Rattle.osi_honest.proofs.ends.what_a_session_answers_fits.{all_proper}
+pub use Rattle.osi_honest.proofs.ends.what_a_session_sends_fits.{AllProper}
+pub use Rattle.osi_honest.proofs.ends.what_class_0_does_not_take_ends_the_end.{AreHard, IsHard, IsHardPacket, IsLast, IsZeroAt, hard_ends}
+pub use Rattle.osi_honest.proofs.keeping.what_holds_of_each_connection_stays.{row_at, row_more, row_put, row_without}
 pub use Rattle.osi_honest.proofs.reading.a_cr_and_a_cc_can_be_written.{cc_plain, cr_by, size_in_range}
+pub use Rattle.osi_honest.proofs.reading.how_much_of_a_piece_is_used.{all_octets, more_used, stopped_within}
+pub use Rattle.osi_honest.proofs.reading.two_readings_of_a_stream_agree.{GoesBeyond, first, packets_on, packets_then, front_of as part_of}
+pub use Rattle.osi_honest.proofs.reading.two_readings_of_a_stream_agree.{second, two_readings}
 pub use Rattle.osi_honest.proofs.reading.what_a_link_gives_can_be_written.{AreNumbered, IsNumbered, gives_written, link_opens}
 pub use Rattle.osi_honest.proofs.reading.what_a_link_gives_can_be_written.{taken_numbered}
-pub use Rattle.osi_honest.proofs.reading.two_readings_of_a_stream_agree.{GoesBeyond, first, packets_on, packets_then, second, two_readings}
-pub use Rattle.osi_honest.proofs.reading.two_readings_of_a_stream_agree.{front_of as part_of}
+pub use Rattle.osi_honest.proofs.reading.what_is_written_is_read_again.{CanBeWritten, packets_joined, read_again}
 pub use Rattle.osi_honest.proofs.sessions.a_history_is_a_run.{history_runs}
+pub use Rattle.osi_honest.proofs.sessions.the_session_of_a_request_is_a_caller.{opens_so}
 pub use Rattle.osi_honest.specs.Arriving.{Answers, AreApart, Begins, GivesTo, Lives, Opens, Parts, TakesAll, is_shut, opens}
 pub use Rattle.osi_honest.specs.Courses.{AreCalls, Continues, Deeds, Gone, IsFreshLink, IsShut, Speaks, all_did, no_deeds, said_in}
 pub use Rattle.osi_honest.specs.Courses.{then_did, units_given, units_in, units_read, units_taken}
 pub use Rattle.osi_honest.specs.Courses.Course.{awaited, is_gone, unknown}
-pub use Rattle.osi_honest.specs.Courses.Gone.{closed, never}
+pub use Rattle.osi_honest.specs.Courses.Gone.{closed, never, over}
 pub use Rattle.osi_honest.specs.Marked.{Marked, all_units, is_of_link, units_at}
 pub use Rattle.osi_honest.specs.Parts.{ends_whole}
 pub use Rattle.osi_honest.specs.Seeing.{IsFresh, IsPrefix, IsSeen, PassAfter, put_along, used_along}
@@ -165,28 +165,26 @@ pub use Rattle.osi_judge.proofs.a_capture_has_one_first_break.{first_held}
 pub use Rattle.osi_judge.proofs.a_piece_comes_to_what_its_octets_do.{after_more, going, looks}
 pub use Rattle.osi_judge.proofs.no_break_was_before_the_first.{marked_past, noted_past}
 pub use Rattle.osi_judge.proofs.octets_are_looked_at.{packet_front}
-pub use Rattle.osi_judge.specs.Blaming.{AreSpotless, BreaksFirst, IsBreakOf, IsFirstOf, IsQuiet, IsToBlame, of_session, of_transport}
+pub use Rattle.osi_judge.specs.Blaming.{BreaksFirst, IsBreakOf, IsFirstOf, IsToBlame, of_session, of_transport}
 pub use Rattle.osi_judge.specs.Connections.{Joined, Sessions, adds, adds_all, adds_if, all_begin, asked, changed, count, kept_on, none}
-pub use Rattle.osi_judge.specs.Connections.{opened}
-pub use Rattle.osi_judge.specs.Connections.{placed, reference_of, shut, spoken, taken, taken_at, user_of}
-pub use Rattle.osi_judge.specs.Courses.{Course, Moment, cause_of, changes, earlier, first_by, first_marked, first_of, fresh_within}
-pub use Rattle.osi_judge.specs.Courses.{is_break}
-pub use Rattle.osi_judge.specs.Courses.{kind_of, mark_by, marked, marks_of, moment_of, moved, noted_by, number_at, number_of, packet_begins}
+pub use Rattle.osi_judge.specs.Connections.{opened, placed, reference_of, shut, spoken, taken, taken_at, user_of}
+pub use Rattle.osi_judge.specs.Courses.{Course, Moment, cause_of, changes, earlier, first_by, first_marked, fresh_within, is_break, kind_of}
+pub use Rattle.osi_judge.specs.Courses.{mark_by, marked, marks_of, moment_of, moved, noted_by, number_at, number_of, packet_begins}
 pub use Rattle.osi_judge.specs.Courses.{packet_by, packet_passes, reached, unit_passes, units_pass, unread, unread_mark, unread_moment}
 pub use Rattle.osi_judge.specs.Courses.{way_of}
 pub use Rattle.osi_judge.specs.Lines.{Begun, Spoken, added, begun_before, begun_octets, heard, octets_of, told}
 pub use Rattle.osi_judge.specs.Rooms.{fits}
 pub use Rattle.osi_judge.specs.Standing.{HoldsState, IsFed, IsJudged, first_in}
-pub use Rattle.osi_judge.specs.Streams.{Front, Streamed, advanced, by_version, counted, faulty, front_of, gathered, partial, sized, whole}
 pub use Rattle.osi_judge.specs.States.{after, begin_within, begun, comes_to, looked_at, octet_passes, stream_of, with_stream}
+pub use Rattle.osi_judge.specs.Streams.{Front, Streamed, advanced, by_version, counted, faulty, front_of, gathered, partial, sized, whole}
+pub use Rattle.osi_judge.specs.declared.judge.Judge.{Judge}
 pub use Rattle.osi_judge.specs.declared.marks.Cause.{Cause}
 pub use Rattle.osi_judge.specs.declared.marks.Cause.TheVariants.{BadPacket, BadUnit}
 pub use Rattle.osi_judge.specs.declared.marks.First.{First}
 pub use Rattle.osi_judge.specs.declared.marks.Mark.{Mark}
 pub use Rattle.osi_judge.specs.declared.marks.Marks.{Marks}
 pub use Rattle.osi_judge.specs.declared.rooms.Room.{Room}
-pub use Rattle.osi_judge.specs.declared.rooms.Room.TheVariants.{All, Octets, Over}
-pub use Rattle.osi_judge.specs.declared.judge.Judge.{Judge}
+pub use Rattle.osi_judge.specs.declared.rooms.Room.TheVariants.{All, Octets}
 pub use Rattle.osi_fair.proofs.a_called_end_is_fair.{Stage, all_joined, called_fair, lines, selected, selecting}
 pub use Rattle.osi_fair.proofs.a_called_end_is_fair_in_class_0.{called_fair_in_class_0}
 pub use Rattle.osi_fair.proofs.a_called_end_selects_class_zero.{Selecting}
@@ -214,14 +212,15 @@ pub use Rattle.osi_fair.proofs.no_request_is_blamed.{Holds, holds_first, holds_n
 pub use Rattle.osi_fair.proofs.no_two_open_connections_have_one_peer.{both, left_open}
 pub use Rattle.osi_fair.proofs.one_request_waits.{begun_live, reached_class}
 pub use Rattle.osi_fair.proofs.references_of_requests_rise.{Rise, all_gives, closed_gives, ended_gives, not_less, rise_from, sent_gives}
-pub use Rattle.osi_fair.proofs.small_facts_that_many_lemmas_use.{begins_judged, begun_left, begun_right, closing_same, differ, first_is}
-pub use Rattle.osi_fair.proofs.small_facts_that_many_lemmas_use.{is_false, judged_same, none_of, number_is, some_same, unequal}
+pub use Rattle.osi_fair.proofs.small_facts_that_many_lemmas_use.{and_false, begins_judged, begun_left, begun_right, closing_same, differ}
+pub use Rattle.osi_fair.proofs.small_facts_that_many_lemmas_use.{first_is, is_false, judged_same, no_list, none_of, number_is, some_same}
+pub use Rattle.osi_fair.proofs.small_facts_that_many_lemmas_use.{unequal}
 pub use Rattle.osi_fair.proofs.the_end_is_judged_as_the_other_side_is.{side_zero}
 pub use Rattle.osi_fair.proofs.units_by_their_place.{Placed, at_first, at_join, first_at, values}
 pub use Rattle.osi_fair.proofs.what_a_called_end_does_to_its_lines.{above_more}
 pub use Rattle.osi_fair.proofs.what_a_carrier_puts.{alone, connected}
 pub use Rattle.osi_fair.proofs.what_a_link_does.{begun_by, gives_so, takes_so}
-pub use Rattle.osi_fair.proofs.what_an_end_does_in_class_zero.{IsInZero, anyhow, over, zero_puts}
+pub use Rattle.osi_fair.proofs.what_an_end_does_in_class_zero.{IsInZero, anyhow, zero_puts}
 pub use Rattle.osi_fair.proofs.what_an_end_puts_in_class_zero.{PutsData}
 pub use Rattle.osi_fair.proofs.what_becomes_of_a_called_end.{IsCalled, above_up, closing_no_cc, confirms_no_cc, given_no_cc, none_by_call}
 pub use Rattle.osi_fair.proofs.what_becomes_of_a_connection.{IsIdle, comes_for}

@@ -1,15 +1,12 @@
 -- A unit that is no break leaves all that passes judged, or nothing any more; how far each other unit reaches, and what can't be read. And
 -- what a side sends is no break of the other one. For the laws that an end is blamed nowhere.
 use Rattle.osi_blameless.proofs.Vocabulary.{arith, ◌≡◌, ◌∙◌, ℕ, Bool, true, false, if◌then◌else◌, Option, Some, None, is_some, refl, sym}
-use Rattle.osi_blameless.proofs.Vocabulary.{ap}
-use Rattle.osi_blameless.proofs.Vocabulary.{inl, inr, ◌⊎◌, ◌||◌, Value, Connect, Class, Zero, other, Finding, Kept, Broke, Outside, TooMany}
-use Rattle.osi_blameless.proofs.Vocabulary.{NotJudged, Reach, Route, reach_of, State, Outcome, class_for, unnamed_told, at_place, asks_by}
-use Rattle.osi_blameless.proofs.Vocabulary.{routed, is_stopped, takes, stops_are_said, unit, zero_stays, side_zero, Cause, Mark, Marks}
-use Rattle.osi_blameless.proofs.Vocabulary.{taken}
-use Rattle.osi_blameless.proofs.Vocabulary.{Course, cause_of, changes, earlier, first_marked, is_break, kind_of, marked, marks_of}
-use Rattle.osi_blameless.proofs.Vocabulary.{moment_of}
-use Rattle.osi_blameless.proofs.Vocabulary.{moved, noted_by, number_at, packet_begins, reached, unit_passes, unread, unread_mark}
-use Rattle.osi_blameless.proofs.Vocabulary.{unread_moment, way_of}
+use Rattle.osi_blameless.proofs.Vocabulary.{ap, inl, inr, ◌⊎◌, ◌||◌, Value, Connect, Class, Zero, other, Finding, Kept, Broke, Outside}
+use Rattle.osi_blameless.proofs.Vocabulary.{TooMany, NotJudged, Reach, Route, reach_of, State, Outcome, class_for, unnamed_told, at_place}
+use Rattle.osi_blameless.proofs.Vocabulary.{asks_by, routed, is_stopped, takes, stops_are_said, unit, zero_stays, side_zero, Cause, Mark}
+use Rattle.osi_blameless.proofs.Vocabulary.{Marks, taken, Course, cause_of, changes, earlier, first_marked, is_break, kind_of, marked}
+use Rattle.osi_blameless.proofs.Vocabulary.{marks_of, moment_of, moved, noted_by, number_at, packet_begins, reached, unit_passes, unread}
+use Rattle.osi_blameless.proofs.Vocabulary.{unread_mark, unread_moment, way_of}
 use Rattle.osi_side.specs.declared.directions.Direction.{Direction as Side}
 use Rattle.osi_side.specs.declared.directions.Direction.TheVariants as side
 use Rattle.osi_rules.specs.declared.courses.Course.{Course as Judging}

@@ -5,12 +5,10 @@ use Rattle.osi_blameless.proofs.Vocabulary.{◌++◌, ◌<◌, ◌∙◌, ◌∷
 use Rattle.osi_blameless.proofs.Vocabulary.{IsOctets, packet_of, ArePackets, units_of, Value, written, TpduFault, Local, packets, Holding}
 use Rattle.osi_blameless.proofs.Vocabulary.{Capture, of, other, Passed, Direction, packets_joined, fresh_turns, TurnOf, TurnsOf, Known}
 use Rattle.osi_blameless.proofs.Vocabulary.{packets_on, packets_then, CanBeWritten, read_again, all_did, Deeds, no_deeds, all_units}
-use Rattle.osi_blameless.proofs.Vocabulary.{IsFresh}
-use Rattle.osi_blameless.proofs.Vocabulary.{IsSeen, Run, Takes, Turn, is_break, packet_passes, units_pass, unread, advanced, faulty, Front}
-use Rattle.osi_blameless.proofs.Vocabulary.{front_of, gathered, partial, Streamed, whole, after, octet_passes, stream_of, with_stream}
-use Rattle.osi_blameless.proofs.Vocabulary.{Cause}
-use Rattle.osi_blameless.proofs.Vocabulary.{BadPacket, BadUnit, Joint, Step, Steps, StepsAlong, TakesTurn, AreOctets, IsOctet, TurnsBad}
-use Rattle.osi_blameless.proofs.Vocabulary.{arith, Course, units_by, TpktFault, IsNoPacket, IsUnread, spoilt}
+use Rattle.osi_blameless.proofs.Vocabulary.{IsFresh, IsSeen, Run, Takes, Turn, is_break, packet_passes, units_pass, unread, advanced}
+use Rattle.osi_blameless.proofs.Vocabulary.{faulty, Front, front_of, gathered, partial, Streamed, whole, after, octet_passes, stream_of}
+use Rattle.osi_blameless.proofs.Vocabulary.{with_stream, Cause, BadPacket, BadUnit, Joint, Step, Steps, StepsAlong, TakesTurn, AreOctets}
+use Rattle.osi_blameless.proofs.Vocabulary.{IsOctet, TurnsBad, arith, Course, units_by, TpktFault, IsNoPacket, IsUnread, spoilt}
 use Rattle.osi_judge.specs.Streams.{ended}
 use Rattle.osi_judge.specs.States.{State}
 use Rattle.osi_judge.specs.States as states

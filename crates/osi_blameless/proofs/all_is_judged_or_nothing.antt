@@ -2,8 +2,7 @@
 -- more. For the laws that an end is blamed nowhere.
 use Rattle.osi_blameless.proofs.Vocabulary.{ap, arith, Bool, false, if◌then◌else◌, is_some, None, true, ℕ, ◌≡◌, Reach, Direction, changes}
 use Rattle.osi_blameless.proofs.Vocabulary.{first_by, marked, marks_of, moved, unread, unread_mark, unread_moment, way_of, Cause, Mark}
-use Rattle.osi_blameless.proofs.Vocabulary.{Marks}
-use Rattle.osi_blameless.proofs.Vocabulary.{Course}
+use Rattle.osi_blameless.proofs.Vocabulary.{Marks, Course}
 use Rattle.osi_rules.specs.Traffic as traffic
 
 -- both sides are judged, and each connection

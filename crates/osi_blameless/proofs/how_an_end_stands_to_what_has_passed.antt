@@ -3,9 +3,8 @@
 use Rattle.osi_blameless.proofs.Vocabulary.{[], ap, append_assoc, arith, Bool, false, is_some, length, List, None, Option, refl, Some, true}
 use Rattle.osi_blameless.proofs.Vocabulary.{ℕ, ◌++◌, ◌<◌, ◌∷◌, ◌≡◌, ◌≢◌, ◌≤◌, length-append, AllByRecursion, end_no_packet, some_cut}
 use Rattle.osi_blameless.proofs.Vocabulary.{octets_append, octets_cons, octets_left, octets_nil, IsOctets, ArePackets, Ending, EndsAt}
-use Rattle.osi_blameless.proofs.Vocabulary.{Value}
-use Rattle.osi_blameless.proofs.Vocabulary.{written, packets, EndReason, Holding, over_acts, never_lasts, CanBeWritten, Continues, Deeds}
-use Rattle.osi_blameless.proofs.Vocabulary.{Takes, Turn, front_of, partial, IsNoFront}
+use Rattle.osi_blameless.proofs.Vocabulary.{Value, written, packets, EndReason, Holding, over_acts, never_lasts, CanBeWritten, Continues}
+use Rattle.osi_blameless.proofs.Vocabulary.{Deeds, Takes, Turn, front_of, partial, IsNoFront}
 use Rattle.osi_blameless.proofs.what_the_first_octets_are.{packets_octets, part_begins_none, used_first}
 
 -- ---- what has passed of the end, and of the other side

@@ -1,11 +1,11 @@
 -- A judge finds of no unit of an end that it breaks a rule of transport, whatever the other side sends.
 -- For the law that the transport of an end is blamed nowhere.
-use Rattle.osi_blameless.proofs.Vocabulary.{◌≡◌, ◌∙◌, ℕ, Bool, false, List, [], ◌∷◌, None, Some, inl, inr, ◌⊎◌, arith, refl, sym, ap, subst}
-use Rattle.osi_blameless.proofs.Vocabulary.{Value, Local, Capture, other, Direction, Reach, Option, Class, class_for, is_stopped, takes}
-use Rattle.osi_blameless.proofs.Vocabulary.{IsOfTwo, firm_unless_two, still_two, Two, Zero, stops_last, Holding, IsFresh, AllProper, Cause}
-use Rattle.osi_blameless.proofs.Vocabulary.{Course, marks_of, packet_begins, unit_passes, units_pass, unread, way_of, comes_to, Joint, Step}
-use Rattle.osi_blameless.proofs.Vocabulary.{Steps, begin, begins_other, begins_own, passes_other, passes_own, turns, ComesBySteps}
-use Rattle.osi_blameless.proofs.Vocabulary.{LaterAlong, LaterSteps, spoilt}
+use Rattle.osi_blameless.proofs.Vocabulary.{◌≡◌, ◌∙◌, ℕ, false, List, [], ◌∷◌, None, Some, inl, inr, ◌⊎◌, arith, refl, sym, ap, subst}
+use Rattle.osi_blameless.proofs.Vocabulary.{calls_from, Value, Local, Capture, other, Direction, Reach, Option, Class, class_for}
+use Rattle.osi_blameless.proofs.Vocabulary.{is_stopped, takes, IsOfTwo, firm_unless_two, still_two, Two, Zero, stops_last, Holding, IsFresh}
+use Rattle.osi_blameless.proofs.Vocabulary.{AllProper, Cause, Course, marks_of, packet_begins, unit_passes, units_pass, unread, way_of}
+use Rattle.osi_blameless.proofs.Vocabulary.{comes_to, Joint, Step, Steps, begin, begins_other, begins_own, passes_other, passes_own, turns}
+use Rattle.osi_blameless.proofs.Vocabulary.{ComesBySteps, LaterAlong, LaterSteps, spoilt}
 use Rattle.osi_rules.specs.declared.findings.Reach.TheVariants as reach
 use Rattle.osi_rules.specs.Sides as sides
 use Rattle.osi_blameless.proofs.all_is_judged_or_nothing.{IsJudged}
@@ -23,7 +23,7 @@ use Rattle.osi_blameless.proofs.in_class_0_one_side_alone_is_judged.{AfterUnread
 use Rattle.osi_blameless.proofs.in_class_0_one_side_alone_is_judged.{unread_alone}
 use Rattle.osi_blameless.proofs.later_steps_are_events.{later_followed, spoilt_followed}
 use Rattle.osi_blameless.proofs.steps_are_events.{IsFollowed, begin_followed, own_first}
-use Rattle.osi_blameless.proofs.no_unit_of_a_whole_end_is_a_break.{IsFairAlone, IsFair, IsNoBreak}
+use Rattle.osi_blameless.proofs.no_unit_of_a_whole_end_is_a_break.{IsNoBreak, is_fair}
 use Rattle.osi_blameless.proofs.sessions.class_0_is_known_once_it_is_selected.{IsKnownOnce, joint_known_once, unit_known_once}
 use Rattle.osi_blameless.proofs.sessions.connections_have_the_same_places.{unit_knows}
 
@@ -87,10 +87,9 @@ module _ (d : Direction) where
       by (is_left l) = is_left ((left_claim d).passes (other d) at v c l)
       by (is_alone a none) = is_alone (grind (arith, stops_last)) (other_unbroken d at v c ∙ none)
 
-  module _ (proper : AllProper) (is_caller : Bool) (local : Local) (fair : IsFair (way_of d) (wholes.begin is_caller local))
-      (fair_alone : IsFairAlone (way_of d) (wholes.begin is_caller local)) where
+  module _ (proper : AllProper) (local : Local) where
     abbrev first : wholes.Whole
-    first = wholes.begin is_caller local
+    first = wholes.begin (calls_from d) local
 
     -- a unit of the end is no break: it is fair
     own_none : (at : ℕ) (v : Value) (old new : Joint) → Steps d (passes_own at v) old new → IsFollowed d first old → IsWhole old.course →
@@ -98,14 +97,14 @@ module _ (d : Direction) where
     own_none at v old new (read, octets, put, begun, is) f w =
         let s = own_first d first old new v (read, octets, put) f in
         subst (λ (t : Traffic). IsNoBreak (takes (way_of d) v t).told.finding) f.judge
-        (fair f.events f.whole v s.rest f.along (f.begun ∙ begun) s.is
+        (is_fair d local f.events f.whole v s.rest f.along (f.begun ∙ begun) s.is
         (ap (λ (t : Traffic). is_stopped (sides.other (way_of d)) t.course) f.judge ∙ other_goes d old.course w.going))
 
     own_passes_so : (at : ℕ) (v : Value) (old new : Joint) → Steps d (passes_own at v) old new → IsFollowed d first old →
         IsBlamedNowhere old.course → IsBlamedNowhere (unit_passes d at v old.course)
     own_passes_so at v old new step f (is_left l) = is_left ((left_claim d).passes d at v old.course l)
     own_passes_so at v old new step f (is_alone a none) =
-        search (arith, alone_own, own_unbroken, own_alone d proper is_caller local fair_alone at v old new step f a)
+        search (arith, alone_own, own_unbroken, own_alone d local at v old new step f a)
     own_passes_so at v old new step f (is_whole w) = by (mild_reach d at v old.course _ refl none)
       where
         none : IsNoBreak (takes (way_of d) v old.course.traffic).told.finding
@@ -131,7 +130,7 @@ module _ (d : Direction) where
     later_so begins_other old new step f h = grind (arith, begins_so)
     later_so (passes_other at packet units) old new step f h =
         subst (λ (j : Joint). IsBlamedNowhere j.course) (sym step.2)
-        (others_pass at units old.course (joint_known_once d is_caller local old f) h)
+        (others_pass at units old.course (joint_known_once d (calls_from d) local old f) h)
 
     -- the end and the judge, and whether this side is blamed
     record Stood (j : Joint) : Type 0 where
@@ -164,28 +163,26 @@ module _ (d : Direction) where
   nothing : (e : Direction) → (marks_of e fresh).broke ≡ None
   nothing e = grind arith
 
-  never_blamed : AllProper → (is_caller : Bool) (local : Local) (h : Holding) (capture : Capture) → IsFresh is_caller local h →
-      IsFair (way_of d) (wholes.begin is_caller local) → IsFairAlone (way_of d) (wholes.begin is_caller local) →
+  never_blamed : AllProper → (local : Local) (h : Holding) (capture : Capture) → IsFresh (calls_from d) local h →
       ComesBySteps d capture h → IsBlamedNowhere (comes_to capture).course
-  never_blamed proper is_caller local h capture anew fair fair_alone comes = by comes.on
+  never_blamed proper local h capture anew comes = by comes.on
     where
-      last : Stood proper is_caller local fair fair_alone comes.last
-      last = stood_along proper is_caller local fair fair_alone comes.steps (begin h) comes.last
+      last : Stood proper local comes.last
+      last = stood_along proper local comes.steps (begin h) comes.last
           (along_too d comes.steps (begin h) comes.last comes.along) (record {
-            followed = begin_followed d is_caller local h anew;
+            followed = begin_followed d (calls_from d) local h anew;
             nowhere = grind (arith, nothing);
           })
 
       by : ((comes_to capture).course ≡ comes.last.course) ⊎ GoesOn d capture comes.last → IsBlamedNowhere (comes_to capture).course
       by (inl is) = subst IsBlamedNowhere (sym is) last.nowhere
       by (inr g) = subst IsBlamedNowhere (sym g.all)
-          (stood_along proper is_caller local fair fair_alone g.steps (spoilt d g.at g.cause g.packets comes.last) g.end g.along
-          (spoilt_so proper is_caller local fair fair_alone g.at g.cause g.packets g.none comes.last last)).nowhere
+          (stood_along proper local g.steps (spoilt d g.at g.cause g.packets comes.last) g.end g.along
+          (spoilt_so proper local g.at g.cause g.packets g.none comes.last last)).nowhere
 
   unbroken_by : (c : Course) → IsBlamedNowhere c → (marks_of d c).broke ≡ None
   unbroken_by c h = grind arith
 
-  pub always_unbroken : AllProper → (is_caller : Bool) (local : Local) (h : Holding) (capture : Capture) → IsFresh is_caller local h →
-      IsFair (way_of d) (wholes.begin is_caller local) → IsFairAlone (way_of d) (wholes.begin is_caller local) →
+  pub always_unbroken : AllProper → (local : Local) (h : Holding) (capture : Capture) → IsFresh (calls_from d) local h →
       ComesBySteps d capture h → (marks_of d (comes_to capture).course).broke ≡ None
-  always_unbroken proper is_caller local h capture anew fair fair_alone comes = search (arith, unbroken_by, never_blamed)
+  always_unbroken proper local h capture anew comes = search (arith, unbroken_by, never_blamed)

@@ -1,11 +1,9 @@
 -- Small facts that lemmas of several files use: of truth values, lists and numbers, and of one step of a connection.
 -- For all proofs of this crate.
 use Rattle.osi_blameless.proofs.Vocabulary.{AllByRecursion, Bool, CanBeWritten, Carrier, Class, Connection, EndReason, Fits}
-use Rattle.osi_blameless.proofs.Vocabulary.{HasFieldsInRange}
-use Rattle.osi_blameless.proofs.Vocabulary.{List, None, Option, Some, Time as Stage, Two, Value, Zero, [], amid, ap, early, false}
-use Rattle.osi_blameless.proofs.Vocabulary.{has_given}
-use Rattle.osi_blameless.proofs.Vocabulary.{is_some, le-leb, lt-ltb, nat_le, past, refl, sym, true, ℕ, ◌&&◌, ◌++◌, ◌<◌, ◌||◌, ◌∙◌, ◌∷◌, ◌≡◌}
-use Rattle.osi_blameless.proofs.Vocabulary.{◌≤◌, arith}
+use Rattle.osi_blameless.proofs.Vocabulary.{HasFieldsInRange, List, None, Option, Some, Time as Stage, Two, Value, Zero, [], amid, ap}
+use Rattle.osi_blameless.proofs.Vocabulary.{early, false, has_given, stage_at, stage_over, is_some, le-leb, lt-ltb, nat_le, past, refl, sym}
+use Rattle.osi_blameless.proofs.Vocabulary.{true, ℕ, ◌&&◌, ◌++◌, ◌<◌, ◌||◌, ◌∙◌, ◌∷◌, ◌≡◌, ◌≤◌, arith}
 
 pub all_front : {X : Type 0} (P : X → Type 0) (xs ys : List X) → AllByRecursion P (xs ++ ys) → AllByRecursion P xs
 all_front P [] ys h = tt
@@ -29,6 +27,10 @@ pub can_more : (some others : List Value) → AllByRecursion CanBeWritten some �
     AllByRecursion CanBeWritten (some ++ others)
 can_more [] others a b = b
 can_more (v ∷ some) others a b = (a.0, can_more some others a.1 b)
+
+-- a connection that may still open is of an end that lasts
+pub early_lasts : (r : ℕ) (c : Carrier) → stage_at r c ≡ early → c.ended ≡ None
+early_lasts r c may = grind (arith, stage_at, stage_over)
 
 pub given_so : (r : ℕ) (c : Carrier) → 0 < r → r ≤ c.given → has_given r c ≡ true
 given_so r c some up = ap (λ (b : Bool). b && nat_le r c.given) (lt-ltb 0 r some) ∙ le-leb r c.given up

@@ -166,7 +166,8 @@ module _ (d : Direction) (first : Whole) where
       })
 
   -- units of the other side pass
-  units_so : (at : ℕ) (units : List Value) (w : Whole) (c : Course) → AllByRecursion Fits units → w.judge ≡ c.traffic → Passed d at units w c
+  units_so : (at : ℕ) (units : List Value) (w : Whole) (c : Course) → AllByRecursion Fits units → w.judge ≡ c.traffic →
+      Passed d at units w c
   units_so at [] w c fits same = record {
     events = [];
     along = λ i. record w { judge = sym same i; coming = append-nil w.coming i };

@@ -2,11 +2,9 @@
 -- then all that it used has passed.
 -- For the law that a capture of an end is steps.
 use Rattle.osi_blameless.proofs.Vocabulary.{[], ap, append_assoc, arith, inl, inr, length, List, refl, suc, sym, ℕ, ◌++◌, ◌+◌, ◌<◌, ◌∙◌}
-use Rattle.osi_blameless.proofs.Vocabulary.{◌∷◌}
-use Rattle.osi_blameless.proofs.Vocabulary.{◌≡◌, ◌≤◌, leb_tells, append_cancel_left, length-append, Capture, of, other, Passed}
-use Rattle.osi_blameless.proofs.Vocabulary.{passed_before}
-use Rattle.osi_blameless.proofs.Vocabulary.{stream, Direction, Left, Right, part_of, IsPrefix, IsSeen, PassAfter, put_along, used_along}
-use Rattle.osi_blameless.proofs.Vocabulary.{Turn}
+use Rattle.osi_blameless.proofs.Vocabulary.{◌∷◌, ◌≡◌, ◌≤◌, leb_tells, append_cancel_left, length-append, Capture, of, other, Passed}
+use Rattle.osi_blameless.proofs.Vocabulary.{passed_before, stream, Direction, Left, Right, part_of, IsPrefix, IsSeen, PassAfter, put_along}
+use Rattle.osi_blameless.proofs.Vocabulary.{used_along, Turn}
 
 -- ---- in which order octets pass and turns are taken
 

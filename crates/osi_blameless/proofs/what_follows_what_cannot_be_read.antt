@@ -1,15 +1,14 @@
 -- What follows what the other side sends and nobody can read is steps too: of the end and of the judge, which reads of that side what it
 -- can. For the law that a capture of an end is steps.
 use Rattle.osi_blameless.proofs.Vocabulary.{[], ap, append_assoc, Bool, false, if◌then◌else◌, inl, inr, List, None, refl, subst, sym, true}
-use Rattle.osi_blameless.proofs.Vocabulary.{ℕ}
-use Rattle.osi_blameless.proofs.Vocabulary.{◌++◌, ◌<◌, ◌∙◌, ◌∷◌, ◌≡◌, ◌≢◌, ◌⊎◌, append-nil, AllByRecursion, octets_nil, octets_right}
+use Rattle.osi_blameless.proofs.Vocabulary.{ℕ, ◌++◌, ◌<◌, ◌∙◌, ◌∷◌, ◌≡◌, ◌≢◌, ◌⊎◌, append-nil, AllByRecursion, octets_nil, octets_right}
 use Rattle.osi_blameless.proofs.Vocabulary.{IsOctets, packet_of, ArePackets, units_of, Value, written, packets, Holding, Capture, of, other}
 use Rattle.osi_blameless.proofs.Vocabulary.{Passed, Direction, packets_joined, TurnOf, TurnsOf, packets_on, packets_then, CanBeWritten}
 use Rattle.osi_blameless.proofs.Vocabulary.{read_again, all_did, Deeds, all_units, Takes, Turn, packet_passes, units_pass, unread, advanced}
-use Rattle.osi_blameless.proofs.Vocabulary.{counted, faulty, Front, front_of, gathered, looks, partial, Streamed, whole, after, begun}
-use Rattle.osi_blameless.proofs.Vocabulary.{Left, Right, looked_at}
-use Rattle.osi_blameless.proofs.Vocabulary.{octet_passes, stream_of, with_stream, BadPacket, Joint, Step, TakesTurn, AreOctets, IsOctet}
-use Rattle.osi_blameless.proofs.Vocabulary.{arith, IsNoFront, TpktFault, units_by, Course, IsNoPacket, LaterAlong, LaterSteps}
+use Rattle.osi_blameless.proofs.Vocabulary.{counted, faulty, Front, front_of, gathered, looks, partial, Streamed, whole, after, begun, Left}
+use Rattle.osi_blameless.proofs.Vocabulary.{Right, looked_at, octet_passes, stream_of, with_stream, BadPacket, Joint, Step, TakesTurn}
+use Rattle.osi_blameless.proofs.Vocabulary.{AreOctets, IsOctet, arith, IsNoFront, TpktFault, units_by, Course, IsNoPacket, LaterAlong}
+use Rattle.osi_blameless.proofs.Vocabulary.{LaterSteps}
 use Rattle.osi_judge.specs.Streams.{ended}
 use Rattle.osi_judge.specs.States.{State}
 use Rattle.osi_blameless.specs.Joint.Step.{turns, begins_own, passes_own, begins_other, passes_other}

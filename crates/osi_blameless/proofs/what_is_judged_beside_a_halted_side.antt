@@ -14,7 +14,7 @@ use Rattle.osi_rules.specs.Traffic.{reached}
 use Rattle.osi_blameless.proofs.a_break_ends_no_judging_or_all.{refused_traffic, refuses, unread_sessions}
 use Rattle.osi_blameless.proofs.sessions.connections_have_the_same_places.{unit_joins, unit_knows}
 use Rattle.osi_blameless.proofs.sessions.what_has_no_effect_joins_nothing.{joins_none}
-use Rattle.osi_blameless.proofs.sessions.what_the_stage_of_a_calling_end_says.{IsDt0}
+use Rattle.osi_blameless.proofs.sessions.what_the_stage_of_a_whole_end_says.{IsDt0}
 
 -- ---- the other side is not judged any more
 

@@ -2,10 +2,9 @@
 -- readings of what an end holds and uses as packets agree as far as they matter.
 -- For the units between an end and a judge.
 use Rattle.osi_blameless.proofs.Vocabulary.{[], ap, arith, length, List, map, None, Ok, Option, refl, Some, sym, ℕ, ◌++◌, ◌+◌, ◌∙◌, ◌∷◌}
-use Rattle.osi_blameless.proofs.Vocabulary.{◌≡◌}
-use Rattle.osi_blameless.proofs.Vocabulary.{◌≢◌, ◌≤◌, append-nil, length-append, AllByRecursion, IsOctets, packet_of, ArePackets, units_of}
-use Rattle.osi_blameless.proofs.Vocabulary.{Value, written, packets, EndReason, first, GoesBeyond, second, two_readings, CanBeWritten}
-use Rattle.osi_blameless.proofs.Vocabulary.{read_again}
+use Rattle.osi_blameless.proofs.Vocabulary.{◌≡◌, ◌≢◌, ◌≤◌, append-nil, length-append, AllByRecursion, IsOctets, packet_of, ArePackets}
+use Rattle.osi_blameless.proofs.Vocabulary.{units_of, Value, written, packets, EndReason, first, GoesBeyond, second, two_readings}
+use Rattle.osi_blameless.proofs.Vocabulary.{CanBeWritten, read_again}
 
 -- ---- octets of packets
 

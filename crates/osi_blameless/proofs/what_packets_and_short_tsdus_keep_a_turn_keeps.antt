@@ -2,17 +2,16 @@
 -- far, a turn of an end leaves true, whatever arrives and however much memory there is.
 -- For what a turn of an end does to its carrier. `osi_honest` has the like for TSDUs of any length.
 use Rattle.osi_blameless.proofs.Vocabulary.{[], ap, append_assoc, arith, Bool, drop, false, if◌then◌else◌, inl, inr, is_some, IsSome}
-use Rattle.osi_blameless.proofs.Vocabulary.{length}
-use Rattle.osi_blameless.proofs.Vocabulary.{List, nat_lt, None, Option, option_map, refl, Some, subst, sym, take, true, ℕ, ◌++◌, ◌∙◌, ◌∷◌}
-use Rattle.osi_blameless.proofs.Vocabulary.{◌≡◌, ◌⊎◌, nat_tests, append-nil, take-append-drop, take_all, AllByRecursion, list_any, IsOctets}
-use Rattle.osi_blameless.proofs.Vocabulary.{ArePackets, Fed, tsap_octets, Tsap, Standing, acts_cases, closed_with, may_connect}
-use Rattle.osi_blameless.proofs.Vocabulary.{send_all_error, sent_all, Happening, Carrier, EndReason, NoMemory, OpenError, Input}
-use Rattle.osi_blameless.proofs.Vocabulary.{Listener, concluded_carrier, packet_is, quiet_stops, events_heard, disconnect_carrier}
-use Rattle.osi_blameless.proofs.Vocabulary.{none_ended, found_how, after_open, Feeds, Goes as GoesThrough, TakesPackets, uses_all}
-use Rattle.osi_blameless.proofs.Vocabulary.{hears_times, RunsOut, Starves, with_carrier, with_events, AreShort, carrier_by, to_session}
-use Rattle.osi_blameless.proofs.Vocabulary.{Call, Calls, carried_in, used_in, End, Holding, ConnectError, AllProper, all_octets}
-use Rattle.osi_blameless.proofs.Vocabulary.{more_used, stopped_within, never_lasts, packets_on, packets_then, carried_by, Takes, Turn}
-use Rattle.osi_blameless.proofs.Vocabulary.{used_by, serving, using, asks, after_packet}
+use Rattle.osi_blameless.proofs.Vocabulary.{length, List, nat_lt, None, Option, option_map, refl, Some, subst, sym, take, true, ℕ, ◌++◌}
+use Rattle.osi_blameless.proofs.Vocabulary.{◌∙◌, ◌∷◌, ◌≡◌, ◌⊎◌, nat_tests, append-nil, take-append-drop, take_all, AllByRecursion, list_any}
+use Rattle.osi_blameless.proofs.Vocabulary.{IsOctets, ArePackets, Fed, tsap_octets, Tsap, Standing, acts_cases, closed_with, may_connect}
+use Rattle.osi_blameless.proofs.Vocabulary.{send_all_error, sent_all, Happening, Carrier, EndReason, NoMemory, OpenError, Input, Listener}
+use Rattle.osi_blameless.proofs.Vocabulary.{concluded_carrier, packet_is, quiet_stops, events_heard, disconnect_carrier, none_ended}
+use Rattle.osi_blameless.proofs.Vocabulary.{found_how, after_open, Feeds, Goes as GoesThrough, TakesPackets, uses_all, hears_times, RunsOut}
+use Rattle.osi_blameless.proofs.Vocabulary.{Starves, with_carrier, with_events, AreShort, carrier_by, to_session, Call, Calls, carried_in}
+use Rattle.osi_blameless.proofs.Vocabulary.{used_in, End, Holding, ConnectError, AllProper, all_octets, more_used, stopped_within}
+use Rattle.osi_blameless.proofs.Vocabulary.{never_lasts, packets_on, packets_then, carried_by, Takes, Turn, used_by, serving, using, asks}
+use Rattle.osi_blameless.proofs.Vocabulary.{after_packet}
 use Rattle.osi_carrier.specs.Packets as carriers
 use Rattle.osi_carrier.specs.State as states
 use Rattle.osi_stack.specs.Hearing.{ends}

@@ -1,12 +1,11 @@
 -- What the first octets of a packet are to a judge: of a packet that an end writes, and of one that has just passed. For what an
 -- octet does to an end and a judge.
 use Rattle.osi_blameless.proofs.Vocabulary.{[], ap, append_assoc, arith, false, inl, inr, leb, length, List, refl, subst, sym, take, true}
-use Rattle.osi_blameless.proofs.Vocabulary.{ℕ}
-use Rattle.osi_blameless.proofs.Vocabulary.{◌*◌, ◌++◌, ◌+◌, ◌-◌, ◌<◌, ◌∙◌, ◌∷◌, ◌≡◌, ◌≤◌, ◌⊎◌, take-append_seam, eqb-true, le-ltb, lt-ltb}
-use Rattle.osi_blameless.proofs.Vocabulary.{ltb-false, ltb-true, leb_tells, append-nil, length-append, take_all, take_at, octets_append}
-use Rattle.osi_blameless.proofs.Vocabulary.{IsOctets, IsPacket, packet_of, ArePackets, first, GoesBeyond, packets_on, second, two_readings}
-use Rattle.osi_blameless.proofs.Vocabulary.{part_of, packet_front, by_version, faulty, Front, front_of, partial, sized, whole, IsNoFront}
-use Rattle.osi_blameless.proofs.Vocabulary.{TpktFault}
+use Rattle.osi_blameless.proofs.Vocabulary.{ℕ, ◌*◌, ◌++◌, ◌+◌, ◌-◌, ◌<◌, ◌∙◌, ◌∷◌, ◌≡◌, ◌≤◌, ◌⊎◌, take-append_seam, eqb-true, le-ltb}
+use Rattle.osi_blameless.proofs.Vocabulary.{lt-ltb, ltb-false, ltb-true, leb_tells, append-nil, length-append, take_all, take_at}
+use Rattle.osi_blameless.proofs.Vocabulary.{octets_append, IsOctets, IsPacket, packet_of, ArePackets, first, GoesBeyond, packets_on, second}
+use Rattle.osi_blameless.proofs.Vocabulary.{two_readings, part_of, packet_front, by_version, faulty, Front, front_of, partial, sized, whole}
+use Rattle.osi_blameless.proofs.Vocabulary.{IsNoFront, TpktFault}
 
 -- ---- the version, and the length that the header states
 

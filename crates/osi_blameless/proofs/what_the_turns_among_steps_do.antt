@@ -3,8 +3,7 @@
 -- For the sessions of an end, and for the law that a capture of an end is steps.
 use Rattle.osi_blameless.proofs.Vocabulary.{[], Bool, List, ℕ, ◌∷◌, ◌≡◌, ◌⊎◌, Holding, Capture, Direction, TurnOf, all_did, Deeds, no_deeds}
 use Rattle.osi_blameless.proofs.Vocabulary.{all_units, Turn, comes_to, begins_other, begins_own, Joint, passes_other, passes_own, Step}
-use Rattle.osi_blameless.proofs.Vocabulary.{Steps}
-use Rattle.osi_blameless.proofs.Vocabulary.{StepsAlong, TakesTurn, turns, ComesBySteps, TurnsBad, begin}
+use Rattle.osi_blameless.proofs.Vocabulary.{Steps, StepsAlong, TakesTurn, turns, ComesBySteps, TurnsBad, begin}
 use Rattle.osi_blameless.specs.Spoilt.{GoesOn}
 
 -- what a turn does at each connection, at which this was done before

@@ -1,9 +1,8 @@
 -- What a capture comes to at a judge with a bound, beside what it comes to at one without: of the transport the same is found, and at no
 -- moment is a session of a side to blame at the one if none ever is at the other.
 -- For the law on a judge with a bound.
-use Rattle.osi_blameless.proofs.Vocabulary.{arith, ◌≡◌, ◌∙◌, refl, sym, ap, subst, ℕ, Bool, if◌then◌else◌, is_some, List, []}
-use Rattle.osi_blameless.proofs.Vocabulary.{◌∷◌, ◌++◌, AllByRecursion, Option, Value, Capture, Direction, Left, Reach, Told, Outcome, takes}
-use Rattle.osi_blameless.proofs.Vocabulary.{Cause}
+use Rattle.osi_blameless.proofs.Vocabulary.{arith, ◌≡◌, ◌∙◌, refl, sym, ap, subst, ℕ, Bool, if◌then◌else◌, is_some, List, [], ◌∷◌, ◌++◌}
+use Rattle.osi_blameless.proofs.Vocabulary.{AllByRecursion, Option, Value, Capture, Direction, Left, Reach, Told, Outcome, takes, Cause}
 use Rattle.osi_blameless.proofs.Vocabulary.{Mark, Octets, Sessions, taken, Course, Moment, fresh_within, marked, marks_of, moved, noted_by}
 use Rattle.osi_blameless.proofs.Vocabulary.{number_at, packet_begins, unit_passes, unread, unread_mark, unread_moment, way_of, begin_within}
 use Rattle.osi_blameless.proofs.Vocabulary.{comes_to, marked_past, AreMomentsOf, IsCourseOf, IsMomentOf, comes_within}

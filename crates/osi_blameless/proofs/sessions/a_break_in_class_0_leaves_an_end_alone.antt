@@ -5,8 +5,7 @@ use Rattle.osi_blameless.proofs.Vocabulary.{◌++◌, map, length, Some, arith, 
 use Rattle.osi_blameless.proofs.Vocabulary.{units_of, Value, data0, written, TpduFault, Two, Zero, Local, other, Direction, is_applied}
 use Rattle.osi_blameless.proofs.Vocabulary.{class_for, takes, side_zero, Deeds, AreHard, IsHard, Known, Cause, unit_passes, units_pass}
 use Rattle.osi_blameless.proofs.Vocabulary.{unread, way_of, Joint, Step, begins_other, begins_own, passes_other, passes_own, turns}
-use Rattle.osi_blameless.proofs.Vocabulary.{stops_last}
-use Rattle.osi_blameless.proofs.Vocabulary.{calls_from, IsNoPacket, IsUnread, LaterAlong, LaterSteps, spoilt}
+use Rattle.osi_blameless.proofs.Vocabulary.{stops_last, calls_from, IsNoPacket, IsUnread, LaterAlong, LaterSteps, spoilt}
 use Rattle.osi_rules.specs.declared.courses.Course.{Course as Judging}
 use Rattle.osi_rules.specs.declared.findings.Reach.TheVariants as reach
 use Rattle.osi_fair.specs.Pieces.{units_in}
@@ -17,7 +16,6 @@ use Rattle.osi_blameless.proofs.an_end_that_is_judged_alone_stays_so.{later_kept
 use Rattle.osi_blameless.proofs.in_class_0_one_side_alone_is_judged.{IsAlone}
 use Rattle.osi_blameless.proofs.later_steps_are_events.{later_followed, spoilt_followed}
 use Rattle.osi_blameless.proofs.steps_are_events.{IsFollowed}
-use Rattle.osi_blameless.proofs.no_unit_of_a_whole_end_is_a_break.{IsFairAlone, IsFair}
 use Rattle.osi_blameless.proofs.all_is_judged_or_nothing.{IsJudged}
 use Rattle.osi_blameless.proofs.what_is_halted_stays_halted.{unread_same}
 use Rattle.osi_blameless.proofs.what_passes_keeps_a_claim.{units_kept}
@@ -33,7 +31,8 @@ use Rattle.osi_blameless.proofs.sessions.an_end_of_class_0_has_its_connection_op
 use Rattle.osi_blameless.proofs.sessions.each_step_leaves_class_0_one_connection.{Sure, sure_claim}
 use Rattle.osi_blameless.proofs.sessions.no_more_tsdus_than_moments_have_passed.{AreFew, few_claim}
 use Rattle.osi_blameless.proofs.sessions.what_is_asked_of_what_holds_at_each_step.{ArePassed, Keeps, firm_so, goes_so, long_claim}
-use Rattle.osi_blameless.proofs.sessions.what_is_asked_of_what_holds_at_each_step.{units_join}
+use Rattle.osi_blameless.proofs.sessions.what_is_asked_of_what_holds_at_each_step.{knows_zero, units_join}
+use Rattle.osi_blameless.proofs.small_facts_that_many_lemmas_use.{zero_two}
 use Rattle.osi_blameless.proofs.sessions.nobody_of_a_side_is_to_blame.{NeverToBlame, NoneIsToBlame, never_begins, never_stopped, never_unit}
 use Rattle.osi_blameless.proofs.sessions.the_first_units_of_a_packet_are_a_packet.{leads_off, leads_read}
 
@@ -67,14 +66,12 @@ units_alone d at (v ∷ vs) c a h =
     units_alone d at vs (unit_passes (other d) at v c) (grind (arith, stops_last)) (never_stopped d (other d) at v c a.stopped h)
 
 module _ (known : Known) (d : Direction) (local : Local)
-    (fair : IsFair (way_of d) (wholes.begin (calls_from d) local))
-    (fair_alone : IsFairAlone (way_of d) (wholes.begin (calls_from d) local)) (Inv : (ℕ → Deeds) → Joint → Type 0)
-    (k : Keeps Two d local Inv) (has_begun : HasBegun d Inv) where
+    (Inv : (ℕ → Deeds) → Joint → Type 0) (k : Keeps Two d local Inv) (has_begun : HasBegun d Inv) where
   abbrev pub Judged : (ℕ → Deeds) → Joint → Type 0
   Judged deeds j = Goes known.proper Two d local Inv k deeds j
 
   abbrev pub AsWithout : Bool → Joint → Type 0
-  AsWithout ends j = IsAsWithout known d local fair fair_alone Inv k has_begun ends j
+  AsWithout ends j = IsAsWithout known d local Inv k has_begun ends j
 
   -- ---- a unit with which the judging of the other side ends
 
@@ -130,7 +127,7 @@ module _ (known : Known) (d : Direction) (local : Local)
 
     begins_alone : IsFollowed d (wholes.begin (calls_from d) local) new → (w : Joint) → Before w → AsWithout false new
     begins_alone f w b =
-        let s = still_units known d local fair fair_alone Inv k has_begun at back (unit_passes (other d) at v c) c (record {
+        let s = still_units known d local Inv k has_begun at back (unit_passes (other d) at v c) c (record {
           beside = beside_break d at v c zero (goes_so (other d) c judged) unapplied side;
           alone = alone;
           few = (few_claim (other d)).passes (other d) at v c (grind (arith, units_kept, few_claim));
@@ -163,7 +160,8 @@ module _ (known : Known) (d : Direction) (local : Local)
             let front_read : units_of l.packet ≡ Ok front = leads_read (u ∷ xs) l ∙ ap (λ (f : List Value). Ok f) (sym some) in
             let w : Joint = record old { course = c; coming = old.coming ++ l.packet ∷ [] } in
             begins_alone f w (record {
-              goes = other_goes known.proper Two d local Inv k deeds at l.packet front old w (l.octets, front_read, refl) g taken judged never;
+              goes = other_goes known.proper Two d local Inv k deeds at l.packet front old w (l.octets, front_read, refl) g taken
+                  (zero_two c.traffic.course.class (knows_zero (other d) c sure zero)) judged never;
               holding = refl;
               put = refl;
               begun = refl;
@@ -182,7 +180,7 @@ module _ (known : Known) (d : Direction) (local : Local)
     abbrev bad : Joint
     bad = spoilt d at cause packets old
 
-    as_without : (ends : Bool) → How known d local fair fair_alone Inv k has_begun ends old bad → AsWithout ends bad
+    as_without : (ends : Bool) → How known d local Inv k has_begun ends old bad → AsWithout ends bad
     as_without ends how = record {
       deeds = deeds;
       without = old;
@@ -233,8 +231,8 @@ module _ (known : Known) (d : Direction) (local : Local)
         };
       }
     where
-      by : How known d local fair fair_alone Inv k has_begun false a.without old →
-          How known d local fair fair_alone Inv k has_begun false a.without (spoilt d at cause packets old)
+      by : How known d local Inv k has_begun false a.without old →
+          How known d local Inv k has_begun false a.without (spoilt d at cause packets old)
       by (is_over over) = is_over over
       by (waits_for reads same front extra is all packet more there hard) =
           waits_for reads same front extra is all packet (more ++ packets)
@@ -249,7 +247,7 @@ module _ (known : Known) (d : Direction) (local : Local)
   later_step ends (passes_own at v) old new step none short a = search (arith, own_alone_so)
   later_step true (passes_other at packet units) old new step none short a = absurd (none refl)
   later_step false (passes_other at packet units) old new (octets, read, is) none short a =
-      other_alone known d local fair fair_alone Inv k has_begun at packet units old new is
+      other_alone known d local Inv k has_begun at packet units old new is
       (later_followed d first known.proper (passes_other at packet units) old new (octets, read, is) a.is.followed) a
 
   -- nobody of the end is to blame
@@ -263,7 +261,7 @@ module _ (known : Known) (d : Direction) (local : Local)
   never_alone ends (passes_own at v) old new step a now never =
       subst (λ (j : Joint). NeverToBlame d j.course) (sym step.4) (never_unit d d at v old.course never
       (subst (λ (j : Joint). NoneIsToBlame d j.course.sessions) step.4
-      (none_alone known d local fair fair_alone Inv k has_begun ends new now)))
+      (none_alone known d local Inv k has_begun ends new now)))
   never_alone ends (passes_other at packet units) old new step a now never =
       subst (λ (j : Joint). NeverToBlame d j.course) (sym step.2) (units_alone d at units old.course a.is.alone never)
 

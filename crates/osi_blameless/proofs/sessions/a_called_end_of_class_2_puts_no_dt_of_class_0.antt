@@ -2,13 +2,11 @@
 -- For the units that a called end puts.
 use Rattle.osi_blameless.proofs.Vocabulary.{[], ap, append_assoc, false, List, map, None, Ok, Option, refl, Some, subst, sym, ℕ, ◌&&◌, ◌++◌}
 use Rattle.osi_blameless.proofs.Vocabulary.{◌∙◌, ◌∷◌, ◌≡◌, AllByRecursion, slice_get, acknowledge, data0, data2, disconnected, Value}
-use Rattle.osi_blameless.proofs.Vocabulary.{written}
-use Rattle.osi_blameless.proofs.Vocabulary.{Flow, ack, part0, part2, Standing, give_out, hand_in, hand_out, Move, Moves, take_in, Local}
-use Rattle.osi_blameless.proofs.Vocabulary.{Connection, Way as Direction, Continues, Deeds, all_units, Turn, answering, AreStrays, Called}
-use Rattle.osi_blameless.proofs.Vocabulary.{refuses, runs, Stand, StrayIf, at_first, at_join, first_at, Placed, values, gives_so, takes_so}
-use Rattle.osi_blameless.proofs.Vocabulary.{Act, Acts, ActsAlong, begins_elsewhere, ignores, Line, moves, units_put, Whole, Joint}
-use Rattle.osi_blameless.proofs.Vocabulary.{TakesTurn}
-use Rattle.osi_blameless.proofs.Vocabulary.{comes, arith}
+use Rattle.osi_blameless.proofs.Vocabulary.{written, Flow, ack, part0, part2, Standing, give_out, hand_in, hand_out, Move, Moves, take_in}
+use Rattle.osi_blameless.proofs.Vocabulary.{Local, Connection, Way as Direction, Continues, Deeds, all_units, Turn, answering, AreStrays}
+use Rattle.osi_blameless.proofs.Vocabulary.{Called, refuses, runs, Stand, StrayIf, at_first, at_join, first_at, Placed, values, gives_so}
+use Rattle.osi_blameless.proofs.Vocabulary.{takes_so, Act, Acts, ActsAlong, begins_elsewhere, ignores, Line, moves, units_put, Whole, Joint}
+use Rattle.osi_blameless.proofs.Vocabulary.{TakesTurn, comes, arith}
 use Rattle.osi_class.specs.Link.{taken}
 use Rattle.osi_rules.specs.declared.directions.Direction.TheVariants.{Right}
 use Rattle.osi_fair.specs.Lines.{answers, begins_other, begins_own, closes, passes_other, passes_own}

@@ -4,8 +4,7 @@
 use Rattle.osi_blameless.proofs.Vocabulary.{[], ap, append_assoc, Bool, List, None, refl, Some, subst, sym, true, ℕ, ◌++◌, ◌∙◌, ◌∷◌, ◌≡◌}
 use Rattle.osi_blameless.proofs.Vocabulary.{append-nil, AllByRecursion, confirm, Connect, request, Value, Local, Carrier, has_given, early}
 use Rattle.osi_blameless.proofs.Vocabulary.{Time as Stage, stage_at, stage_is, all_units_more, Opens, all_units, Marked, Follows, IsNoCc}
-use Rattle.osi_blameless.proofs.Vocabulary.{Row}
-use Rattle.osi_blameless.proofs.Vocabulary.{Tracked, first_kept, IsDc, first_left, names, picked_join, those, those_join, Line, Whole}
+use Rattle.osi_blameless.proofs.Vocabulary.{Row, Tracked, first_kept, IsDc, first_left, names, picked_join, those, those_join, Line, Whole}
 use Rattle.osi_blameless.proofs.Vocabulary.{acknowledge, data0, data2, disconnect, disconnected, error, false, ◌||◌, slice_get, Connection}
 use Rattle.osi_blameless.proofs.Vocabulary.{is_tracked, arith, is_dr, IsOngoing}
 use Rattle.osi_blameless.proofs.small_facts_that_many_lemmas_use.{amid_not, over_not}

@@ -1,13 +1,12 @@
 -- A CC of class 0 opens the connection that the end has asked for, or answers; at the judge no other one has a reference that the end still
 -- uses. For the session of the connection of an end in class 0.
-use Rattle.osi_rules.specs.declared.disconnects.Disconnects.{Disconnects}
 use Rattle.osi_blameless.proofs.Vocabulary.{arith, ◌≡◌, ◌∙◌, ◌⊎◌, inl, inr, refl, sym, ap, subst, ℕ, Bool, true, false, if◌then◌else◌, List}
-use Rattle.osi_blameless.proofs.Vocabulary.{[], ◌∷◌, Option, Some, None, ◌==◌, slice_get, eqb-true, Connect, Value, confirm, Class}
-use Rattle.osi_blameless.proofs.Vocabulary.{Connection, Offer, Finding, Broke, NotJudged, Outside, Reach, Half, Phase, is_applied}
-use Rattle.osi_blameless.proofs.Vocabulary.{first_failed, given_again, is_refused, is_silent, Outcome, State, at_found, class_of}
-use Rattle.osi_blameless.proofs.Vocabulary.{connection_after, found_on, is_stopped, in_doubt, judged_on, sent_on, takes, unnamed_by, unlike}
-use Rattle.osi_blameless.proofs.Vocabulary.{AreJudged, Waits, after_change, calm_judge, set_there, Joined, Sessions, reference_of, taken}
-use Rattle.osi_blameless.proofs.Vocabulary.{Course, HaveSamePlaces, differ}
+use Rattle.osi_blameless.proofs.Vocabulary.{Direction, unit_passes, [], ◌∷◌, Option, Some, None, ◌==◌, slice_get, eqb-true, Connect, Value}
+use Rattle.osi_blameless.proofs.Vocabulary.{confirm, Class, Connection, Offer, Finding, Broke, NotJudged, Outside, Reach, Half, Phase}
+use Rattle.osi_blameless.proofs.Vocabulary.{is_applied, first_failed, given_again, is_refused, is_silent, Outcome, State, at_found}
+use Rattle.osi_blameless.proofs.Vocabulary.{class_of, connection_after, found_on, is_stopped, in_doubt, judged_on, sent_on, takes}
+use Rattle.osi_blameless.proofs.Vocabulary.{unnamed_by, unlike, AreJudged, Waits, after_change, calm_judge, set_there, Joined, Sessions}
+use Rattle.osi_blameless.proofs.Vocabulary.{reference_of, taken, Course, HaveSamePlaces, differ, Disconnects}
 use Rattle.osi_side.specs.declared.directions.Direction.TheVariants as side
 use Rattle.osi_rules.specs.declared.directions.Direction.TheVariants.{Right}
 use Rattle.osi_rules.specs.declared.findings.Rule.TheVariants as rule
@@ -16,11 +15,12 @@ use Rattle.osi_judge.specs.Connections as joined
 use Rattle.osi_blameless.proofs.what_a_taker_passes_over.{IsMild}
 use Rattle.osi_blameless.proofs.sessions.a_unit_is_joined_where_it_is_named.{joined_named}
 use Rattle.osi_blameless.proofs.sessions.class_0_keeps_its_one_place.{HasOne}
-use Rattle.osi_blameless.proofs.sessions.connections_have_the_same_places.{at_same}
+use Rattle.osi_blameless.proofs.sessions.connections_have_the_same_places.{at_same, unit_joins, unit_knows}
+use Rattle.osi_blameless.proofs.sessions.no_connection_is_opened_before_a_class_is_selected.{AreUncalled}
 use Rattle.osi_blameless.proofs.sessions.each_reference_of_an_end_is_new.{AreUpTo, IsWithin}
 use Rattle.osi_blameless.proofs.sessions.references_of_an_end_are_distinct.{AreDistinct}
 use Rattle.osi_blameless.proofs.sessions.what_a_unit_does_at_its_place.{Does, asks_again, asks_more, nowhere, somewhere, unit_does}
-use Rattle.osi_blameless.proofs.small_facts_that_many_lemmas_use.{same_one}
+use Rattle.osi_blameless.proofs.small_facts_that_many_lemmas_use.{not_some, same_one}
 
 -- ---- small facts
 
@@ -94,6 +94,13 @@ module _ (n : ℕ) (x : Connect) (at : ℕ) (c : Course) (places : HaveSamePlace
   pub effect : HasEffect s (class_of x) (takes Right unit s)
   effect = has_effect n x s goes class firm judged mild
 
+  -- it is for a connection with this reference
+  pub opens_within : (b : ℕ) → AreUpTo side.Left b t → IsWithin b n
+  opens_within b low =
+      let (k, here, one) = at_same s.connections t.live effect.place effect.connection places effect.there in
+      low.live effect.place k n here
+      (joined_named side.Right unit c n effect.place effect.connection k places refl effect.told effect.there effect.judged here)
+
   -- the one that waits for its answer has this reference
   pub awaits_this : (r p : ℕ) (o : Offer) (cs : List Connection) (drs : Disconnects) → s ≡ calm_judge cs drs → Waits r p o cs → n ≡ r
   awaits_this r p o cs drs judge w =
@@ -114,83 +121,76 @@ module _ (n : ℕ) (x : Connect) (at : ℕ) (c : Course) (places : HaveSamePlace
           silent_not effect.connection.right.phase effect.silent
           (w.others effect.place effect.connection at_it (unlike effect.place p e)).1
 
-  module _ (gone : ℕ → Type 0) (distinct : AreDistinct side.Left t) (b : ℕ) (low : AreUpTo side.Left b t)
-      (rest : (q : ℕ) → IsWithin b q → (q ≡ n → ⊥) → gone q) where
-    mine_by : (p : ℕ) (j next z : Joined) → reference_of side.Left j ≡ Some n → reference_of side.Left next ≡ reference_of side.Left j →
-        ((p ≡ p) × (z ≡ next)) ⊎ ((p ≡ p → ⊥) × (slice_get t.live p ≡ Some z)) →
-        reference_of side.Left z ≡ Some n
-    mine_by p j next z mine same h = grind arith
+  -- ---- the place where it opens, and the others
 
-    others_by : (p : ℕ) (j next : Joined) (i : ℕ) (z : Joined) (q : ℕ) → (i ≡ p → ⊥) → slice_get t.live p ≡ Some j →
-        reference_of side.Left j ≡ Some n → ((i ≡ p) × (z ≡ next)) ⊎ ((i ≡ p → ⊥) × (slice_get t.live i ≡ Some z)) →
-        reference_of side.Left z ≡ Some q → gone q
-    others_by p j next i z q apart here mine (inl (e, is)) named = absurd (apart e)
-    others_by p j next i z q apart here mine (inr (other, is)) named =
-        rest q (low.live i z q is named)
-        (λ e. apart (distinct.live i p z j n is here (named ∙ ap (λ (m : ℕ). Some m) e) mine))
+  abbrev Then : Direction → ℕ → (ℕ → Type 0) → Type 0
+  Then d r gone = HasOne d r gone (unit_passes side.Right at unit c).traffic (unit_passes side.Right at unit c).sessions
 
-    opened_by : Does side.Right at unit s t (takes Right unit s) → HasOne side.Left n gone (takes Right unit s).state
+  -- a side has this reference where it opens, and all its other ones are gone
+  record OpensOne (d : Direction) (r : ℕ) (gone : ℕ → Type 0) (p : ℕ) (j : Joined) : Type 0 where
+    mine : reference_of d (joined.opened x.source (joined.class_of unit) j) ≡ Some r
+    others : (i : ℕ) (z : Joined) (q : ℕ) → (i ≡ p → ⊥) → slice_get t.live i ≡ Some z → reference_of d z ≡ Some q → gone q
+    done : (i : ℕ) (z : Joined) (q : ℕ) → slice_get t.done i ≡ Some z → reference_of d z ≡ Some q → gone q
+
+  module _ (d : Direction) (r : ℕ) (gone : ℕ → Type 0) (one : (p : ℕ) (k : Connection) (j : Joined) →
+      (takes Right unit s).told.place ≡ Some p → slice_get s.connections p ≡ Some k → slice_get t.live p ≡ Some j →
+      OpensOne d r gone p j) where
+    mine_by : (p : ℕ) (next z : Joined) → reference_of d next ≡ Some r →
+        ((p ≡ p) × (z ≡ next)) ⊎ ((p ≡ p → ⊥) × (slice_get t.live p ≡ Some z)) → reference_of d z ≡ Some r
+    mine_by p next z mine h = grind arith
+
+    others_by : (p : ℕ) (j next z : Joined) → OpensOne d r gone p j → (i q : ℕ) → (i ≡ p → ⊥) →
+        ((i ≡ p) × (z ≡ next)) ⊎ ((i ≡ p → ⊥) × (slice_get t.live i ≡ Some z)) → reference_of d z ≡ Some q → gone q
+    others_by p j next z o i q apart (inl (e, is)) named = absurd (apart e)
+    others_by p j next z o i q apart (inr (other, is)) named = o.others i z q apart is named
+
+    opened_by : Does side.Right at unit s t (takes Right unit s) → HasOne d r gone (takes Right unit s).state
         (taken side.Right at unit (takes Right unit s).told.meaning (takes Right unit s).told.place t)
     opened_by (nowhere place cs ts) = no_place (takes Right unit s).told.place effect.place place effect.told
-    opened_by (somewhere p k j false y place there here one finding is far cs ts) = grind (arith, differ, effect)
-    opened_by (somewhere p k j true y place there here one finding is far cs ts) =
-        let mine : reference_of side.Left j ≡ Some n =
-        joined_named side.Right unit c n p k j places refl place there (judged firm p k there) here in
+    opened_by (somewhere p k j false y place there here one_of finding is far cs ts) = grind (arith, differ, effect)
+    opened_by (somewhere p k j true y place there here one_of finding is far cs ts) =
+        let o = one p k j place there here in
         let new : Connection = connection_after Right unit true y k in
         let next : Joined = joined.opened x.source (joined.class_of unit) j in
-        subst (HasOne side.Left n gone (takes Right unit s).state) (sym ts) (record {
+        subst (HasOne d r gone (takes Right unit s).state) (sym ts) (record {
           place = p;
           connection = new;
           there = ap (λ (l : List Connection). slice_get l p) cs ∙ set_there s.connections p new k there;
           up = ap (λ (z : Half). is_refused z.phase) (judged_right y (sent_on Right unit k));
-          mine = λ z at_z. mine_by p j next z mine refl (after_change t.live p p next z at_z);
-          others = λ i z q apart at_z named.
-              others_by p j next i z q apart here mine (after_change t.live p i next z at_z) named;
-          done = λ i z q at_z named.
-              let within = low.done i z q at_z named in
-              rest q within (λ e. distinct.done p i j z n here at_z mine (named ∙ ap (λ (m : ℕ). Some m) e));
+          mine = λ z at_z. mine_by p next z o.mine (after_change t.live p p next z at_z);
+          others = λ i z q apart at_z named. others_by p j next z o i q apart (after_change t.live p i next z at_z) named;
+          done = o.done;
         })
     opened_by (asks_more y is number cs ts) = absurd (cc is)
     opened_by (asks_again y is number p k here free cs ts) = absurd (cc is)
 
-    pub cc_opens : HasOne side.Left n gone (takes Right unit s).state
-        (taken side.Right at unit (takes Right unit s).told.meaning (takes Right unit s).told.place t)
-    cc_opens = opened_by (unit_does side.Right at unit s t places)
+    opens_one : Then d r gone
+    opens_one = search (arith, unit_knows, unit_joins, opened_by (unit_does side.Right at unit s t places))
 
-  -- ---- the end has put the CC, and has answered no other CR
+  -- left gave the reference with its CR: no other connection has it
+  pub cc_opens : (gone : ℕ → Type 0) → AreDistinct side.Left t → (b : ℕ) → AreUpTo side.Left b t →
+      ((q : ℕ) → IsWithin b q → (q ≡ n → ⊥) → gone q) → Then side.Left n gone
+  cc_opens gone distinct b low rest =
+      opens_one side.Left n gone
+      (λ p k j place there here.
+      let mine : reference_of side.Left j ≡ Some n =
+      joined_named side.Right unit c n p k j places refl place there (judged firm p k there) here in
+      record {
+        mine = mine;
+        others = λ i z q apart at_z named.
+            rest q (low.live i z q at_z named)
+            (λ e. apart (distinct.live i p z j n at_z here (named ∙ ap (λ (m : ℕ). Some m) e) mine));
+        done = λ i z q at_z named.
+            rest q (low.done i z q at_z named)
+            (λ e. distinct.done p i j z n here at_z mine (named ∙ ap (λ (m : ℕ). Some m) e));
+      })
 
-  module _ (gone : ℕ → Type 0) (unnamed : (i : ℕ) (j : Joined) → slice_get t.live i ≡ Some j → reference_of side.Right j ≡ None)
-      (none_done : (i : ℕ) (j : Joined) → slice_get t.done i ≡ Some j → reference_of side.Right j ≡ None) where
-    no_name : {A : Type 0} (o : Option ℕ) (q : ℕ) → o ≡ None → o ≡ Some q → A
-    no_name o q h e = absurd (cc)
-
-    answered_mine : (p : ℕ) (next z : Joined) → reference_of side.Right next ≡ Some x.source →
-        ((p ≡ p) × (z ≡ next)) ⊎ ((p ≡ p → ⊥) × (slice_get t.live p ≡ Some z)) → reference_of side.Right z ≡ Some x.source
-    answered_mine p next z mine h = grind arith
-
-    answered_others : (p i : ℕ) (next z : Joined) (q : ℕ) → (i ≡ p → ⊥) →
-        ((i ≡ p) × (z ≡ next)) ⊎ ((i ≡ p → ⊥) × (slice_get t.live i ≡ Some z)) → reference_of side.Right z ≡ Some q → gone q
-    answered_others p i next z q apart h named = search (arith, no_name)
-
-    answered_by : Does side.Right at unit s t (takes Right unit s) → HasOne side.Right x.source gone (takes Right unit s).state
-        (taken side.Right at unit (takes Right unit s).told.meaning (takes Right unit s).told.place t)
-    answered_by (nowhere place cs ts) = no_place (takes Right unit s).told.place effect.place place effect.told
-    answered_by (somewhere p k j false y place there here one finding is far cs ts) = grind (arith, differ, effect)
-    answered_by (somewhere p k j true y place there here one finding is far cs ts) =
-        let new : Connection = connection_after Right unit true y k in
-        let next : Joined = joined.opened x.source (joined.class_of unit) j in
-        subst (HasOne side.Right x.source gone (takes Right unit s).state) (sym ts) (record {
-          place = p;
-          connection = new;
-          there = ap (λ (l : List Connection). slice_get l p) cs ∙ set_there s.connections p new k there;
-          up = ap (λ (z : Half). is_refused z.phase) (judged_right y (sent_on Right unit k));
-          mine = λ z at_z. answered_mine p next z refl (after_change t.live p p next z at_z);
-          others = λ i z q apart at_z named. answered_others p i next z q apart (after_change t.live p i next z at_z) named;
-          done = λ i z q at_z named. no_name (reference_of side.Right z) q (none_done i z at_z) named;
-        })
-    answered_by (asks_more y is number cs ts) = absurd (cc is)
-    answered_by (asks_again y is number p k here free cs ts) = absurd (cc is)
-
-    pub cc_answers : HasOne side.Right x.source gone (takes Right unit s).state
-        (taken side.Right at unit (takes Right unit s).told.meaning (takes Right unit s).told.place t)
-    cc_answers = answered_by (unit_does side.Right at unit s t places)
+  -- right gives the reference with this CC: it has given none before
+  pub cc_answers : (gone : ℕ → Type 0) → AreUncalled t → Then side.Right x.source gone
+  cc_answers gone none =
+      opens_one side.Right x.source gone
+      (λ p k j place there here. record {
+        mine = refl;
+        others = λ i z q apart at_z named. not_some (reference_of side.Right z) q named (none.live i z at_z);
+        done = λ i z q at_z named. not_some (reference_of side.Right z) q named (none.done i z at_z);
+      })

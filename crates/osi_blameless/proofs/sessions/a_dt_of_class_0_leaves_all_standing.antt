@@ -3,10 +3,8 @@
 use Rattle.osi_blameless.proofs.Vocabulary.{◌≡◌, ◌∙◌, arith, Option, refl, sym, ap, ℕ, Bool, true, false, List, [], ◌∷◌, ◌++◌, Some, None}
 use Rattle.osi_blameless.proofs.Vocabulary.{is_some, slice_get, Value, acknowledge, confirm, data0, data2, disconnect, disconnected, error}
 use Rattle.osi_blameless.proofs.Vocabulary.{request, Part, Class, Zero, other, Direction, Connection, Finding, Kept, Reach, Half}
-use Rattle.osi_blameless.proofs.Vocabulary.{is_applied}
-use Rattle.osi_blameless.proofs.Vocabulary.{reach_of, is_open, own, State, class_for, connection_after, is_stopped, meaning_if, meant}
-use Rattle.osi_blameless.proofs.Vocabulary.{takes}
-use Rattle.osi_blameless.proofs.Vocabulary.{Deeds, Joined, Sessions, reference_of, Course, unit_passes, way_of, IsOneOf}
+use Rattle.osi_blameless.proofs.Vocabulary.{is_applied, reach_of, is_open, own, State, class_for, connection_after, is_stopped, meaning_if}
+use Rattle.osi_blameless.proofs.Vocabulary.{meant, takes, Deeds, Joined, Sessions, reference_of, Course, unit_passes, way_of, IsOneOf}
 use Rattle.osi_rules.specs.declared.findings.Reach.TheVariants as reach
 use Rattle.osi_judge.specs.Connections as joined
 use Rattle.osi_blameless.proofs.a_break_ends_no_judging_or_all.{takes_reach}

@@ -6,8 +6,7 @@ use Rattle.osi_blameless.proofs.Vocabulary.{Zero, data0_tests, first_failed, Tes
 use Rattle.osi_blameless.proofs.Vocabulary.{Traffic as State, in_doubt, takes, unnamed_by, uses_source, Connection, Rules, Way, Finding}
 use Rattle.osi_blameless.proofs.Vocabulary.{Broke, Kept, NotJudged, Rule, Capture, Direction, user_of, marked, marks_of, moved, unread_mark}
 use Rattle.osi_blameless.proofs.Vocabulary.{unread_moment, way_of, comes_to, Cause, no_item, AreJudged, still_judged, packet, unit}
-use Rattle.osi_blameless.proofs.Vocabulary.{is_report}
-use Rattle.osi_blameless.proofs.Vocabulary.{arith, Course}
+use Rattle.osi_blameless.proofs.Vocabulary.{is_report, arith, Course}
 use Rattle.osi_rules.specs.declared.directions.Direction.TheVariants as way
 use Rattle.osi_rules.specs.declared.findings.Rule.TheVariants as rule
 use Rattle.osi_rules.specs.Sides as sides

@@ -1,24 +1,18 @@
 -- In class 0 a DT with which the TSDU of its side is too long breaks that rule; and so it would later, whatever the other side has sent.
 -- For a TSDU of the other side that becomes too long.
-use Rattle.osi_blameless.proofs.Vocabulary.{arith, ◌≡◌, ◌∙◌, refl, sym, ap, subst, ℕ, zero, suc, ◌+◌, ◌<◌, Bool, true, false, List, [], ◌∷◌}
-use Rattle.osi_blameless.proofs.Vocabulary.{map, length, nat_le, Some, None, eqb-true, leb-false, slice_get, Value, data0, longest_tsdu}
-use Rattle.osi_blameless.proofs.Vocabulary.{Zero}
-use Rattle.osi_blameless.proofs.Vocabulary.{Local, other, Direction, Left, Right, Connection, Broke, Kept, Reach, is_applied, first_failed}
+use Rattle.osi_blameless.proofs.Vocabulary.{arith, ◌≡◌, ◌∙◌, refl, sym, ap, subst, ℕ, zero, suc, ◌+◌, ◌<◌, Bool, false, List, [], ◌∷◌}
+use Rattle.osi_blameless.proofs.Vocabulary.{map, length, nat_le, Some, eqb-true, leb-false, slice_get, Value, data0, longest_tsdu}
+use Rattle.osi_blameless.proofs.Vocabulary.{Zero, other, Direction, Right, Connection, Broke, Kept, Reach, is_applied, first_failed}
 use Rattle.osi_blameless.proofs.Vocabulary.{begins, own, State, class_for, connection_after, is_stopped, takes, unlike, IsFirm}
-use Rattle.osi_blameless.proofs.Vocabulary.{after_change}
-use Rattle.osi_blameless.proofs.Vocabulary.{Course, unit_passes, way_of, Joint, Steps, passes_own, calls_from}
+use Rattle.osi_blameless.proofs.Vocabulary.{after_change, Course, unit_passes, way_of}
 use Rattle.osi_rules.specs.declared.findings.Rule.TheVariants as rule
 use Rattle.osi_rules.specs.Traffic as traffic
-use Rattle.osi_fair.specs.Wholes as wholes
-use Rattle.osi_blameless.proofs.small_facts_that_many_lemmas_use.{same_item, same_one, zero_two}
-use Rattle.osi_blameless.proofs.steps_are_events.{IsFollowed, own_first}
-use Rattle.osi_blameless.proofs.sessions.a_called_end_stands_in_class_0.{dts_of, stage_of}
-use Rattle.osi_blameless.proofs.sessions.a_calling_end_stands_until_class_2.{runs_staged}
+use Rattle.osi_blameless.proofs.small_facts_that_many_lemmas_use.{same_item, same_one}
 use Rattle.osi_blameless.proofs.sessions.a_dt_of_class_0_has_one_place.{IsOnly, dt_takes, open_not_refused}
 use Rattle.osi_blameless.proofs.sessions.all_connections_stand.{other_after}
 use Rattle.osi_blameless.proofs.sessions.connections_have_the_same_places.{unit_knows}
 use Rattle.osi_blameless.proofs.sessions.each_step_leaves_class_0_one_connection.{IsSure, Sure, is_zero}
-use Rattle.osi_blameless.proofs.sessions.what_the_stage_of_a_calling_end_says.{IsDt0, PassesOwn, adding, asking, own_unit}
+use Rattle.osi_blameless.proofs.sessions.what_the_stage_of_a_whole_end_says.{IsDt0}
 
 -- ---- the one connection
 
@@ -79,23 +73,6 @@ own_long : (d : Direction) (end : Bool) (mine user : List ℕ) (s : State) → I
     IsTooLong d user (takes (way_of d) (data0 end mine) s).state
 own_long d end mine user s sure firm class goes kept long =
     search (arith, dt_takes, after_change, other_begun, open_not_refused, only_of s sure firm class)
-
--- a unit of the end is a DT then
-pub own_is_dt : (local : Local) (d : Direction) (at : ℕ) (v : Value) (old new : Joint) → Steps d (passes_own at v) old new →
-    IsFollowed d (wholes.begin (calls_from d) local) old → IsFirm old.course.traffic.course → old.course.traffic.course.class ≡ Some Zero →
-    IsDt0 v
-own_is_dt local Left at v old new (read, octets, put, begun, is) f firm class =
-    let s = own_first Left (wholes.begin true local) old new v (read, octets, put) f in
-    let zero_is = ap (λ (t : State). t.course.class) f.judge ∙ class in
-    by (own_unit local f.whole v s.rest
-    ((runs_staged local old f).stage (ap (λ (t : State). t.course.left_stopped) f.judge ∙ firm.left)) s.is (f.begun ∙ begun)
-    (λ two. zero_two f.whole.judge.course.class zero_is two)) zero_is
-  where
-    by : PassesOwn f.whole v → f.whole.judge.course.class ≡ Some Zero → IsDt0 v
-    by (asking x is_so none) zero_is = absurd (let no : None ≡ Some Zero = sym none ∙ zero_is in cc)
-    by (adding end user is_so k seen) zero_is = subst IsDt0 (sym is_so) tt
-own_is_dt local Right at v old new (read, octets, put, begun, is) f firm class =
-    grind (arith, dts_of, own_first Right (wholes.begin false local) old new v (read, octets, put) f, stage_of local old f firm)
 
 pub passes_too_long : (d : Direction) (at : ℕ) (v : Value) (user : List ℕ) (c : Course) → IsDt0 v → Sure c → IsFirm c.traffic.course →
     c.traffic.course.class ≡ Some Zero → is_stopped (way_of d) c.traffic.course ≡ false →

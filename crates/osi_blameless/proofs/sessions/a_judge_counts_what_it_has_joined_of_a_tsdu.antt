@@ -1,16 +1,14 @@
 -- The rules of transport count as many octets of the unfinished TSDU of each side as a judge has joined of it, at each place, whatever
 -- passes.
 -- For a TSDU of the other side that becomes too long.
-use Rattle.osi_blameless.proofs.Vocabulary.{◌≡◌, ◌∙◌, ◌⊎◌, inl, inr, refl, sym, ap, subst, ℕ, zero, suc, ◌+◌, ◌≤◌, Bool, true, false}
-use Rattle.osi_blameless.proofs.Vocabulary.{List, [], ◌∷◌, ◌++◌, map, length, Some, is_some, arith, length-append}
-use Rattle.osi_blameless.proofs.Vocabulary.{slice_get_within, set, slice_get, Value, acknowledge, confirm, data0, data2, disconnect}
-use Rattle.osi_blameless.proofs.Vocabulary.{disconnected, error, request, longest_tsdu, other, Direction, Left, Connection, Reach, Half}
-use Rattle.osi_blameless.proofs.Vocabulary.{is_applied, begins, own, State, asked_by, begun_after, closing_phase, connection_after}
-use Rattle.osi_blameless.proofs.Vocabulary.{found_on}
-use Rattle.osi_blameless.proofs.Vocabulary.{half_after, meaning_if, meant, takes, after_add, after_change, All, Joined, Sessions, adds}
-use Rattle.osi_blameless.proofs.Vocabulary.{asked}
-use Rattle.osi_blameless.proofs.Vocabulary.{spoken, taken, user_of, Cause, Course, marks_of, way_of, Spoken, added, begun_octets}
-use Rattle.osi_blameless.proofs.Vocabulary.{HaveSamePlaces, moved, unread_mark, unread_moment}
+use Rattle.osi_blameless.proofs.Vocabulary.{◌≡◌, ◌∙◌, ◌⊎◌, inl, inr, refl, sym, ap, subst, ℕ, zero, suc, ◌+◌, ◌≤◌, Bool, true, false, List}
+use Rattle.osi_blameless.proofs.Vocabulary.{[], ◌∷◌, ◌++◌, map, length, Some, is_some, arith, length-append, slice_get_within, set}
+use Rattle.osi_blameless.proofs.Vocabulary.{slice_get, Value, acknowledge, confirm, data0, data2, disconnect, disconnected, error, request}
+use Rattle.osi_blameless.proofs.Vocabulary.{longest_tsdu, other, Direction, Left, Connection, Reach, Half, is_applied, begins, own, State}
+use Rattle.osi_blameless.proofs.Vocabulary.{asked_by, begun_after, closing_phase, connection_after, found_on, half_after, meaning_if, meant}
+use Rattle.osi_blameless.proofs.Vocabulary.{takes, after_add, after_change, All, Joined, Sessions, adds, asked, spoken, taken, user_of}
+use Rattle.osi_blameless.proofs.Vocabulary.{Cause, Course, marks_of, way_of, Spoken, added, begun_octets, HaveSamePlaces, moved}
+use Rattle.osi_blameless.proofs.Vocabulary.{unread_mark, unread_moment}
 use Rattle.osi_rules.specs.Traffic as traffic
 use Rattle.osi_judge.specs.Connections as joined
 use Rattle.osi_judge.specs.Courses.{fresh}

@@ -1,8 +1,7 @@
 -- A judge with a bound that was fed a capture holds what the capture comes to within the bound, and tells the first break of that.
 -- For the laws on such a judge.
 use Rattle.osi_blameless.proofs.Vocabulary.{arith, ℕ, ◌≡◌, Some, Capture, First, Judge, IsFirstOf, HoldsState, IsJudged, first_in}
-use Rattle.osi_blameless.proofs.Vocabulary.{first_held}
-use Rattle.osi_blameless.proofs.Vocabulary.{after_more, IsFedWithin, comes_within, fed, unfed}
+use Rattle.osi_blameless.proofs.Vocabulary.{first_held, after_more, IsFedWithin, comes_within, fed, unfed}
 
 pub holds_within : (most : ℕ) (capture : Capture) (t : Judge) → IsFedWithin most capture t → HoldsState t (comes_within most capture)
 holds_within most _ _ (unfed t h) = h

@@ -2,8 +2,7 @@
 -- For the law that no session of an end is blamed after a break of the other side.
 use Rattle.osi_blameless.proofs.Vocabulary.{Bool, false, if◌then◌else◌, is_some, Some, subst, sym, ℕ, ◌∙◌, ◌≡◌, Two, Zero, Traffic as State}
 use Rattle.osi_blameless.proofs.Vocabulary.{Capture, Direction, way_of, marked, marks_of, moved, unread_mark, unread_moment, comes_to}
-use Rattle.osi_blameless.proofs.Vocabulary.{Cause}
-use Rattle.osi_blameless.proofs.Vocabulary.{packet, unit, arith, IsOfTwo, firm_unless_two, still_two, Course}
+use Rattle.osi_blameless.proofs.Vocabulary.{Cause, packet, unit, arith, IsOfTwo, firm_unless_two, still_two, Course}
 use Rattle.osi_rules.specs.Traffic as traffic
 use Rattle.osi_judge.specs.States.{begin}
 use Rattle.osi_blameless.proofs.what_passes_keeps_a_claim.{IsClaim, after_kept}

@@ -6,9 +6,8 @@ use Rattle.osi_blameless.proofs.Vocabulary.{disconnected, error, request, unit_p
 use Rattle.osi_blameless.proofs.Vocabulary.{Kept, NotJudged, Adds, Route, is_applied, is_open, own, uses, Outcome, State, at_place, found}
 use Rattle.osi_blameless.proofs.Vocabulary.{meant, none_told, in_doubt, routed, takes, unnamed_by, uses_source, packet, unit, fresh_apart}
 use Rattle.osi_blameless.proofs.Vocabulary.{passes_apart, AreNamedApart, OnlyOne, each_sound, HoldsOfEach, Sound, Cause, Joined}
-use Rattle.osi_blameless.proofs.Vocabulary.{reference_of}
-use Rattle.osi_blameless.proofs.Vocabulary.{user_of, Course, marked, moved, packet_begins, unit_passes, unread_mark, unread_moment, way_of}
-use Rattle.osi_blameless.proofs.Vocabulary.{comes_to, HaveSamePlaces, IsJoinedAt, IsOneOf}
+use Rattle.osi_blameless.proofs.Vocabulary.{reference_of, user_of, Course, marked, moved, packet_begins, unit_passes, unread_mark}
+use Rattle.osi_blameless.proofs.Vocabulary.{unread_moment, way_of, comes_to, HaveSamePlaces, IsJoinedAt, IsOneOf}
 use Rattle.osi_rules.specs.declared.directions.Direction.{Direction as Way}
 use Rattle.osi_rules.specs.Traffic as traffic
 use Rattle.osi_fair.proofs.all_are_judged_unless_one_broke.{IsJudged}

@@ -3,23 +3,28 @@
 use Rattle.osi_blameless.proofs.Vocabulary.{[], ap, append_assoc, Bool, false, length, List, map, refl, subst, sym, take, true, ℕ, ◌++◌}
 use Rattle.osi_blameless.proofs.Vocabulary.{◌+◌, ◌∙◌, ◌∷◌, ◌≡◌, ◌≤◌, flat_map-append, append-nil, take-append-drop, AllByRecursion, Given}
 use Rattle.osi_blameless.proofs.Vocabulary.{unit_of, give_out, given_parts, hand_in, hand_out, Move, parts_in, parts_out, tsdus_in}
-use Rattle.osi_blameless.proofs.Vocabulary.{tsdus_out}
-use Rattle.osi_blameless.proofs.Vocabulary.{unit_parts, Part, tsdus_after, Listener, Seen, End, AsSent, front_told, first_asked, AllInside}
-use Rattle.osi_blameless.proofs.Vocabulary.{AsParts, front_inside, honest_inside, CalledLaw, CallerLaw, other, IsExplained, IsFound}
-use Rattle.osi_blameless.proofs.Vocabulary.{selects_outside, IsHonest, IsSentFrom, broke_session, begin_of, Direction, Left as left}
-use Rattle.osi_blameless.proofs.Vocabulary.{Right as right, none_said, out_more, said_more, IsSaid, nothing, shown_said, something}
-use Rattle.osi_blameless.proofs.Vocabulary.{units_came, opens_so, history_runs, Deeds, Gone, no_deeds, said_in, Speaks, units_given}
-use Rattle.osi_blameless.proofs.Vocabulary.{is_gone}
-use Rattle.osi_blameless.proofs.Vocabulary.{closed, never, Shows, octets_said, IsToBlame, Joined, spoken, heard, told, AreAfter, before_of}
-use Rattle.osi_blameless.proofs.Vocabulary.{calls_from, IsShownOf, left_over, parts_of, take_in, arith, awaited, unknown, Said, told_of}
+use Rattle.osi_blameless.proofs.Vocabulary.{tsdus_out, unit_parts, Part, tsdus_after, Listener, Seen, End, AsSent, front_told, first_asked}
+use Rattle.osi_blameless.proofs.Vocabulary.{AllInside, AsParts, front_inside, honest_inside, CalledLaw, CallerLaw, other, IsExplained}
+use Rattle.osi_blameless.proofs.Vocabulary.{IsFound, selects_outside, IsHonest, IsSentFrom, broke_session, begin_of, Direction}
+use Rattle.osi_blameless.proofs.Vocabulary.{Left as left, Right as right, none_said, out_more, said_more, IsSaid, nothing, shown_said}
+use Rattle.osi_blameless.proofs.Vocabulary.{something, units_came, opens_so, history_runs, Deeds, Gone, no_deeds, said_in, Speaks}
+use Rattle.osi_blameless.proofs.Vocabulary.{units_given, is_gone, closed, never, Shows, octets_said, IsToBlame, Joined, spoken, heard, told}
+use Rattle.osi_blameless.proofs.Vocabulary.{AreAfter, before_of, calls_from, IsShownOf, left_over, parts_of, take_in, arith, awaited}
+use Rattle.osi_blameless.proofs.Vocabulary.{unknown, Said, told_of, over}
 use Rattle.osi_side.specs.Explaining.{Told}
 use Rattle.osi_side.specs.Running as running
 use Rattle.osi_side.specs.declared.findings.Finding.{Finding}
 use Rattle.osi_honest.specs.Courses.{Course}
 use Rattle.osi_honest.specs.Courses.Course.{is_open}
-use Rattle.osi_honest.specs.Courses.Gone.{over}
 use Rattle.osi_honest.proofs.courses.what_was_said_is_explained.{units_put}
 use Rattle.osi_judge.specs.Lines as lines
+
+-- what the laws of messages and of sessions state
+pub record SessionLaws : Type 0 where
+  pub sent : AsSent
+  pub parts : AsParts
+  pub caller : CallerLaw
+  pub called : CalledLaw
 
 -- ---- what was said is a run of a session, also if more was heard than it took
 

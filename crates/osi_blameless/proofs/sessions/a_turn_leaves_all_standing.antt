@@ -1,11 +1,10 @@
 -- A turn of an end leaves all its connections standing at a judge; and while they stand, no session of the end is to blame.
 -- For the session of each connection of an end.
 use Rattle.osi_blameless.proofs.Vocabulary.{[], Bool, false, List, refl, Some, true, ℕ, ◌++◌, ◌≡◌, slice_get, Value, Part, End, is_open}
-use Rattle.osi_blameless.proofs.Vocabulary.{own}
-use Rattle.osi_blameless.proofs.Vocabulary.{Traffic as State, Connection, AsSent, AsParts, CalledLaw, CallerLaw, other, Direction, Deeds}
-use Rattle.osi_blameless.proofs.Vocabulary.{then_did, IsToBlame, Joined, reference_of, Sessions, way_of, calls_from, IsShownNow, arith}
+use Rattle.osi_blameless.proofs.Vocabulary.{own, Traffic as State, Connection, other, Direction, Deeds, then_did, IsToBlame, Joined}
+use Rattle.osi_blameless.proofs.Vocabulary.{reference_of, Sessions, way_of, calls_from, IsShownNow, arith}
 use Rattle.osi_honest.specs.Courses.{Course}
-use Rattle.osi_blameless.proofs.sessions.a_session_that_is_shown_is_not_to_blame.{none_broken, not_both, not_to_blame}
+use Rattle.osi_blameless.proofs.sessions.a_session_that_is_shown_is_not_to_blame.{SessionLaws, none_broken, not_both, not_to_blame}
 use Rattle.osi_blameless.proofs.sessions.all_connections_stand.{AllStand, Rests, quiet, rests, there_too}
 use Rattle.osi_blameless.proofs.sessions.what_a_judge_shows_goes_on.{end_turns}
 use Rattle.osi_blameless.proofs.sessions.what_stands_of_a_connection.{Known, Stands, Takes, lives, past, stands_turns, unnamed, waiting_for}
@@ -51,11 +50,12 @@ all_turn d deeds more known then_known put units b s t some turns a = record {
 
 -- ---- nobody is to blame
 
-module _ (known_of : AsSent) (parts : AsParts) (caller : CallerLaw) (called : CalledLaw) (d : Direction) (deeds : ℕ → Deeds)
-    (known : Known) (put : List Value) (b : Bool) (e : End) (courses : (r : ℕ) → Course (calls_from d) r (deeds r) e) where
+module _ (laws : SessionLaws) (d : Direction) (deeds : ℕ → Deeds) (known : Known) (put : List Value) (b : Bool) (e : End)
+    (courses : (r : ℕ) → Course (calls_from d) r (deeds r) e) where
   shown_so : (r : ℕ) (waiting : List Value) (later : List Part) (x : Bool) (j : Joined) →
       IsShownNow d r (deeds r) waiting later x j → IsToBlame d j → ⊥
-  shown_so r waiting later x j h blame = not_to_blame known_of parts caller called d r (deeds r) e j (courses r) h.shown blame
+  shown_so r waiting later x j h blame =
+      not_to_blame laws.sent laws.parts laws.caller laws.called d r (deeds r) e j (courses r) h.shown blame
 
   pub stands_blameless : (c : Connection) (j : Joined) → Stands d deeds known put b c j → IsToBlame d j → ⊥
   stands_blameless c j (unnamed none mine theirs room) blame = grind (arith, not_both, none_broken)

@@ -2,14 +2,12 @@
 -- unit but a second DR is found so.
 -- For the sessions of an end after such a unit of the other side.
 use Rattle.osi_blameless.proofs.Vocabulary.{[], Bool, false, if◌then◌else◌, List, None, not, Option, refl, Some, sym, true, ℕ, ◌∙◌, ◌∷◌}
-use Rattle.osi_blameless.proofs.Vocabulary.{◌≡◌}
-use Rattle.osi_blameless.proofs.Vocabulary.{AllByRecursion, slice_get, acknowledge, confirm, Connect, data0, data2, disconnect}
-use Rattle.osi_blameless.proofs.Vocabulary.{disconnected}
-use Rattle.osi_blameless.proofs.Vocabulary.{error, request, Value, Class, first_failed, Test, is_closed, is_closing, is_named, is_open}
-use Rattle.osi_blameless.proofs.Vocabulary.{is_refused, is_silent, own, asks_of, at_found, found, found_on, Outcome, route_in, takes}
-use Rattle.osi_blameless.proofs.Vocabulary.{uses_source, unnamed_by, Traffic as State, Connection, Rules, Way, Finding, Broke, NotJudged}
-use Rattle.osi_blameless.proofs.Vocabulary.{Phase, Route, Asks, Named, Only, Unnamed, other, Direction, Joined, reference_of, way_of}
-use Rattle.osi_blameless.proofs.Vocabulary.{HaveSamePlaces, IsOneOf, is_report, arith, confirm_tests, in_doubt, Sessions, Course}
+use Rattle.osi_blameless.proofs.Vocabulary.{◌≡◌, AllByRecursion, slice_get, acknowledge, confirm, Connect, data0, data2, disconnect}
+use Rattle.osi_blameless.proofs.Vocabulary.{disconnected, error, request, Value, Class, first_failed, Test, is_closed, is_closing, is_named}
+use Rattle.osi_blameless.proofs.Vocabulary.{is_open, is_refused, is_silent, own, asks_of, at_found, found, found_on, Outcome, route_in}
+use Rattle.osi_blameless.proofs.Vocabulary.{takes, uses_source, unnamed_by, Traffic as State, Connection, Rules, Way, Finding, Broke}
+use Rattle.osi_blameless.proofs.Vocabulary.{NotJudged, Phase, Route, Asks, Named, Only, Unnamed, other, Direction, Joined, reference_of}
+use Rattle.osi_blameless.proofs.Vocabulary.{way_of, HaveSamePlaces, IsOneOf, is_report, arith, confirm_tests, in_doubt, Sessions, Course}
 use Rattle.osi_rules.specs.Sides as sides
 use Rattle.osi_rules.specs.Traffic as traffic
 use Rattle.osi_rules.specs.declared.directions.Direction.TheVariants as way

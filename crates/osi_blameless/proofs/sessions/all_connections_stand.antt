@@ -2,15 +2,13 @@
 -- For the session of each connection of an end.
 use Rattle.osi_blameless.proofs.Vocabulary.{[], ap, arith, Bool, false, inl, inr, length, List, map, None, Option, refl, Some, subst, suc}
 use Rattle.osi_blameless.proofs.Vocabulary.{sym, true, zero, ℕ, ◌++◌, ◌<◌, ◌^◌, ◌∙◌, ◌∷◌, ◌≡◌, ◌≤◌, ◌⊎◌, eq-eqb, slice_get_within}
-use Rattle.osi_blameless.proofs.Vocabulary.{slice_get}
-use Rattle.osi_blameless.proofs.Vocabulary.{confirm, Connect, data0, data2, request, Value, unit_parts, Part, End, is_applied, begins}
-use Rattle.osi_blameless.proofs.Vocabulary.{is_open, own, asked_by, connection_after, found_on, half_after, judged_on, meaning_if, meant}
-use Rattle.osi_blameless.proofs.Vocabulary.{Traffic as State, takes, Connection, Reach, Half, other, Direction, Deeds, adds, all_begin}
-use Rattle.osi_blameless.proofs.Vocabulary.{asked}
-use Rattle.osi_blameless.proofs.Vocabulary.{Joined, reference_of, Sessions, shut, spoken, taken, way_of, heard, Room, All, passes_apart}
-use Rattle.osi_blameless.proofs.Vocabulary.{AreJudged, still_judged, after_add, after_map, NamesApart as AreApart, after_change, packet}
-use Rattle.osi_blameless.proofs.Vocabulary.{unit}
-use Rattle.osi_blameless.proofs.Vocabulary.{calls_from, IsShownNow, HaveSamePlaces, IsOneOf, begins_judged, some_same}
+use Rattle.osi_blameless.proofs.Vocabulary.{slice_get, confirm, Connect, data0, data2, request, Value, unit_parts, Part, End, is_applied}
+use Rattle.osi_blameless.proofs.Vocabulary.{begins, is_open, own, asked_by, connection_after, found_on, half_after, judged_on, meaning_if}
+use Rattle.osi_blameless.proofs.Vocabulary.{meant, Traffic as State, takes, Connection, Reach, Half, other, Direction, Deeds, adds}
+use Rattle.osi_blameless.proofs.Vocabulary.{all_begin, asked, Joined, reference_of, Sessions, shut, spoken, taken, way_of, heard, Room, All}
+use Rattle.osi_blameless.proofs.Vocabulary.{passes_apart, AreJudged, still_judged, after_add, after_map, NamesApart as AreApart}
+use Rattle.osi_blameless.proofs.Vocabulary.{after_change, packet, unit, calls_from, IsShownNow, HaveSamePlaces, IsOneOf, begins_judged}
+use Rattle.osi_blameless.proofs.Vocabulary.{some_same}
 use Rattle.osi_rules.specs.declared.findings.Reach.TheVariants as reach
 use Rattle.osi_rules.specs.Traffic as traffic
 use Rattle.osi_honest.specs.Courses.{Course}

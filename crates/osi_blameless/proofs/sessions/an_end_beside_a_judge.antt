@@ -1,14 +1,11 @@
 -- What holds of an end and a judge as long as both sides are judged and one class is not selected: each step keeps it.
 -- For the laws that no session of an end is to blame.
+use Rattle.osi_blameless.proofs.sessions.steps_of_either_class_leave_all_standing.{none_so}
 use Rattle.osi_blameless.proofs.Vocabulary.{arith, ◌≡◌, sym, subst, ℕ, ◌^◌, ◌<◌, List, length, Some, slice_get, AllByRecursion, Value}
-use Rattle.osi_blameless.proofs.Vocabulary.{Class}
-use Rattle.osi_blameless.proofs.Vocabulary.{Local, other, Direction, Deeds, all_did, no_deeds, Turn, AllProper, IsSane, turn_sane}
-use Rattle.osi_blameless.proofs.Vocabulary.{fresh_sane}
-use Rattle.osi_blameless.proofs.Vocabulary.{fresh_course, CanBeWritten, End, Holding, IsFresh, Joined, spoken, units_pass, heard, Joint}
-use Rattle.osi_blameless.proofs.Vocabulary.{Step}
-use Rattle.osi_blameless.proofs.Vocabulary.{Steps, TakesTurn, begin, begins_other, begins_own, passes_other, passes_own, takes, turns}
-use Rattle.osi_blameless.proofs.Vocabulary.{way_of}
-use Rattle.osi_blameless.proofs.Vocabulary.{calls_from}
+use Rattle.osi_blameless.proofs.Vocabulary.{Class, Local, other, Direction, Deeds, all_did, no_deeds, Turn, AllProper, IsSane, turn_sane}
+use Rattle.osi_blameless.proofs.Vocabulary.{fresh_sane, fresh_course, CanBeWritten, End, Holding, IsFresh, Joined, spoken, units_pass}
+use Rattle.osi_blameless.proofs.Vocabulary.{heard, Joint, Step, Steps, TakesTurn, begin, begins_other, begins_own, passes_other, passes_own}
+use Rattle.osi_blameless.proofs.Vocabulary.{takes, turns, way_of, calls_from}
 use Rattle.osi_rules.specs.declared.findings.Reach.TheVariants as reach
 use Rattle.osi_fair.specs.Wholes as wholes
 use Rattle.osi_honest.specs.Courses.{Course}
@@ -76,7 +73,7 @@ module _ (proper : AllProper) (barred : Class) (d : Direction) (local : Local) (
   turn_goes turn old new t deeds does g not =
       still_goes deeds (all_did deeds does.of.on.more) (turns turn) old new t g
       (subst (λ (c : Passed). IsStillJudged barred c) (sym t.course) g.judged) (subst (NeverToBlame d) (sym t.course) g.never)
-      (k.turn turn old new t deeds does g.followed
+      (k.leads.turn turn old new t deeds does g.followed
       (step_followed d (wholes.begin (calls_from d) local) proper (turns turn) old new t g.followed)
       (lasts_so barred old.course g.judged not) g.holds)
       does.of.on.course (turn_sane turn old.holding new.holding t.takes g.sane)
@@ -89,7 +86,7 @@ module _ (proper : AllProper) (barred : Class) (d : Direction) (local : Local) (
       still_goes deeds deeds begins_own old new step g
       (subst (λ (j : Joint). IsStillJudged barred j.course) (sym step.2) (begins_judged barred d old.course g.judged))
       (subst (λ (j : Joint). NeverToBlame d j.course) (sym step.2) (never_begins d d old.course g.never))
-      (k.own_begins deeds old new step g.courses few g.holds) (subst (HaveCourses d deeds) (sym step.2) g.courses)
+      (k.leads.own_begins deeds old new step g.courses few g.holds) (subst (HaveCourses d deeds) (sym step.2) g.courses)
       (subst (λ (j : Joint). IsSane j.holding) (sym step.2) g.sane)
       (subst (λ (j : Joint). AllByRecursion CanBeWritten j.put) (sym step.2) g.can)
 
@@ -98,7 +95,7 @@ module _ (proper : AllProper) (barred : Class) (d : Direction) (local : Local) (
       still_goes deeds deeds begins_other old new step g
       (subst (λ (j : Joint). IsStillJudged barred j.course) (sym step) (begins_judged barred (other d) old.course g.judged))
       (subst (λ (j : Joint). NeverToBlame d j.course) (sym step) (never_begins d (other d) old.course g.never))
-      (k.other_begins deeds old new step g.holds) (subst (HaveCourses d deeds) (sym step) g.courses)
+      (k.leads.other_begins deeds old new step g.holds) (subst (HaveCourses d deeds) (sym step) g.courses)
       (subst (λ (j : Joint). IsSane j.holding) (sym step) g.sane)
       (subst (λ (j : Joint). AllByRecursion CanBeWritten j.put) (sym step) g.can)
 
@@ -112,7 +109,7 @@ module _ (proper : AllProper) (barred : Class) (d : Direction) (local : Local) (
 
     own_holds : Inv deeds new
     own_holds =
-        k.own_passes deeds at v old new step (own_is barred d v old.course g.judged g.sure was_not none far)
+        k.leads.own_passes deeds at v old new step (own_is barred d v old.course g.judged g.sure was_not none far)
         (lasts_so barred old.course g.judged was_not) not g.holds
 
     pub own_goes : Goes deeds new
@@ -120,18 +117,23 @@ module _ (proper : AllProper) (barred : Class) (d : Direction) (local : Local) (
         still_goes deeds deeds (passes_own at v) old new step g
         (subst (λ (j : Joint). IsStillJudged barred j.course) (sym step.4) (nothing_judged barred d at v old.course far g.judged))
         (subst (λ (j : Joint). NeverToBlame d j.course) (sym step.4) (never_unit d d at v old.course g.never
-        (subst (λ (j : Joint). NoneIsToBlame d j.course.sessions) step.4 (k.none deeds new own_courses own_holds))))
+        (subst (λ (j : Joint). NoneIsToBlame d j.course.sessions) step.4
+        (none_so k.laws d deeds new.put new.begun new.holding.end new.course own_courses
+        (k.leads.stands deeds new own_holds)))))
         own_holds own_courses (subst (λ (j : Joint). IsSane j.holding) (sym step.4) g.sane)
         (subst (AllByRecursion CanBeWritten) step.2 g.can).1
 
   pub other_goes : (deeds : ℕ → Deeds) (at : ℕ) (octets : List ℕ) (units : List Value) (old new : Joint) →
       Steps d (passes_other at octets units) old new → Goes deeds old → ArePassed barred d at units old.course →
+      ((units_pass (other d) at units old.course).traffic.course.class ≡ Some barred → ⊥) →
       IsStillJudged barred (units_pass (other d) at units old.course) → NeverToBlame d (units_pass (other d) at units old.course) →
       Goes deeds new
-  other_goes deeds at octets units old new step g taken judged never =
+  other_goes deeds at octets units old new step g taken not judged never =
       still_goes deeds deeds (passes_other at octets units) old new step g
       (subst (λ (j : Joint). IsStillJudged barred j.course) (sym step.2) judged)
       (subst (λ (j : Joint). NeverToBlame d j.course) (sym step.2) never)
-      (k.other_passes deeds at octets units old new step taken g.holds) (subst (HaveCourses d deeds) (sym step.2) g.courses)
+      (k.leads.other_passes deeds at octets units old new step taken
+      (subst (λ (j : Joint). j.course.traffic.course.class ≡ Some barred → ⊥) (sym step.2) not) g.holds)
+      (subst (HaveCourses d deeds) (sym step.2) g.courses)
       (subst (λ (j : Joint). IsSane j.holding) (sym step.2) g.sane)
       (subst (λ (j : Joint). AllByRecursion CanBeWritten j.put) (sym step.2) g.can)

@@ -17,11 +17,12 @@ use Rattle.osi_blameless.proofs.a_break_ends_no_judging_or_all.{far_of}
 use Rattle.osi_blameless.proofs.an_end_that_is_judged_alone_stays_so.{own_alone}
 use Rattle.osi_blameless.proofs.in_class_0_one_side_alone_is_judged.{IsAlone, alone_begins, alone_own}
 use Rattle.osi_blameless.proofs.steps_are_events.{IsFollowed, step_followed}
-use Rattle.osi_blameless.proofs.no_unit_of_a_whole_end_is_a_break.{IsFairAlone, IsFair, IsNoBreak}
+use Rattle.osi_blameless.proofs.no_unit_of_a_whole_end_is_a_break.{IsNoBreak}
 use Rattle.osi_blameless.proofs.what_is_judged_beside_a_halted_side.{IsBeside, beside_own}
 use Rattle.osi_blameless.proofs.what_is_put_is_what_is_written.{none_written, same_written, starts_with, written_join}
 use Rattle.osi_blameless.proofs.what_passes_keeps_a_claim.{step_kept}
-use Rattle.osi_blameless.proofs.sessions.a_dt_that_is_too_long_stays_so.{IsTooLong, begins_too_long, only_of, own_is_dt, passes_too_long}
+use Rattle.osi_blameless.proofs.sessions.a_dt_that_is_too_long_stays_so.{IsTooLong, begins_too_long, only_of, passes_too_long}
+use Rattle.osi_blameless.proofs.sessions.what_the_stage_of_a_whole_end_says.{own_is_dt}
 use Rattle.osi_blameless.proofs.sessions.nobody_of_a_side_is_to_blame.{NoneIsToBlame}
 use Rattle.osi_blameless.proofs.sessions.an_end_beside_a_judge.{Goes, other_begins_goes, own_begins_goes, own_goes, turn_goes}
 use Rattle.osi_blameless.proofs.sessions.an_end_of_class_0_has_begun_what_a_judge_has_joined.{HasBegun}
@@ -43,9 +44,7 @@ abbrev pub IsHardFor : Direction → Passed → List ℕ → Type 0
 IsHardFor d c packet = ((begun : List ℕ) → IsHardPacket begun packet) ⊎ LongPacket d c packet
 
 module _ (known : Known) (d : Direction) (local : Local)
-    (fair : IsFair (way_of d) (wholes.begin (calls_from d) local))
-    (fair_alone : IsFairAlone (way_of d) (wholes.begin (calls_from d) local)) (Inv : (ℕ → Deeds) → Joint → Type 0)
-    (k : Keeps Two d local Inv) (has_begun : HasBegun d Inv) where
+    (Inv : (ℕ → Deeds) → Joint → Type 0) (k : Keeps Two d local Inv) (has_begun : HasBegun d Inv) where
   abbrev pub Judged : (ℕ → Deeds) → Joint → Type 0
   Judged deeds j = Goes known.proper Two d local Inv k deeds j
 
@@ -191,7 +190,7 @@ module _ (known : Known) (d : Direction) (local : Local)
       let dt = own_is_dt local d at unit v w step h.goes.followed (firm_so v.course h.goes.judged)
       (zero_without old.course v.course h.beside h.alone) in
       let (b, found) = beside_own d at unit old.course v.course goes dt h.beside in
-      let kept = own_alone d known.proper (calls_from d) local fair_alone at unit old mid (read, octets, put, begun, refl) h.followed
+      let kept = own_alone d local at unit old mid (read, octets, put, begun, refl) h.followed
       h.alone in
       let then_alone = alone_own d at unit old.course kept h.alone in
       let far = far_of d at unit v.course Kept (sym found ∙ kept) in

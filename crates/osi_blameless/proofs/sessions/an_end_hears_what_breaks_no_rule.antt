@@ -5,8 +5,7 @@ use Rattle.osi_blameless.proofs.Vocabulary.{[], Bool, false, List, None, refl, S
 use Rattle.osi_blameless.proofs.Vocabulary.{acknowledge, confirm, data0, data2, destination_of, disconnect, disconnected, error, request}
 use Rattle.osi_blameless.proofs.Vocabulary.{Connect, Value, Zero, is_applied, is_refused, class_for, found_on, is_stopped, takes}
 use Rattle.osi_blameless.proofs.Vocabulary.{Traffic as State, Connection, Broke, Left, Right, Direction, other, IsOngoing, Deeds, Joined}
-use Rattle.osi_blameless.proofs.Vocabulary.{reference_of}
-use Rattle.osi_blameless.proofs.Vocabulary.{Sessions, unit_passes, judged_same, arith, way_of, Course}
+use Rattle.osi_blameless.proofs.Vocabulary.{reference_of, Sessions, unit_passes, judged_same, arith, way_of, Course}
 use Rattle.osi_rules.specs.declared.directions.Direction.{Direction as Way}
 use Rattle.osi_rules.specs.declared.directions.Direction.TheVariants as way
 use Rattle.osi_rules.specs.declared.findings.Reach.TheVariants as reach
@@ -77,7 +76,8 @@ at_by e at v n c dest some h = grind arith
 
 -- no unit of a calling end waits for the reference that a CC gives
 abbrev pub IsNotAwaited : Direction → (put : List Value) → Value → State → Type 0
-IsNotAwaited Left put (confirm n x) s = is_applied (takes way.Right (confirm n x) s).told.finding ≡ true → waiting_for (Some x.source) put ≡ []
+IsNotAwaited Left put (confirm n x) s = is_applied (takes way.Right (confirm n x) s).told.finding ≡ true →
+    waiting_for (Some x.source) put ≡ []
 IsNotAwaited d put v s = Unit {0}
 
 module _ (is_live : ℕ → Bool) (put coming : List Value) where

@@ -2,9 +2,10 @@
 -- nothing there.
 -- For all connections of an end and a judge, after breaks of the other side too.
 use Rattle.osi_blameless.proofs.Vocabulary.{[], ap, Bool, false, List, None, refl, Some, subst, sym, true, ℕ, ◌++◌, ◌<◌, ◌∙◌, ◌∷◌, ◌≡◌}
-use Rattle.osi_blameless.proofs.Vocabulary.{◌||◌}
-use Rattle.osi_blameless.proofs.Vocabulary.{Value, Part, early, Life, stage_at, stage_over, Time, Continues, Deeds, units_in, all_units}
-use Rattle.osi_blameless.proofs.Vocabulary.{Marked, Turn, parts_of, picked_join, Joint, TakesTurn, Carrier, arith, HasNoDr}
+use Rattle.osi_blameless.proofs.Vocabulary.{◌⊎◌, inl, inr, amid, past}
+use Rattle.osi_blameless.proofs.small_facts_that_many_lemmas_use.{amid_not, early_lasts, past_not}
+use Rattle.osi_blameless.proofs.Vocabulary.{◌||◌, Value, Part, early, Life, stage_at, stage_over, Time, Continues, Deeds, units_in}
+use Rattle.osi_blameless.proofs.Vocabulary.{all_units, Marked, Turn, parts_of, picked_join, Joint, TakesTurn, Carrier, arith, HasNoDr}
 use Rattle.osi_blameless.proofs.sessions.a_calling_end_takes_nothing_before_its_cc.{quiet_turn}
 use Rattle.osi_blameless.proofs.sessions.a_turn_does_what_its_deeds_say.{turn_leaves, turn_uses}
 use Rattle.osi_blameless.proofs.sessions.nothing_is_done_before_a_cr_passes.{is_under_way, may_take}
@@ -89,3 +90,19 @@ module _ (is_caller : Bool) (turn : Turn) (old new : Joint) (t : TakesTurn turn 
         grind (arith, quiet_turn, stage_at, waiting_for)) later
         (λ live. left_none r (units_in old.coming) later none (sure live) ∙ sym (ap parts_of none)) in
         grind (arith, then_none, left_empty)
+
+  -- it is ready where it may open, or nothing is for it
+  pub either_takes : (stage_at r old.holding.end.carrier ≡ early →
+      AreReady is_caller r (IsClean r) (stage_at r new.holding.end.carrier) on.took ⊎ (waiting_for (Some r) (units_in old.coming) ≡ [])) →
+      (later : List Part) → known_left (may_take old.holding.end.carrier) (units_in old.coming) r later → TakesLeft later
+  either_takes opens later sure = by (stage_at r old.holding.end.carrier) refl
+    where
+      open_by : AreReady is_caller r (IsClean r) (stage_at r new.holding.end.carrier) on.took
+          ⊎ (waiting_for (Some r) (units_in old.coming) ≡ []) → TakesLeft later
+      open_by (inl ready) = left_takes (λ may. ready) later sure
+      open_by (inr none) = none_takes none (λ may. early_lasts r old.holding.end.carrier may) later sure
+
+      by : (s : Time) → stage_at r old.holding.end.carrier ≡ s → TakesLeft later
+      by early may = open_by (opens may)
+      by (amid peer) is = left_takes (λ may. amid_not (stage_at r old.holding.end.carrier) peer may is) later sure
+      by past is = left_takes (λ may. past_not (stage_at r old.holding.end.carrier) may is) later sure

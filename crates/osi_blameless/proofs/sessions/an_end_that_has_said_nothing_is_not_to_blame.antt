@@ -1,35 +1,28 @@
 -- No session of an end is to blame that has sent no DT; and what passes keeps that so, unless it is a DT of the end.
--- For the law that no session of an end is blamed first, if the end doesn't offer class 2 and class 0 is not selected.
+-- For the law that no session of an end is blamed first: of an end that doesn't offer class 2, and of one that has selected class 0 by a
+-- CC that has not passed.
 use Rattle.osi_blameless.proofs.Vocabulary.{[], Bool, false, inl, inr, List, Some, subst, sym, ℕ, ◌∙◌, ◌∷◌, ◌≡◌, ◌⊎◌, slice_get, Value}
-use Rattle.osi_blameless.proofs.Vocabulary.{Zero, Local}
-use Rattle.osi_blameless.proofs.Vocabulary.{meaning_if, meant, Traffic as State, takes, other, Direction, AllProper, Deeds, all_begin}
-use Rattle.osi_blameless.proofs.Vocabulary.{asked}
-use Rattle.osi_blameless.proofs.Vocabulary.{Joined, Sessions, spoken, taken, unit_passes, units_pass, way_of, Room, after_add}
-use Rattle.osi_blameless.proofs.Vocabulary.{after_set, IsOngoing, begins_other, begins_own, Joint, passes_other, passes_own, Step, Steps}
-use Rattle.osi_blameless.proofs.Vocabulary.{calls_from, arith, Course}
+use Rattle.osi_blameless.proofs.Vocabulary.{Zero, Local, meaning_if, meant, Traffic as State, takes, other, Direction, AllProper, Deeds}
+use Rattle.osi_blameless.proofs.Vocabulary.{all_begin, asked, Joined, Sessions, spoken, taken, unit_passes, units_pass, way_of, Room}
+use Rattle.osi_blameless.proofs.Vocabulary.{after_add, after_set, IsOngoing, begins_other, begins_own, Joint, passes_other, passes_own}
+use Rattle.osi_blameless.proofs.Vocabulary.{Step, Steps, calls_from, arith, Course, TakesTurn, Turn, ap}
 use Rattle.osi_fair.specs.Wholes as wholes
 use Rattle.osi_judge.specs.Connections.{packet_begins}
 use Rattle.osi_judge.specs.Connections as joined
-use Rattle.osi_blameless.proofs.steps_are_events.{IsFollowed, begin_followed, step_followed}
-use Rattle.osi_blameless.proofs.sessions.nobody_of_a_side_is_to_blame.{NoneIsToBlame}
+use Rattle.osi_blameless.proofs.steps_are_events.{IsFollowed, step_followed}
+use Rattle.osi_blameless.proofs.what_the_turns_among_steps_do.{TurnDoes}
+use Rattle.osi_blameless.proofs.sessions.nobody_of_a_side_is_to_blame.{IsMute}
 use Rattle.osi_blameless.proofs.sessions.all_connections_stand.{map_of}
 use Rattle.osi_blameless.proofs.sessions.connections_have_the_same_places.{Agree, packet_agrees, unit_agrees, unit_joins, units_agree}
 use Rattle.osi_blameless.proofs.sessions.what_a_unit_does_at_its_place.{Does, asks_again, asks_more, nowhere, somewhere, unit_does}
 use Rattle.osi_blameless.proofs.sessions.what_stands_of_a_connection.{is_part}
-use Rattle.osi_blameless.proofs.sessions.what_is_asked_of_what_holds_at_each_step.{Keeps}
+use Rattle.osi_blameless.proofs.sessions.what_is_asked_of_what_holds_at_each_step.{Leads}
+use Rattle.osi_blameless.proofs.sessions.steps_of_either_class_leave_all_standing.{silent}
 
 -- ---- sides that have said nothing
 
 abbrev IsUnsaid : Direction → Joined → Type 0
 IsUnsaid d j = (spoken d j).said ≡ []
-
--- of all connections
-pub record IsMute (d : Direction) (t : Sessions) : Type 0 where
-  pub live : (i : ℕ) (j : Joined) → slice_get t.live i ≡ Some j → (spoken d j).said ≡ []
-  pub done : (i : ℕ) (j : Joined) → slice_get t.done i ≡ Some j → (spoken d j).said ≡ []
-
-pub mute_none : (d : Direction) (t : Sessions) → IsMute d t → NoneIsToBlame d t
-mute_none d t h = grind arith
 
 -- ---- what passes
 
@@ -83,42 +76,59 @@ mute_begins d e t h = grind (arith, map_of, said_begun)
 
 -- ---- the steps
 
-pub record HasSaidNothing (d : Direction) (local : Local) (deeds : ℕ → Deeds) (j : Joint) : Type 0 where
+-- for this reason it says nothing more
+pub record HasSaidNothing (d : Direction) (local : Local) (Why : Joint → Type 0) (deeds : ℕ → Deeds) (j : Joint) : Type 0 where
   pub followed : IsFollowed d (wholes.begin (calls_from d) local) j
   pub places : Agree j.course
   pub mute : IsMute d j.course.sessions
+  pub why : Why j
 
--- as long as both sides are judged, and class 0 is not selected, no unit that passes of the end is a DT
-abbrev pub PutsNoDt : Direction → Local → Type 0
-PutsNoDt d local = (at : ℕ) (v : Value) (old new : Joint) → Steps d (passes_own at v) old new →
-    IsFollowed d (wholes.begin (calls_from d) local) old → IsOngoing old.course.traffic.course → is_part v ≡ false
+-- As long as both sides are judged, and class 0 is not selected, no unit that passes of the end is a DT then; and this stays so.
+pub record KeepsSilent (d : Direction) (local : Local) (Why : Joint → Type 0) : Type 0 where
+  pub still : (old new : Joint) → new.put ≡ old.put → Why old → Why new
+  pub turns : (turn : Turn) (old new : Joint) (t : TakesTurn turn old new) (deeds : ℕ → Deeds) →
+      TurnDoes (calls_from d) deeds turn old new t → Why old → Why new
+  pub none_put : (deeds : ℕ → Deeds) (at : ℕ) (v : Value) (old new : Joint) → Steps d (passes_own at v) old new →
+      IsOngoing old.course.traffic.course → (new.course.traffic.course.class ≡ Some Zero → ⊥) → HasSaidNothing d local Why deeds old →
+      (is_part v ≡ false) × Why new
 
-module _ (proper : AllProper) (d : Direction) (local : Local) where
+module _ (proper : AllProper) (d : Direction) (local : Local) (Why : Joint → Type 0) (k : KeepsSilent d local Why) where
+  abbrev Said : (ℕ → Deeds) → Joint → Type 0
+  Said = HasSaidNothing d local Why
+
   stays_mute : (deeds then_deeds : ℕ → Deeds) (step : Step) (old new : Joint) → Steps d step old new → Agree new.course →
-      IsMute d new.course.sessions → HasSaidNothing d local deeds old → HasSaidNothing d local then_deeds new
-  stays_mute deeds then_deeds step old new does places mute h = grind (arith, step_followed)
+      IsMute d new.course.sessions → Why new → Said deeds old → Said then_deeds new
+  stays_mute deeds then_deeds step old new does places mute why h = grind (arith, step_followed)
 
-  pub mute_keeps : PutsNoDt d local → Keeps Zero d local (HasSaidNothing d local)
-  mute_keeps none_put = record {
-    begins = grind (arith, begin_followed);
+  pub mute_leads : Leads Zero d local Said Said
+  mute_leads = record {
     own_begins = λ deeds old new step courses few h.
         stays_mute deeds deeds begins_own old new step
         (subst (λ (j : Joint). Agree j.course) (sym step.2) (packet_agrees d old.course h.places))
-        (subst (λ (j : Joint). IsMute d j.course.sessions) (sym step.2) (mute_begins d d old.course.sessions h.mute)) h;
+        (subst (λ (j : Joint). IsMute d j.course.sessions) (sym step.2) (mute_begins d d old.course.sessions h.mute))
+        (k.still old new (ap (λ (j : Joint). j.put) step.2) h.why) h;
     other_begins = λ deeds old new step h.
         stays_mute deeds deeds begins_other old new step
         (subst (λ (j : Joint). Agree j.course) (sym step) (packet_agrees (other d) old.course h.places))
-        (subst (λ (j : Joint). IsMute d j.course.sessions) (sym step) (mute_begins d (other d) old.course.sessions h.mute)) h;
-    own_passes = λ deeds at v old new step fine clear then_two h.
+        (subst (λ (j : Joint). IsMute d j.course.sessions) (sym step) (mute_begins d (other d) old.course.sessions h.mute))
+        (k.still old new (ap (λ (j : Joint). j.put) step) h.why) h;
+    own_passes = λ deeds at v old new step fine clear not h.
+        let (none, why) = k.none_put deeds at v old new step clear not h in
         stays_mute deeds deeds (passes_own at v) old new step
         (subst (λ (j : Joint). Agree j.course) (sym step.4) (unit_agrees d at v old.course h.places))
         (subst (λ (j : Joint). IsMute d j.course.sessions) (sym step.4)
-        (mute_unit d d at v old.course h.places (λ same. none_put at v old new step h.followed clear) h.mute)) h;
-    other_passes = λ deeds at octets units old new step taken h.
+        (mute_unit d d at v old.course h.places (λ same. none) h.mute)) why h;
+    other_passes = λ deeds at octets units old new step taken not h.
         stays_mute deeds deeds (passes_other at octets units) old new step
         (subst (λ (j : Joint). Agree j.course) (sym step.2) (units_agree (other d) at units old.course h.places))
-        (subst (λ (j : Joint). IsMute d j.course.sessions) (sym step.2) (mute_units d at units old.course h.places h.mute)) h;
-    turn = grind arith;
-    none = λ deeds j courses h. mute_none d j.course.sessions h.mute;
-    none_amid = grind (arith, mute_none, mute_units);
+        (subst (λ (j : Joint). IsMute d j.course.sessions) (sym step.2) (mute_units d at units old.course h.places h.mute))
+        (k.still old new (ap (λ (j : Joint). j.put) step.2) h.why) h;
+    turn = λ turn old new t deeds does f g lasts h. record {
+      followed = g;
+      places = subst Agree (sym t.course) h.places;
+      mute = subst (λ (c : Course). IsMute d c.sessions) (sym t.course) h.mute;
+      why = k.turns turn old new t deeds does h.why;
+    };
+    stands = λ deeds j h. silent h.mute;
+    stands_amid = λ deeds at octets front back old new step taken not h. silent (mute_units d at front old.course h.places h.mute);
   }

@@ -2,16 +2,14 @@
 -- For the session of each connection of an end.
 use Rattle.osi_blameless.proofs.Vocabulary.{[], ap, arith, Bool, false, List, map, None, Option, refl, Some, subst, sym, true, ℕ, ◌++◌, ◌∙◌}
 use Rattle.osi_blameless.proofs.Vocabulary.{◌∷◌, ◌≡◌, slice_get, confirm, Connect, request, Value, parts_in, Part, Class, is_applied}
-use Rattle.osi_blameless.proofs.Vocabulary.{is_open}
-use Rattle.osi_blameless.proofs.Vocabulary.{asked_by, connection_after, found_on, meaning_if, meant, Traffic as State, takes, Connection}
-use Rattle.osi_blameless.proofs.Vocabulary.{Reach, Half, other, Direction, Left, Right, Deeds, said_in, asked, Joined, opened, reference_of}
-use Rattle.osi_blameless.proofs.Vocabulary.{Sessions, spoken, Spoken, All, applied_found, picked_first, picked_rest, all_before, AreAfter}
-use Rattle.osi_blameless.proofs.Vocabulary.{before_begun, before_of, IsShownNow, IsOneOf}
+use Rattle.osi_blameless.proofs.Vocabulary.{is_open, asked_by, connection_after, found_on, meaning_if, meant, Traffic as State, takes}
+use Rattle.osi_blameless.proofs.Vocabulary.{Connection, Reach, Half, other, Direction, Left, Right, Deeds, said_in, asked, Joined, opened}
+use Rattle.osi_blameless.proofs.Vocabulary.{reference_of, Sessions, spoken, Spoken, All, applied_found, picked_first, picked_rest}
+use Rattle.osi_blameless.proofs.Vocabulary.{all_before, AreAfter, before_begun, before_of, IsShownNow, IsOneOf, and_false, no_list}
 use Rattle.osi_rules.specs.declared.directions.Direction.TheVariants as way
 use Rattle.osi_judge.specs.Connections.{class_of}
 use Rattle.osi_judge.specs.Connections as joined
 use Rattle.osi_blameless.proofs.small_facts_that_many_lemmas_use.{not_some}
-use Rattle.osi_fair.proofs.small_facts_that_many_lemmas_use.{and_false, no_list}
 use Rattle.osi_blameless.proofs.sessions.all_connections_stand.{AllStand, Leaves, like_same, other_after, other_plain, own_after, own_plain}
 use Rattle.osi_blameless.proofs.sessions.connections_have_the_same_places.{none_given}
 use Rattle.osi_blameless.proofs.sessions.right_units_leave_all_standing.{rests_on}

@@ -1,20 +1,18 @@
 -- Until class 2 is selected, one connection at most is not over for left; so in class 0 one was opened, and each other one was refused.
 -- For the session of the connection of an end in class 0.
-use Rattle.osi_blameless.proofs.Vocabulary.{[], ap, Bool, false, inl, inr, is_some, List, None, not, Option, refl, set, Some}
-use Rattle.osi_blameless.proofs.Vocabulary.{suc, sym, true, zero, ℕ, ◌&&◌, ◌==◌, ◌∙◌, ◌∷◌, ◌≡◌, ◌⊎◌, eqb-true, slice_get-map, list_all}
-use Rattle.osi_blameless.proofs.Vocabulary.{position, slice_get, ◌||◌, confirm, Connect, data0, disconnect, disconnected, error, request}
-use Rattle.osi_blameless.proofs.Vocabulary.{Value, Class, Two, Zero, is_applied, first_failed, begins, is_closed, is_closing, is_live}
-use Rattle.osi_blameless.proofs.Vocabulary.{is_named, is_open, is_over, is_over_by, is_refused, is_silent, asked_by, asks_by, asks_kept}
-use Rattle.osi_blameless.proofs.Vocabulary.{at_found, at_place, connection_after, course_after, found, found_on, judged_on, none_told}
-use Rattle.osi_blameless.proofs.Vocabulary.{request_tests, route_in, routed, sent_on, Traffic as State, takes, unnamed_told, uses_source}
-use Rattle.osi_blameless.proofs.Vocabulary.{Connection, Rules, Way as Direction, Finding, Broke, Kept, NotJudged, Reach, Half, Phase}
-use Rattle.osi_blameless.proofs.Vocabulary.{unlike}
+use Rattle.osi_blameless.proofs.Vocabulary.{[], ap, Bool, false, inl, inr, is_some, List, None, not, Option, refl, set, Some, suc, sym}
+use Rattle.osi_blameless.proofs.Vocabulary.{true, zero, ℕ, ◌&&◌, ◌==◌, ◌∙◌, ◌∷◌, ◌≡◌, ◌⊎◌, eqb-true, slice_get-map, list_all, position}
+use Rattle.osi_blameless.proofs.Vocabulary.{slice_get, ◌||◌, confirm, Connect, data0, disconnect, disconnected, error, request, Value}
+use Rattle.osi_blameless.proofs.Vocabulary.{Class, Two, Zero, is_applied, first_failed, begins, is_closed, is_closing, is_live, is_named}
+use Rattle.osi_blameless.proofs.Vocabulary.{is_open, is_over, is_over_by, is_refused, is_silent, asked_by, asks_by, asks_kept, at_found}
+use Rattle.osi_blameless.proofs.Vocabulary.{at_place, connection_after, course_after, found, found_on, judged_on, none_told, request_tests}
+use Rattle.osi_blameless.proofs.Vocabulary.{route_in, routed, sent_on, Traffic as State, takes, unnamed_told, uses_source, Connection}
+use Rattle.osi_blameless.proofs.Vocabulary.{Rules, Way as Direction, Finding, Broke, Kept, NotJudged, Reach, Half, Phase, unlike}
 use Rattle.osi_blameless.proofs.Vocabulary.{applied_found, applied_judged, no_item, not_first, not_true, AreJudged, reached_class}
-use Rattle.osi_blameless.proofs.Vocabulary.{begun_live}
-use Rattle.osi_blameless.proofs.Vocabulary.{each_add, each_map, each_set, first_true, HoldsOfEach, one_added, one_changed, one_mapped}
-use Rattle.osi_blameless.proofs.Vocabulary.{one_put, passes_each, NamesApart as AreApart, Sound, lasts_passing, set_there, HoldsOfOne}
-use Rattle.osi_blameless.proofs.Vocabulary.{packet}
-use Rattle.osi_blameless.proofs.Vocabulary.{passes, Passing, rubbish, unit, noted, arith, begun_left, begun_right, differ}
+use Rattle.osi_blameless.proofs.Vocabulary.{begun_live, each_add, each_map, each_set, first_true, HoldsOfEach, one_added, one_changed}
+use Rattle.osi_blameless.proofs.Vocabulary.{one_mapped, one_put, passes_each, NamesApart as AreApart, Sound, lasts_passing, set_there}
+use Rattle.osi_blameless.proofs.Vocabulary.{HoldsOfOne, packet, passes, Passing, rubbish, unit, noted, arith, begun_left, begun_right}
+use Rattle.osi_blameless.proofs.Vocabulary.{differ}
 use Rattle.osi_rules.specs.declared.directions.Direction.TheVariants.{Left, Right}
 use Rattle.osi_rules.specs.declared.findings.Rule.TheVariants as rule
 use Rattle.osi_rules.specs.Traffic.{reached}

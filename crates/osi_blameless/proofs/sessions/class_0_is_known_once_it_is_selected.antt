@@ -1,10 +1,9 @@
 -- The calling side knows of class 0 only once it is selected, whatever passes.
 -- For the units of both sides that are no breaks.
 use Rattle.osi_blameless.proofs.Vocabulary.{◌≡◌, sym, subst, ℕ, Bool, List, [], ◌∷◌, Option, Some, Value, Zero, Local, Direction}
-use Rattle.osi_blameless.proofs.Vocabulary.{Connection}
-use Rattle.osi_blameless.proofs.Vocabulary.{Rules, Way, Reach, Route, Outcome, Traffic, at_found, routed, takes, unnamed_told, Passing}
-use Rattle.osi_blameless.proofs.Vocabulary.{passes, unit, Event, HappenAlong, Happens, Whole, arrives, calls, passes_rubbish, zero_stays}
-use Rattle.osi_blameless.proofs.Vocabulary.{arith, Joint}
+use Rattle.osi_blameless.proofs.Vocabulary.{Connection, Rules, Way, Reach, Route, Outcome, Traffic, at_found, routed, takes, unnamed_told}
+use Rattle.osi_blameless.proofs.Vocabulary.{Passing, passes, unit, Event, HappenAlong, Happens, Whole, arrives, calls, passes_rubbish}
+use Rattle.osi_blameless.proofs.Vocabulary.{zero_stays, arith, Joint}
 use Rattle.osi_rules.specs.Sides as sides
 use Rattle.osi_rules.specs.Traffic.{reached}
 use Rattle.osi_fair.specs.Wholes.{begin, begins_other, begins_own, passes_other, passes_own}

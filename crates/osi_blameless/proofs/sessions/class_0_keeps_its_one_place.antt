@@ -1,13 +1,11 @@
 -- At a judge one connection has class 0, with a reference of the end, and of all others the references are gone: so it stays as packets
 -- begin and as units pass in class 0. For the session of the connection of an end in class 0.
 use Rattle.osi_blameless.proofs.Vocabulary.{arith, ◌≡◌, ◌∙◌, ◌⊎◌, inl, inr, refl, sym, ap, subst, ℕ, Bool, true, false, set, Some, None}
-use Rattle.osi_blameless.proofs.Vocabulary.{◌==◌}
-use Rattle.osi_blameless.proofs.Vocabulary.{slice_get, eqb-true, slice_get-map, Connect, Value, acknowledge, confirm, data0, data2}
-use Rattle.osi_blameless.proofs.Vocabulary.{disconnect, disconnected, error, request, Zero, Direction, Connection, Reach, begins}
-use Rattle.osi_blameless.proofs.Vocabulary.{is_refused}
-use Rattle.osi_blameless.proofs.Vocabulary.{State, class_for, connection_after, is_stopped, meaning_if, meant, route_zero, routed, takes}
-use Rattle.osi_blameless.proofs.Vocabulary.{unlike, after_change, set_there, Joined, Sessions, all_begin, reference_of, taken, way_of}
-use Rattle.osi_blameless.proofs.Vocabulary.{HaveSamePlaces}
+use Rattle.osi_blameless.proofs.Vocabulary.{Course, unit_passes, ◌==◌, slice_get, eqb-true, slice_get-map, Connect, Value, acknowledge}
+use Rattle.osi_blameless.proofs.Vocabulary.{confirm, data0, data2, disconnect, disconnected, error, request, Zero, Direction, Connection}
+use Rattle.osi_blameless.proofs.Vocabulary.{Reach, begins, is_refused, State, class_for, connection_after, is_stopped, meaning_if, meant}
+use Rattle.osi_blameless.proofs.Vocabulary.{route_zero, routed, takes, unlike, after_change, set_there, Joined, Sessions, all_begin}
+use Rattle.osi_blameless.proofs.Vocabulary.{reference_of, taken, way_of, HaveSamePlaces}
 use Rattle.osi_rules.specs.declared.directions.Direction.{Direction as Way}
 use Rattle.osi_rules.specs.Traffic as traffic
 use Rattle.osi_judge.specs.Connections.{packet_begins}
@@ -15,6 +13,7 @@ use Rattle.osi_judge.specs.Connections as joined
 use Rattle.osi_blameless.proofs.what_a_taker_passes_over.{IsMild}
 use Rattle.osi_blameless.proofs.sessions.all_connections_stand.{map_of}
 use Rattle.osi_blameless.proofs.sessions.class_0_has_one_connection.{set_other}
+use Rattle.osi_blameless.proofs.sessions.connections_have_the_same_places.{unit_joins, unit_knows}
 use Rattle.osi_blameless.proofs.sessions.what_a_unit_does_at_its_place.{Does, asks_again, asks_more, nowhere, somewhere, unit_does}
 use Rattle.osi_blameless.proofs.small_facts_that_many_lemmas_use.{same_one}
 use Rattle.osi_blameless.proofs.sessions.what_stands_of_a_connection.{named_begun}
@@ -155,6 +154,12 @@ module _ (d e : Direction) (r : ℕ) (gone : ℕ → Type 0) (at : ℕ) (v : Val
   one_by still (asks_more x is number cs ts) = no_cr e v s x is still
   one_by still (asks_again x is number p k here free cs ts) = no_cr e v s x is still
 
-  pub one_passes : HaveSamePlaces s.connections t.live → IsStill e v s → After (takes (way_of e) v s).state
+  one_passes : HaveSamePlaces s.connections t.live → IsStill e v s → After (takes (way_of e) v s).state
       (taken e at v (takes (way_of e) v s).told.meaning (takes (way_of e) v s).told.place t)
   one_passes places still = one_by still (unit_does e at v s t places)
+
+-- so it is at a judge
+pub one_stays : (d e : Direction) (r : ℕ) (gone : ℕ → Type 0) (at : ℕ) (v : Value) (c : Course) → HasOne d r gone c.traffic c.sessions →
+    HaveSamePlaces c.traffic.connections c.sessions.live → IsStill e v c.traffic →
+    HasOne d r gone (unit_passes e at v c).traffic (unit_passes e at v c).sessions
+one_stays d e r gone at v c one places still = search (arith, unit_knows, unit_joins, one_passes)

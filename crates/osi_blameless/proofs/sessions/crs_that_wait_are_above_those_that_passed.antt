@@ -3,10 +3,9 @@
 -- For all connections of an end and a judge.
 use Rattle.osi_blameless.proofs.Vocabulary.{[], arith, List, subst, sym, ℕ, ◌++◌, ◌+◌, ◌<◌, ◌∷◌, ◌≡◌, ◌≤◌, flat_map-append, append-nil}
 use Rattle.osi_blameless.proofs.Vocabulary.{AllByRecursion, Connect, request, Value, connects, sends, sends_all, user_does, UserCall}
-use Rattle.osi_blameless.proofs.Vocabulary.{Carrier}
-use Rattle.osi_blameless.proofs.Vocabulary.{unit_gives, all_gives, closed_gives, ended_gives, not_less, Rise, rise_from, sent_gives}
-use Rattle.osi_blameless.proofs.Vocabulary.{asked_among, call_asks, unit_asks, asked_in, put_by, Event, HappenAlong, Happens, Whole}
-use Rattle.osi_carrier.specs.Runs.{breaks, closes}
+use Rattle.osi_blameless.proofs.Vocabulary.{Carrier, unit_gives, all_gives, closed_gives, ended_gives, not_less, Rise, rise_from}
+use Rattle.osi_blameless.proofs.Vocabulary.{sent_gives, asked_among, call_asks, unit_asks, asked_in, put_by, Event, HappenAlong, Happens}
+use Rattle.osi_blameless.proofs.Vocabulary.{Whole, breaks, closes}
 use Rattle.osi_rules.specs.declared.directions.Direction.TheVariants as way
 use Rattle.osi_fair.specs.Wholes as wholes
 

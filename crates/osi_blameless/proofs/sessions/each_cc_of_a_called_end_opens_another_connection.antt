@@ -2,16 +2,12 @@
 -- all that is put for it, and no other connection that the end has open at the judge has its reference of the other side. For all
 -- connections of a called end and a judge.
 use Rattle.osi_blameless.proofs.Vocabulary.{[], ap, append_assoc, Bool, false, inl, inr, List, None, Option, refl, Some, subst, sym, true}
-use Rattle.osi_blameless.proofs.Vocabulary.{ℕ}
-use Rattle.osi_blameless.proofs.Vocabulary.{◌&&◌, ◌++◌, ◌∙◌, ◌∷◌, ◌≡◌, ◌⊎◌, eqb-true, AllByRecursion, slice_get, acknowledge, confirm}
+use Rattle.osi_blameless.proofs.Vocabulary.{ℕ, ◌&&◌, ◌++◌, ◌∙◌, ◌∷◌, ◌≡◌, ◌⊎◌, eqb-true, AllByRecursion, slice_get, acknowledge, confirm}
 use Rattle.osi_blameless.proofs.Vocabulary.{Connect, data2, disconnect, Value, Standing, Move, Two, Local, acceptance, opened_link}
-use Rattle.osi_blameless.proofs.Vocabulary.{value_at}
-use Rattle.osi_blameless.proofs.Vocabulary.{linked, is_open, uses, Connection, Way as Direction, Sessions, Answering, answering, AreStrays}
-use Rattle.osi_blameless.proofs.Vocabulary.{Asked, Called, comes, line_of, refuses, runs, Stand, StrayIf, at_first, at_join, first_at}
-use Rattle.osi_blameless.proofs.Vocabulary.{is_at}
-use Rattle.osi_blameless.proofs.Vocabulary.{Placed, values, NamesApart as AreApart, keep, Act, ActsAlong, Line, opened_line, units_put}
-use Rattle.osi_blameless.proofs.Vocabulary.{Whole}
-use Rattle.osi_blameless.proofs.Vocabulary.{HaveSamePlaces, arith, AreNamedApart, each_sound, differ}
+use Rattle.osi_blameless.proofs.Vocabulary.{value_at, linked, is_open, uses, Connection, Way as Direction, Sessions, Answering, answering}
+use Rattle.osi_blameless.proofs.Vocabulary.{AreStrays, Asked, Called, comes, line_of, refuses, runs, Stand, StrayIf, at_first, at_join}
+use Rattle.osi_blameless.proofs.Vocabulary.{first_at, is_at, Placed, values, NamesApart as AreApart, keep, Act, ActsAlong, Line}
+use Rattle.osi_blameless.proofs.Vocabulary.{opened_line, units_put, Whole, HaveSamePlaces, arith, AreNamedApart, each_sound, differ}
 use Rattle.osi_side.specs.declared.directions.Direction.TheVariants as side
 use Rattle.osi_rules.specs.declared.directions.Direction.TheVariants.{Left, Right}
 use Rattle.osi_fair.proofs.each_connection_of_a_called_end.{past}
@@ -205,7 +201,8 @@ module _ (local : Local) (w : Whole) (t : Sessions) (f : Called local w) (apart 
       grind (arith, item)
 
   -- nor for that of a connection which the end has open at the judge
-  open_not : {A : Type 0} (n r : ℕ) (ts : List Placed) (k : CcAt n r ts) (i : ℕ) (e : Connection) → slice_get w.judge.connections i ≡ Some e →
+  open_not : {A : Type 0} (n r : ℕ) (ts : List Placed) (k : CcAt n r ts) (i : ℕ) (e : Connection) →
+      slice_get w.judge.connections i ≡ Some e →
       is_open e.right.phase ≡ true → e.left.reference ≡ n → A
   open_not n r ts k i e at lives is =
       let (j, here, one) = at_same w.judge.connections t.live i e places at in
@@ -267,7 +264,8 @@ module _ (local : Local) (w : Whole) (t : Sessions) (f : Called local w) (apart 
       not_empty (units_at p front) (units_at p rest) v (sym (place_parts p front rest v is) ∙ none)
 
   ordered_one : (n r : ℕ) (front rest : List Placed) (o : Option ℕ) (v : Value) → f.tagged ≡ front ++ (o, v) ∷ rest →
-      StrayIf f.shut w.end f.refs f.home w.judge.course.disconnects.strays o v rest → IsNotZero v → is_for (Some n) v ≡ true → CcAt n r rest →
+      StrayIf f.shut w.end f.refs f.home w.judge.course.disconnects.strays o v rest → IsNotZero v → is_for (Some n) v ≡ true →
+      CcAt n r rest →
       ⊥
   ordered_one n r front rest None v is stray zero mine k = differ (is_for (Some n) v) mine (ap (is_for (Some n)) stray.is)
   ordered_one n r front rest (Some p) v is stray zero mine k = by (slice_get w.judge.connections p) refl

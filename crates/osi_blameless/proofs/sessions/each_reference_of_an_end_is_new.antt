@@ -1,6 +1,7 @@
 -- At a judge each CR of a calling end that passes gives a new reference, and so does each CC of a called end; and this stays so with each
 -- step. For all connections of an end and a judge.
 use Rattle.osi_blameless.proofs.Vocabulary.{◌≡◌, ◌∙◌, ◌⊎◌, inl, inr, refl, sym, ap, subst, ℕ, ◌<◌, ◌≤◌, Bool, false, List, [], ◌∷◌, ◌++◌}
+use Rattle.osi_blameless.proofs.Vocabulary.{Holding, IsFresh, Local, begin, calls_from}
 use Rattle.osi_blameless.proofs.Vocabulary.{length, Option, Some, None, arith, slice_get, AllByRecursion, Connect, Value, confirm, request}
 use Rattle.osi_blameless.proofs.Vocabulary.{Direction, Left, Right, other, State, meaning_if, meant, takes, Event, HappenAlong, Whole}
 use Rattle.osi_blameless.proofs.Vocabulary.{after_add, after_set, Turn, AllProper, Room, Joined, Sessions, all_begin, asked, reference_of}
@@ -11,7 +12,7 @@ use Rattle.osi_fair.specs.Wholes as wholes
 use Rattle.osi_judge.specs.Connections.{packet_begins}
 use Rattle.osi_judge.specs.Connections as joined
 use Rattle.osi_blameless.proofs.a_carrier_does_events.{happen_join}
-use Rattle.osi_blameless.proofs.steps_are_events.{IsFollowed, own_first, step_followed}
+use Rattle.osi_blameless.proofs.steps_are_events.{IsFollowed, begin_followed, own_first, step_followed}
 use Rattle.osi_blameless.proofs.sessions.all_connections_stand.{map_of}
 use Rattle.osi_blameless.proofs.sessions.connections_have_the_same_places.{unit_agrees, unit_joins, unit_knows}
 use Rattle.osi_blameless.proofs.small_facts_that_many_lemmas_use.{same_one}
@@ -156,6 +157,21 @@ pub record IsAhead (d : Direction) (first : Whole) (j : Joint) : Type 0 where
   pub bound : ℕ
   pub above : WaitAbove d bound followed.whole
   pub below : AreUpTo d bound j.course.sessions
+
+first_above : (d : Direction) (local : Local) → WaitAbove d 0 (wholes.begin (calls_from d) local)
+first_above Left local = record { rise = tt; up = tt; given = omega arith }
+first_above Right local = omega arith
+
+pub first_ahead : (d : Direction) (local : Local) (h : Holding) → IsFresh (calls_from d) local h →
+    IsAhead d (wholes.begin (calls_from d) local) (begin h)
+first_ahead d local h fresh =
+    let f = begin_followed d (calls_from d) local h fresh in
+    record {
+      followed = f;
+      bound = 0;
+      above = above_along d 0 f.events (wholes.begin (calls_from d) local) f.whole f.along (first_above d local);
+      below = record { live = λ i j r here named. absurd (cc here); done = λ i j r here named. absurd (cc here) };
+    }
 
 -- so after a step, with a reference that is as high
 pub record GoesOn (d : Direction) (first : Whole) (b : ℕ) (j : Joint) : Type 0 where

@@ -1,22 +1,20 @@
 -- The induction over steps: if each step keeps what holds of an end and a judge as long as both sides are judged and one class is not
 -- selected, nobody of the end is ever to blame; or something else holds from a unit of the other side on. For the laws that no session of
 -- an end is to blame, in either class.
+use Rattle.osi_blameless.proofs.sessions.steps_of_either_class_leave_all_standing.{none_so}
 use Rattle.osi_blameless.proofs.Vocabulary.{◌≡◌, ◌∙◌, ◌⊎◌, inl, inr, refl, sym, ap, subst, ℕ, ◌^◌, ◌<◌, false, Ok, List, [], ◌∷◌, ◌++◌}
-use Rattle.osi_blameless.proofs.Vocabulary.{length, Option}
-use Rattle.osi_blameless.proofs.Vocabulary.{Some, append_assoc, append-nil, arith, slice_get, IsOctets, units_of, Value, Class, Local}
-use Rattle.osi_blameless.proofs.Vocabulary.{Capture}
-use Rattle.osi_blameless.proofs.Vocabulary.{other, Direction, Finding, is_applied, reach_of, class_for, takes, stops_last, Holding, Deeds}
-use Rattle.osi_blameless.proofs.Vocabulary.{all_did, no_deeds, IsFresh, Turn, AllProper, Joined, spoken, heard, unit_passes, units_pass}
-use Rattle.osi_blameless.proofs.Vocabulary.{way_of}
-use Rattle.osi_blameless.proofs.Vocabulary.{comes_to, Joint, Step, Steps, StepsAlong, TakesTurn, begin, begins_other, begins_own}
-use Rattle.osi_blameless.proofs.Vocabulary.{passes_other, passes_own, turns, TurnsBad, calls_from}
+use Rattle.osi_blameless.proofs.Vocabulary.{length, Option, Some, append_assoc, append-nil, arith, slice_get, IsOctets, units_of, Value}
+use Rattle.osi_blameless.proofs.Vocabulary.{Class, Local, Capture, other, Direction, Finding, is_applied, reach_of, class_for, takes}
+use Rattle.osi_blameless.proofs.Vocabulary.{stops_last, Holding, Deeds, all_did, no_deeds, IsFresh, Turn, AllProper, Joined, spoken, heard}
+use Rattle.osi_blameless.proofs.Vocabulary.{unit_passes, units_pass, way_of, comes_to, Joint, Step, Steps, StepsAlong, TakesTurn, begin}
+use Rattle.osi_blameless.proofs.Vocabulary.{begins_other, begins_own, passes_other, passes_own, turns, TurnsBad, calls_from}
 use Rattle.osi_rules.specs.declared.findings.Reach.TheVariants as reach
 use Rattle.osi_fair.specs.Wholes as wholes
 use Rattle.osi_judge.specs.Courses.{Course as Passed}
 use Rattle.osi_judge.specs.States as states
 use Rattle.osi_blameless.proofs.a_break_ends_no_judging_or_all.{all_ends, mild_reach, reach_so}
 use Rattle.osi_blameless.proofs.all_is_judged_or_nothing.{IsOver, unread_over}
-use Rattle.osi_blameless.proofs.no_unit_of_a_whole_end_is_a_break.{IsFair, IsNoBreak}
+use Rattle.osi_blameless.proofs.no_unit_of_a_whole_end_is_a_break.{IsNoBreak}
 use Rattle.osi_blameless.proofs.steps_are_events.{IsFollowed, step_followed}
 use Rattle.osi_blameless.proofs.what_passes_keeps_a_claim.{IsClaim, after_join, step_kept, units_kept}
 use Rattle.osi_blameless.proofs.what_the_turns_among_steps_do.{ComesByDoing, IsOfJudge, StepsDo, TurnDoes}
@@ -95,7 +93,7 @@ module _ (proper : AllProper) (barred : Class) (d : Direction) (local : Local) (
         Comes barred d Rest at v (units_pass (other d) at front old.course) (with_packet d at octets (front ++ v ∷ back) old)
     pub step : (step : Step) (old new : Joint) → Steps d step old new → length old.course.past < 2 ^ 64 → Rest old → Rest new
 
-  module _ (fair : IsFair (way_of d) first) (so_rests : RestsSo) where
+  module _ (so_rests : RestsSo) where
     pub data Stays (deeds : ℕ → Deeds) (j : Joint) : Type 0 where
       goes : Judging deeds j → Stays deeds j
       ended : IsDone d j.course → Stays deeds j
@@ -139,8 +137,10 @@ module _ (proper : AllProper) (barred : Class) (d : Direction) (local : Local) (
         then_blameless taken =
             let parts : units ≡ (front ++ v ∷ []) ++ back = is ∙ sym (append_assoc front (v ∷ []) back) in
             subst (λ (c : Passed). NoneIsToBlame d c.sessions) joined
-            (k.none_amid deeds at octets (front ++ v ∷ []) back old new
-            (subst (λ (l : List Value). Steps d (passes_other at octets l) old new) parts (all, read, refl)) g.courses taken g.holds)
+            (none_so k.laws d deeds old.put old.begun old.holding.end (After (front ++ v ∷ [])) g.courses
+            (k.leads.stands_amid deeds at octets (front ++ v ∷ []) back old new
+            (subst (λ (l : List Value). Steps d (passes_other at octets l) old new) parts (all, read, refl)) taken
+            (λ is. next_not (ap (λ (c : Passed). c.traffic.course.class) (sym joined) ∙ is)) g.holds))
 
         on : IsPassed barred d v (After front) → IsStillJudged barred next → SoFar barred d at (front ++ v ∷ []) old.course
         on passed judged =
@@ -184,7 +184,8 @@ module _ (proper : AllProper) (barred : Class) (d : Direction) (local : Local) (
 
       other_by : Passing → Stays deeds new
       other_by (all_taken so) =
-          goes (other_goes proper barred d local Inv k deeds at octets units old new (all, read, refl) g so.passed so.judged so.never)
+          goes (other_goes proper barred d local Inv k deeds at octets units old new
+          (all, read, refl) g so.passed so.not so.judged so.never)
       other_by (then_done s) = ended s
       other_by (then_rests r) = rested r
 
@@ -199,7 +200,7 @@ module _ (proper : AllProper) (barred : Class) (d : Direction) (local : Local) (
         by (mild_reach d at v old.course (takes (way_of d) v old.course.traffic).told.finding refl none)
       where
         none : IsNoBreak (takes (way_of d) v old.course.traffic).told.finding
-        none = own_mild d local fair at v old new step g.followed (going_of barred old.course g.judged)
+        none = own_mild d local at v old new step g.followed (going_of barred old.course g.judged)
 
         by : ((takes (way_of d) v old.course.traffic).told.reach ≡ reach.Nothing)
             ⊎ ((takes (way_of d) v old.course.traffic).told.reach ≡ reach.Everything) → Stays deeds new

@@ -2,15 +2,13 @@
 -- end has not closed there, or for one whose CC has not passed; each other unit is for none.
 -- For all connections of an end and a judge.
 use Rattle.osi_blameless.proofs.Vocabulary.{[], ap, append_assoc, false, List, None, Option, refl, Some, subst, sym, true, ℕ, ◌&&◌, ◌++◌}
-use Rattle.osi_blameless.proofs.Vocabulary.{◌∙◌}
-use Rattle.osi_blameless.proofs.Vocabulary.{◌∷◌, ◌≡◌, AllByRecursion, slice_get, confirm, Connect, disconnect, request, Value, Standing}
-use Rattle.osi_blameless.proofs.Vocabulary.{Zero}
-use Rattle.osi_blameless.proofs.Vocabulary.{Local, value_at, linked, Carrier, is_open, is_refused, uses, silent_half, Traffic as State}
-use Rattle.osi_blameless.proofs.Vocabulary.{Connection, Phase, Left, Right, Answers, Begins, is_shut, Opens, opens, Continues, Deeds}
-use Rattle.osi_blameless.proofs.Vocabulary.{all_units, Marked, Turn, Joined, reference_of, Sessions, answering as answers, Asked, Called}
-use Rattle.osi_blameless.proofs.Vocabulary.{comes, refuses, runs, Stand, Untagged, at_first, at_join, first_at, Placed, values, NamesApart}
-use Rattle.osi_blameless.proofs.Vocabulary.{IsCalm, open_link, ◌<◌, Whole, Joint, TakesTurn, HaveSamePlaces, named_by, arith, AreNamedApart}
-use Rattle.osi_blameless.proofs.Vocabulary.{each_sound, AreApart, differ}
+use Rattle.osi_blameless.proofs.Vocabulary.{◌∙◌, ◌∷◌, ◌≡◌, AllByRecursion, slice_get, confirm, Connect, disconnect, request, Value}
+use Rattle.osi_blameless.proofs.Vocabulary.{Standing, Zero, Local, value_at, linked, Carrier, is_open, is_refused, uses, silent_half}
+use Rattle.osi_blameless.proofs.Vocabulary.{Traffic as State, Connection, Phase, Left, Right, Answers, Begins, is_shut, Opens, opens}
+use Rattle.osi_blameless.proofs.Vocabulary.{Continues, Deeds, all_units, Marked, Turn, Joined, reference_of, Sessions, answering as answers}
+use Rattle.osi_blameless.proofs.Vocabulary.{Asked, Called, comes, refuses, runs, Stand, Untagged, at_first, at_join, first_at, Placed}
+use Rattle.osi_blameless.proofs.Vocabulary.{values, NamesApart, IsCalm, open_link, ◌<◌, Whole, Joint, TakesTurn, HaveSamePlaces, named_by}
+use Rattle.osi_blameless.proofs.Vocabulary.{arith, AreNamedApart, each_sound, AreApart, differ}
 use Rattle.osi_rules.specs.declared.directions.Direction.TheVariants as way
 use Rattle.osi_fair.specs.Wholes.{begin}
 use Rattle.osi_fair.proofs.each_connection_of_a_called_end.{Row, past}
@@ -66,7 +64,8 @@ not_empty [] ys v e = absurd (cc)
 not_empty (x ∷ xs) ys v e = absurd (cc)
 
 module _ (local : Local) (w : Whole) (t : Sessions) (f : Called local w) (apart : NamesApart w.judge.connections)
-    (named : AreNamedApart way.Left w.judge.connections) (places : HaveSamePlaces w.judge.connections t.live) (lasts : w.end.ended ≡ None) where
+    (named : AreNamedApart way.Left w.judge.connections) (places : HaveSamePlaces w.judge.connections t.live)
+    (lasts : w.end.ended ≡ None) where
   abbrev StandsAt : ℕ → Connection → Type 0
   StandsAt p c = Stand local f.shut w.end w.coming (units_at p f.tagged) (units_at p f.came) (w.begun && first_at p f.tagged) (f.refs p) c
 

@@ -5,22 +5,20 @@ use Rattle.osi_blameless.proofs.Vocabulary.{[], ap, append_assoc, arith, Bool, f
 use Rattle.osi_blameless.proofs.Vocabulary.{suc, sym, true, ℕ, ◌++◌, ◌<◌, ◌==◌, ◌∙◌, ◌∷◌, ◌≡◌, eq-eqb, AllByRecursion, slice_get, confirm}
 use Rattle.osi_blameless.proofs.Vocabulary.{Connect, data0, disconnect, request, Value, written, Standing, Local, value_at, closing, Live}
 use Rattle.osi_blameless.proofs.Vocabulary.{linked, Carrier, has_given, Traffic as State, Connection, Left, amid, early, Life, opens_by}
-use Rattle.osi_blameless.proofs.Vocabulary.{past}
-use Rattle.osi_blameless.proofs.Vocabulary.{Time as Stage, stage_at, stays, all_units_more, Opens, Continues, Deeds, all_units, Marked}
-use Rattle.osi_blameless.proofs.Vocabulary.{Turn}
-use Rattle.osi_blameless.proofs.Vocabulary.{Sessions, Followed, is_tracked, IsOwned, Row, Tracked, each_picked, first_kept, is_dc, IsDc}
-use Rattle.osi_blameless.proofs.Vocabulary.{IsOngoing, names, those, those_join, Line, Whole, Joint, TakesTurn, HaveSamePlaces, AreGiven}
-use Rattle.osi_blameless.proofs.Vocabulary.{AreApart, BeforeOpen, WhileOpen, stage_by, Awaiting, FirstOf, HasNoCc, asked_so, goes, le-leb}
-use Rattle.osi_blameless.proofs.Vocabulary.{lt-ltb}
+use Rattle.osi_blameless.proofs.Vocabulary.{past, Time as Stage, stage_at, stays, all_units_more, Opens, Continues, Deeds, all_units}
+use Rattle.osi_blameless.proofs.Vocabulary.{Marked, Turn, Sessions, Followed, is_tracked, IsOwned, Row, Tracked, each_picked, first_kept}
+use Rattle.osi_blameless.proofs.Vocabulary.{is_dc, IsDc, IsOngoing, names, those, those_join, Line, Whole, Joint, TakesTurn, HaveSamePlaces}
+use Rattle.osi_blameless.proofs.Vocabulary.{AreGiven, AreApart, BeforeOpen, WhileOpen, stage_by, Awaiting, FirstOf, HasNoCc, asked_so, goes}
+use Rattle.osi_blameless.proofs.Vocabulary.{le-leb, lt-ltb, awaits}
 use Rattle.osi_carrier.specs.State.{asked}
 use Rattle.osi_fair.specs.Wholes.{begin}
-use Rattle.osi_honest.proofs.courses.the_first_cc_opens_a_connection.{awaits, opens_so}
+use Rattle.osi_honest.proofs.courses.the_first_cc_opens_a_connection.{opens_so}
 use Rattle.osi_judge.specs.Courses.{Course as Passed}
 use Rattle.osi_blameless.proofs.small_facts_that_many_lemmas_use.{and_both, over_not, all_join as all_of_both}
 use Rattle.osi_blameless.proofs.steps_are_events.{IsFollowed}
 use Rattle.osi_blameless.proofs.what_is_put_is_what_is_written.{same_written, written_join}
 use Rattle.osi_blameless.proofs.sessions.a_turn_does_what_its_deeds_say.{turn_uses}
-use Rattle.osi_blameless.proofs.sessions.a_whole_end_runs_along.{calling_followed}
+use Rattle.osi_blameless.proofs.sessions.a_whole_end_runs_along.{whole_followed}
 use Rattle.osi_blameless.proofs.sessions.connections_have_the_same_places.{at_same}
 use Rattle.osi_blameless.proofs.sessions.each_unit_of_a_turn_has_one_connection.{HasHome, IsMarked, known}
 use Rattle.osi_blameless.proofs.sessions.nothing_is_done_before_a_cr_passes.{IsNotCc, same_units}
@@ -157,7 +155,7 @@ module _ (local : Local) (two : local.class2 ≡ true) (deeds : ℕ → Deeds) (
   IsPut q = IsPutFor Left true (begin true local) deeds turn old new step on f q f.whole.judge t
 
   followed : Followed local f.whole
-  followed = calling_followed local two old f clear
+  followed = whole_followed local two old f clear
 
   places_so : HaveSamePlaces f.whole.judge.connections t.live
   places_so = subst (λ (x : State). HaveSamePlaces x.connections t.live) (sym f.judge) places
@@ -168,7 +166,7 @@ module _ (local : Local) (two : local.class2 ≡ true) (deeds : ℕ → Deeds) (
 
   owned_units : AllByRecursion IsOwnedSo (all_units on.put)
   owned_units =
-      let all = (calling_followed local two new g (subst (λ (c : Passed). IsOngoing c.traffic.course) (sym step.course) clear)).owned in
+      let all = (whole_followed local two new g (subst (λ (c : Passed). IsOngoing c.traffic.course) (sym step.course) clear)).owned in
       let same : map written step.units ≡ map written (all_units on.put) =
       same_written step.units (all_units on.put) (sym step.written ∙ on.written) in
       let alike : map written g.whole.put ≡ map written (old.put ++ all_units on.put) = grind (arith, written_join) in

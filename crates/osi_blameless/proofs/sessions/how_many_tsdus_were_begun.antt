@@ -1,15 +1,13 @@
 -- A session has said each TSDU of which a unit was put, and by then it had taken no more than its link has handed out.
 -- For what a capture shows of a session.
-use Rattle.osi_blameless.proofs.Vocabulary.{[], ap, arith, Bool, false, length, List, refl, subst, suc, sym, true, ℕ, ◌++◌}
-use Rattle.osi_blameless.proofs.Vocabulary.{◌+◌, ◌∙◌, ◌∷◌, ◌≡◌, ◌≤◌, flat_map-append, length-append, length-map, AllByRecursion, Value}
-use Rattle.osi_blameless.proofs.Vocabulary.{at_some, move_keeps, all as all_sent, Ends, Standing, give_out, hand_in, hand_out, Move}
-use Rattle.osi_blameless.proofs.Vocabulary.{MovesAlong, part_out, parts_out, take_in, tsdus_in, tsdus_out, unit_parts, Part, tsdus}
-use Rattle.osi_blameless.proofs.Vocabulary.{tsdus_after, uncut, End, fresh_of, no_calls, AreCalls, Deeds, said_in, is_gone, closed}
-use Rattle.osi_blameless.proofs.Vocabulary.{ends_whole, left_over, parts_of, never}
+use Rattle.osi_blameless.proofs.Vocabulary.{[], ap, arith, Bool, false, length, List, refl, subst, suc, sym, true, ℕ, ◌++◌, ◌+◌, ◌∙◌, ◌∷◌}
+use Rattle.osi_blameless.proofs.Vocabulary.{◌≡◌, ◌≤◌, flat_map-append, length-append, length-map, AllByRecursion, Value, at_some}
+use Rattle.osi_blameless.proofs.Vocabulary.{move_keeps, all as all_sent, Ends, Standing, give_out, hand_in, hand_out, Move, MovesAlong}
+use Rattle.osi_blameless.proofs.Vocabulary.{part_out, parts_out, take_in, tsdus_in, tsdus_out, unit_parts, Part, tsdus, tsdus_after, uncut}
+use Rattle.osi_blameless.proofs.Vocabulary.{End, fresh_of, no_calls, AreCalls, Deeds, said_in, is_gone, closed, ends_whole, left_over}
+use Rattle.osi_blameless.proofs.Vocabulary.{parts_of, never, awaited, unknown, Said, over}
 use Rattle.osi_honest.specs.Courses.{Course}
-use Rattle.osi_honest.specs.Courses.Course.{is_open, awaited, unknown}
-use Rattle.osi_honest.specs.Courses.Gone.{over}
-use Rattle.osi_honest.specs.Talking.{Said}
+use Rattle.osi_honest.specs.Courses.Course.{is_open}
 use Rattle.osi_blameless.proofs.sessions.a_session_that_is_shown_is_not_to_blame.{octets_in, parts_put, tsdus_more}
 
 -- ---- parts one after the other

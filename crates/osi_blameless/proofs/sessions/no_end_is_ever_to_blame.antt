@@ -1,32 +1,23 @@
 -- No session of an end is ever to blame, whatever the other side breaks, whichever class is selected; so the first break of all is of the
 -- other side. For the laws that no session of an end is to blame after a break, nor blamed first.
-use Rattle.osi_blameless.proofs.Vocabulary.{slice_get, ◌⊎◌, ℕ, inl, inr, ◌≡◌, refl, ◌^◌, ◌<◌, Bool, false, true, List, length, Option}
-use Rattle.osi_blameless.proofs.Vocabulary.{Some, Class, Zero, Local, Capture, Direction, Left, Right, other, AsSent, AsParts, CalledLaw}
-use Rattle.osi_blameless.proofs.Vocabulary.{CallerLaw, Holding, IsFresh, IsSeen, Run, Turn, Known, IsToBlame, Joined, Sessions, Course}
-use Rattle.osi_blameless.proofs.Vocabulary.{comes_to}
-use Rattle.osi_blameless.proofs.Vocabulary.{AreOctets, differ, BreaksFirst, First}
+use Rattle.osi_blameless.proofs.Vocabulary.{slice_get, ◌⊎◌, ℕ, inl, inr, ◌≡◌, ◌^◌, ◌<◌, List, length, Option, Some, Class, Zero, Local}
+use Rattle.osi_blameless.proofs.Vocabulary.{Capture, Direction, other, Holding, IsFresh, IsSeen, Run, Turn, Known, IsToBlame, Joined}
+use Rattle.osi_blameless.proofs.Vocabulary.{Sessions, Course, comes_to, AreOctets, differ, BreaksFirst, First, calls_from}
 use Rattle.osi_blameless.proofs.a_capture_is_steps.{capture_steps}
 use Rattle.osi_blameless.proofs.in_class_0_one_side_alone_is_judged.{IsLoose}
-use Rattle.osi_blameless.proofs.no_unit_of_a_whole_end_is_a_break.{called_is_fair, called_is_fair_in_class_0}
-use Rattle.osi_blameless.proofs.no_unit_of_a_whole_end_is_a_break.{calling_is_fair, calling_is_fair_in_class_0}
 use Rattle.osi_blameless.proofs.no_unit_of_an_end_breaks_a_rule.{always_unbroken}
 use Rattle.osi_blameless.proofs.small_facts_that_many_lemmas_use.{zero_two}
 use Rattle.osi_blameless.proofs.what_the_turns_among_steps_do.{ComesByDoing, comes_by_steps}
-use Rattle.osi_blameless.proofs.sessions.a_called_end_stands_until_class_2.{StandsCalledUntilTwo}
-use Rattle.osi_blameless.proofs.sessions.a_calling_end_stands_until_class_2.{StandsUntilTwo}
-use Rattle.osi_blameless.proofs.sessions.a_calling_end_without_class_2_puts_no_dt.{calling_puts_none}
-use Rattle.osi_blameless.proofs.sessions.an_end_that_has_said_nothing_is_not_to_blame.{HasSaidNothing, mute_keeps}
-use Rattle.osi_blameless.proofs.sessions.an_end_of_class_0_has_begun_what_a_judge_has_joined.{called_begun, calling_begun}
+use Rattle.osi_blameless.proofs.sessions.an_end_of_class_0_has_begun_what_a_judge_has_joined.{begun_until_two}
 use Rattle.osi_blameless.proofs.sessions.nobody_of_a_side_is_to_blame.{NeverToBlame, NoneIsToBlame}
-use Rattle.osi_blameless.proofs.sessions.what_a_called_end_keeps_until_class_2.{called_early_keeps}
-use Rattle.osi_blameless.proofs.sessions.what_a_calling_end_keeps_until_class_2.{early_keeps}
-use Rattle.osi_blameless.proofs.sessions.what_a_called_end_keeps_unless_in_class_0.{StandsOrSelected, called_keeps}
-use Rattle.osi_blameless.proofs.sessions.what_a_calling_end_keeps_unless_in_class_0.{StandsQuiet, calling_keeps}
+use Rattle.osi_blameless.proofs.sessions.what_an_end_keeps_until_class_2.{StandsUntilTwo, keeps_until_two}
+use Rattle.osi_blameless.proofs.sessions.what_an_end_keeps_unless_in_class_0.{UnlessZero, keeps_unless_zero}
 use Rattle.osi_blameless.proofs.sessions.no_session_is_to_blame_unless_class_2_is_selected.{ends_well}
 use Rattle.osi_blameless.proofs.sessions.no_session_is_to_blame_unless_class_0_is_selected.{never_to_blame}
 use Rattle.osi_blameless.proofs.sessions.a_loss_is_in_class_2_at_a_judge.{capture_two, firm_in_zero}
 use Rattle.osi_blameless.proofs.sessions.steps_of_either_class_leave_all_standing.{zero_by}
 use Rattle.osi_blameless.proofs.sessions.the_first_break_of_all_is_of_the_other_side.{IsUnblamed, capture_unblamed, first_of_all}
+use Rattle.osi_blameless.proofs.sessions.a_session_that_is_shown_is_not_to_blame.{SessionLaws}
 
 pub none_among : (d : Direction) (s : Sessions) (i : ℕ) (j : Joined) → NoneIsToBlame d s →
     (slice_get s.live i ≡ Some j) ⊎ (slice_get s.done i ≡ Some j) → IsToBlame d j → ⊥
@@ -42,73 +33,41 @@ pub record IsBlameless (d : Direction) (c : Course) : Type 0 where
 pub blameless_first : (d : Direction) (f : First) (c : Course) → IsBlameless d c → BreaksFirst f c.past → f.direction ≡ other d
 blameless_first d f c h b = first_of_all d f c.past h.never.past h.transport.past b
 
-module _ (known : Known) (known_of : AsSent) (parts : AsParts) (caller : CallerLaw) (called : CalledLaw) (local : Local)
-    (capture : Capture) where
+module _ (known : Known) (laws : SessionLaws) (local : Local) (capture : Capture) where
   abbrev course : Course
   course = (comes_to capture).course
 
   abbrev selected : Option Class
   selected = course.traffic.course.class
 
-  module _ (few : length course.past < 2 ^ 64) (begin : Holding) where
-    -- in class 0 no connection loses its judgement
-    by_class_0 : (d : Direction) → selected ≡ Some Zero → NeverToBlame d course ⊎ IsLoose course → NeverToBlame d course
-    by_class_0 d zero (inl never) = never
-    by_class_0 d zero (inr loose) = differ course.traffic.course.loose loose (firm_in_zero course zero (capture_two capture))
+  abbrev NeverIf : Direction → Type 0 → Type 0
+  NeverIf d P = (begin : Holding) → IsFresh (calls_from d) local begin → ComesByDoing d (calls_from d) capture begin →
+      length course.past < 2 ^ 64 → P → NeverToBlame d course
 
-    called_never : IsFresh false local begin → ComesByDoing Right false capture begin → NeverToBlame Right course
-    called_never fresh comes = zero_by selected in_zero without
-      where
-        in_zero : selected ≡ Some Zero → NeverToBlame Right course
-        in_zero zero =
-            by_class_0 Right zero
-            (ends_well known Right local (called_is_fair local) (called_is_fair_in_class_0 local)
-            (StandsCalledUntilTwo local known.proper)
-            (called_early_keeps local known.proper known_of parts caller called) (called_begun local known.proper) begin capture fresh comes
-            (record { not = λ two. zero_two selected zero two; few = few }))
+  -- in class 0 no connection loses its judgement
+  by_class_0 : (d : Direction) → selected ≡ Some Zero → NeverToBlame d course ⊎ IsLoose course → NeverToBlame d course
+  by_class_0 d zero (inl never) = never
+  by_class_0 d zero (inr loose) = differ course.traffic.course.loose loose (firm_in_zero course zero (capture_two capture))
 
-        without : (selected ≡ Some Zero → ⊥) → NeverToBlame Right course
-        without not =
-            never_to_blame known.proper Right local (called_is_fair local) (StandsOrSelected local known.proper)
-            (called_keeps local known.proper known_of parts caller called) begin capture fresh comes (record { not = not; few = few })
+  in_zero : (d : Direction) → NeverIf d (selected ≡ Some Zero)
+  in_zero d begin fresh comes few zero =
+      by_class_0 d zero
+      (ends_well known d local (StandsUntilTwo d local) (keeps_until_two local known.proper laws d)
+      (begun_until_two d local) begin capture fresh comes (record { not = λ two. zero_two selected zero two; few = few }))
 
-    calling_never : IsFresh true local begin → ComesByDoing Left true capture begin → NeverToBlame Left course
-    calling_never fresh comes = zero_by selected in_zero (λ not. without not local.class2 refl)
-      where
-        in_zero : selected ≡ Some Zero → NeverToBlame Left course
-        in_zero zero =
-            by_class_0 Left zero
-            (ends_well known Left local (calling_is_fair local) (calling_is_fair_in_class_0 local) (StandsUntilTwo local)
-            (early_keeps local known.proper known_of parts caller called) (calling_begun local) begin capture fresh comes
-            (record { not = λ two. zero_two selected zero two; few = few }))
-
-        without : (selected ≡ Some Zero → ⊥) → (b : Bool) → local.class2 ≡ b → NeverToBlame Left course
-        without not true two =
-            never_to_blame known.proper Left local (calling_is_fair local) (StandsQuiet local two known.proper)
-            (calling_keeps local two known.proper known_of parts caller called) begin capture fresh comes (record { not = not; few = few })
-        without not false none =
-            never_to_blame known.proper Left local (calling_is_fair local) (HasSaidNothing Left local)
-            (mute_keeps known.proper Left local (calling_puts_none local none)) begin capture fresh comes
-            (record { not = not; few = few })
+  without : (d : Direction) → NeverIf d (selected ≡ Some Zero → ⊥)
+  without d begin fresh comes few not =
+      never_to_blame known.proper d local (UnlessZero d local) (keeps_unless_zero local known.proper laws d) begin
+      capture fresh comes (record { not = not; few = few })
 
   -- ---- so an end is blameless
 
-  pub called_blameless : (begin end : Holding) (turns : List Turn) → IsFresh false local begin → Run begin turns end →
-      AreOctets capture → IsSeen Right turns capture → length course.past < 2 ^ 64 → IsBlameless Right course
-  called_blameless begin end turns fresh run octets seen few =
-      let comes = capture_steps known Right false local begin end turns capture fresh run octets seen in
+  pub blameless : (d : Direction) (begin end : Holding) (turns : List Turn) → IsFresh (calls_from d) local begin → Run begin turns end →
+      AreOctets capture → IsSeen d turns capture → length course.past < 2 ^ 64 → IsBlameless d course
+  blameless d begin end turns fresh run octets seen few =
+      let comes = capture_steps known d (calls_from d) local begin end turns capture fresh run octets seen in
       record {
-        never = called_never few begin fresh comes;
-        transport = capture_unblamed Right capture (always_unbroken Right known.proper false local begin capture fresh (called_is_fair local)
-            (called_is_fair_in_class_0 local) (comes_by_steps Right false capture begin comes));
-      }
-
-  pub calling_blameless : (begin end : Holding) (turns : List Turn) → IsFresh true local begin → Run begin turns end →
-      AreOctets capture → IsSeen Left turns capture → length course.past < 2 ^ 64 → IsBlameless Left course
-  calling_blameless begin end turns fresh run octets seen few =
-      let comes = capture_steps known Left true local begin end turns capture fresh run octets seen in
-      record {
-        never = calling_never few begin fresh comes;
-        transport = capture_unblamed Left capture (always_unbroken Left known.proper true local begin capture fresh (calling_is_fair local)
-            (calling_is_fair_in_class_0 local) (comes_by_steps Left true capture begin comes));
+        never = zero_by selected (in_zero d begin fresh comes few) (without d begin fresh comes few);
+        transport = capture_unblamed d capture (always_unbroken d known.proper local begin capture fresh
+            (comes_by_steps d (calls_from d) capture begin comes));
       }

@@ -6,13 +6,11 @@ use Rattle.osi_blameless.proofs.Vocabulary.{Local, Capture, other, Direction, Re
 use Rattle.osi_blameless.proofs.Vocabulary.{Cause, units_pass, unread, way_of, comes_to, Joint, Step, calls_from, LaterAlong, spoilt, Some}
 use Rattle.osi_rules.specs.declared.findings.Reach.TheVariants as reach
 use Rattle.osi_fair.specs.Pieces.{units_in}
-use Rattle.osi_fair.specs.Wholes as wholes
 use Rattle.osi_judge.specs.Courses.{Course as Passed}
 use Rattle.osi_blameless.specs.Spoilt.{GoesOn}
 use Rattle.osi_blameless.proofs.a_break_ends_no_judging_or_all.{IsGoing, nothing_goes, part_goes, side_known}
 use Rattle.osi_blameless.proofs.all_is_judged_or_nothing.{IsOver}
 use Rattle.osi_blameless.proofs.an_end_that_is_judged_alone_stays_so.{later_kept}
-use Rattle.osi_blameless.proofs.no_unit_of_a_whole_end_is_a_break.{IsFair}
 use Rattle.osi_blameless.proofs.what_the_turns_among_steps_do.{ComesByDoing}
 use Rattle.osi_blameless.proofs.sessions.each_step_keeps_an_end_blameless.{Comes, IsDone, RestsSo, SoFar, Stood, all_done, at_last, ended}
 use Rattle.osi_blameless.proofs.sessions.each_step_keeps_an_end_blameless.{done_claim, goes, is_done, is_taken, rested}
@@ -24,8 +22,7 @@ use Rattle.osi_blameless.proofs.sessions.what_is_asked_of_what_holds_at_each_ste
 abbrev NoRest : Joint → Type 0
 NoRest j = ⊥
 
-module _ (proper : AllProper) (d : Direction) (local : Local) (fair : IsFair (way_of d) (wholes.begin (calls_from d) local))
-    (Inv : (ℕ → Deeds) → Joint → Type 0) (k : Keeps Zero d local Inv) where
+module _ (proper : AllProper) (d : Direction) (local : Local) (Inv : (ℕ → Deeds) → Joint → Type 0) (k : Keeps Zero d local Inv) where
   -- ---- a unit of the other side
 
   module _ (at : ℕ) (front : List Value) (v : Value) (old : Passed) (so : SoFar Zero d at front old) (new : Joint) where
@@ -46,9 +43,11 @@ module _ (proper : AllProper) (d : Direction) (local : Local) (fair : IsFair (wa
 
     one_by : (r : Reach) → how_far ≡ r → Comes Zero d NoRest at v c new
     one_by reach.Nothing far =
-        is_taken (taken_on (λ all. let no : reach.Nothing ≡ reach.Everything = sym far ∙ all in cc)) (nothing_goes (other d) at v c far so.judged)
+        is_taken (taken_on (λ all. let no : reach.Nothing ≡ reach.Everything = sym far ∙ all in cc))
+        (nothing_goes (other d) at v c far so.judged)
     one_by reach.Connection far =
-        is_taken (taken_on (λ all. let no : reach.Connection ≡ reach.Everything = sym far ∙ all in cc)) (part_goes (other d) at v c far so.judged)
+        is_taken (taken_on (λ all. let no : reach.Connection ≡ reach.Everything = sym far ∙ all in cc))
+        (part_goes (other d) at v c far so.judged)
     one_by reach.Side far = absurd (so.not (side_known (other d) at v c far (so.sure.agrees Zero)))
     one_by reach.Everything far = is_done (all_done d (other d) at v c far so.never)
 
@@ -62,7 +61,7 @@ module _ (proper : AllProper) (d : Direction) (local : Local) (fair : IsFair (wa
   -- ---- the capture
 
   abbrev StoodAt : Joint → Type 0
-  StoodAt j = Stood proper Zero d local Inv k NoRest fair so_rests j
+  StoodAt j = Stood proper Zero d local Inv k NoRest so_rests j
 
   never_so : (j : Joint) → StoodAt j → NeverToBlame d j.course
   never_so j (deeds, goes g) = g.never
@@ -97,7 +96,7 @@ module _ (proper : AllProper) (d : Direction) (local : Local) (fair : IsFair (wa
   never_to_blame h capture fresh comes within = by comes.on
     where
       last : IsWithout Zero comes.last.course × StoodAt comes.last
-      last = at_last proper Zero d local Inv k NoRest fair so_rests h capture fresh comes within
+      last = at_last proper Zero d local Inv k NoRest so_rests h capture fresh comes within
 
       by : ((comes_to capture).course ≡ comes.last.course) ⊎ GoesOn d capture comes.last → NeverToBlame d (comes_to capture).course
       by (inl is) = subst (NeverToBlame d) (sym is) (never_so comes.last last.1)

@@ -1,13 +1,11 @@
 -- No session of an end is to blame, whatever the other side breaks, as long as class 2 is not selected: after a break with which the
 -- judging of the other side ends, an end goes on as if it had not come. For the law that no session of an end is to blame after a break.
 use Rattle.osi_blameless.proofs.Vocabulary.{◌≡◌, ◌∙◌, ◌⊎◌, inl, inr, refl, sym, ap, subst, ℕ, ◌^◌, ◌<◌, Bool, true, false, Ok, List, []}
-use Rattle.osi_blameless.proofs.Vocabulary.{◌∷◌}
-use Rattle.osi_blameless.proofs.Vocabulary.{◌++◌, length, Option, Some, None, arith, AllByRecursion, IsOctets, units_of, Value, Two, Zero}
-use Rattle.osi_blameless.proofs.Vocabulary.{Local, Capture, other, Direction, Finding, Broke, TooMany, Reach, is_applied, reach_of}
-use Rattle.osi_blameless.proofs.Vocabulary.{class_for}
-use Rattle.osi_blameless.proofs.Vocabulary.{is_stopped, takes, Deeds, Holding, IsFresh, Known, Cause, unit_passes, units_pass, way_of}
-use Rattle.osi_blameless.proofs.Vocabulary.{comes_to}
-use Rattle.osi_blameless.proofs.Vocabulary.{Joint, Step, Steps, calls_from, Class, IsNoPacket, IsUnread, LaterAlong, spoilt}
+use Rattle.osi_blameless.proofs.Vocabulary.{◌∷◌, ◌++◌, length, Option, Some, None, arith, AllByRecursion, IsOctets, units_of, Value, Two}
+use Rattle.osi_blameless.proofs.Vocabulary.{Zero, Local, Capture, other, Direction, Finding, Broke, TooMany, Reach, is_applied, reach_of}
+use Rattle.osi_blameless.proofs.Vocabulary.{class_for, is_stopped, takes, Deeds, Holding, IsFresh, Known, Cause, unit_passes, units_pass}
+use Rattle.osi_blameless.proofs.Vocabulary.{way_of, comes_to, Joint, Step, Steps, calls_from, Class, IsNoPacket, IsUnread, LaterAlong}
+use Rattle.osi_blameless.proofs.Vocabulary.{spoilt}
 use Rattle.osi_blameless.proofs.what_the_turns_among_steps_do.{ComesByDoing}
 use Rattle.osi_rules.specs.declared.findings.Reach.TheVariants as reach
 use Rattle.osi_rules.specs.declared.findings.Rule.TheVariants as rule
@@ -20,7 +18,6 @@ use Rattle.osi_blameless.proofs.all_is_judged_or_nothing.{IsOver}
 use Rattle.osi_blameless.proofs.an_end_that_is_judged_alone_stays_so.{later_kept, later_too}
 use Rattle.osi_blameless.proofs.in_class_0_one_side_alone_is_judged.{AfterUnread, IsLoose, all_over, alone as is_alone_then, loose_claim}
 use Rattle.osi_blameless.proofs.in_class_0_one_side_alone_is_judged.{refused_over_so as unread_ends, unit_alone, unread_alone, unread_is}
-use Rattle.osi_blameless.proofs.no_unit_of_a_whole_end_is_a_break.{IsFair, IsFairAlone}
 use Rattle.osi_blameless.proofs.steps_are_events.{IsFollowed}
 use Rattle.osi_blameless.proofs.what_a_taker_passes_over.{IsMild, Sort, is_hard as is_broken, is_mild, is_shut, mild_reach, sort_of}
 use Rattle.osi_blameless.proofs.what_passes_keeps_a_claim.{step_kept, units_kept}
@@ -49,15 +46,14 @@ many_or f = grind arith
 not_many : {f : Finding} → f ≡ Broke rule.Closed → f ≡ TooMany → ⊥
 not_many closed many = let no : Broke rule.Closed ≡ TooMany = sym closed ∙ many in cc
 
-module _ (known : Known) (d : Direction) (local : Local) (fair : IsFair (way_of d) (wholes.begin (calls_from d) local))
-    (fair_alone : IsFairAlone (way_of d) (wholes.begin (calls_from d) local)) (Inv : (ℕ → Deeds) → Joint → Type 0)
+module _ (known : Known) (d : Direction) (local : Local) (Inv : (ℕ → Deeds) → Joint → Type 0)
     (k : Keeps Two d local Inv) (has_begun : HasBegun d Inv) where
   abbrev Judging : (ℕ → Deeds) → Joint → Type 0
   Judging deeds j = Goes known.proper Two d local Inv k deeds j
 
   -- it goes on as if no break had come
   abbrev GoesWithout : Bool → Joint → Type 0
-  GoesWithout ends j = IsAsWithout known d local fair fair_alone Inv k has_begun ends j
+  GoesWithout ends j = IsAsWithout known d local Inv k has_begun ends j
 
   -- a connection has lost its judgement, or the end goes on alone
   abbrev Rest : Joint → Type 0
@@ -126,7 +122,7 @@ module _ (known : Known) (d : Direction) (local : Local) (fair : IsFair (way_of 
     by_reach unapplied reach.Side reaches less =
         let alone = unit_alone d at v c so.judged (so.sure.agrees Zero) reaches in
         is_rest (inr (
-          unit_begins known d local fair fair_alone Inv k has_begun deeds at octets front back v old g all read so.passed so.judged so.never
+          unit_begins known d local Inv k has_begun deeds at octets front back v old g all read so.passed so.judged so.never
               unapplied reaches alone (kind_of v) followed,
           subst (NeverToBlame d) (sym all_join) (units_alone d at back next alone (none_joined unapplied)),
         ))
@@ -144,9 +140,9 @@ module _ (known : Known) (d : Direction) (local : Local) (fair : IsFair (way_of 
   rest_step step old new does few (inl loose) = inl (step_kept IsLoose loose_claim d step old new does loose)
   rest_step step old new does few (inr (a, never)) =
       let later = later_too d step old new does in
-      let now = later_step known d local fair fair_alone Inv k has_begun false step old new later
+      let now = later_step known d local Inv k has_begun false step old new later
       (λ no. absurd (let n : false ≡ true = no in cc)) few a in
-      inr (now, never_alone known d local fair fair_alone Inv k has_begun false step old new later a now never)
+      inr (now, never_alone known d local Inv k has_begun false step old new later a now never)
 
   so_rests : RestsSo known.proper Two d local Inv k Rest
   so_rests = record {
@@ -161,7 +157,7 @@ module _ (known : Known) (d : Direction) (local : Local) (fair : IsFair (way_of 
   EndsWell c = NeverToBlame d c ⊎ IsLoose c
 
   abbrev StoodAt : Joint → Type 0
-  StoodAt j = Stood known.proper Two d local Inv k Rest fair so_rests j
+  StoodAt j = Stood known.proper Two d local Inv k Rest so_rests j
 
   ends_so : (j : Joint) → StoodAt j → EndsWell j.course
   ends_so j (deeds, goes g) = inl g.never
@@ -181,7 +177,7 @@ module _ (known : Known) (d : Direction) (local : Local) (fair : IsFair (way_of 
     on_alone : (ends : Bool) → (ends ≡ true → AllByRecursion IsNoPacket steps) → GoesWithout ends bad → NeverToBlame d bad.course →
         EndsWell end.course
     on_alone ends none a never =
-        inl (later_alone known d local fair fair_alone Inv k has_begun ends steps bad end along none within.few a never)
+        inl (later_alone known d local Inv k has_begun ends steps bad end along none within.few a never)
 
     done_so : IsDone d bad.course → EndsWell end.course
     done_so h = inl (later_kept (IsDone d) (done_claim d) d steps bad end along h).never
@@ -207,7 +203,7 @@ module _ (known : Known) (d : Direction) (local : Local) (fair : IsFair (way_of 
     after_bad (deeds, rested (inl loose)) = grind (arith, later_kept, loose_claim)
     after_bad (deeds, rested (inr (a, never))) =
         on_alone false (λ no. absurd (let n : false ≡ true = no in cc))
-        (spoilt_alone known d local fair fair_alone Inv k has_begun at cause_is packets none_in j a)
+        (spoilt_alone known d local Inv k has_begun at cause_is packets none_in j a)
         (never_unread d (other d) at cause_is j.course never)
 
   pub ends_well : (h : Holding) (capture : Capture) → IsFresh (calls_from d) local h → ComesByDoing d (calls_from d) capture h →
@@ -215,7 +211,7 @@ module _ (known : Known) (d : Direction) (local : Local) (fair : IsFair (way_of 
   ends_well h capture fresh comes within = by comes.on
     where
       last : IsWithout Two comes.last.course × StoodAt comes.last
-      last = at_last known.proper Two d local Inv k Rest fair so_rests h capture fresh comes within
+      last = at_last known.proper Two d local Inv k Rest so_rests h capture fresh comes within
 
       by : ((comes_to capture).course ≡ comes.last.course) ⊎ GoesOn d capture comes.last → EndsWell (comes_to capture).course
       by (inl is) = subst EndsWell (sym is) (ends_so comes.last last.1)

@@ -1,11 +1,9 @@
 -- No session of a side is to blame, now or at any moment that has passed: what joins nothing leaves that so, and so does a unit after which
 -- nobody of it is to blame. For the session of each connection of an end.
-use Rattle.osi_blameless.proofs.Vocabulary.{arith, ◌≡◌, sym, ap, subst, ℕ, Bool, true, false, ◌∷◌, ◌++◌, [], Some, slice_get, Value}
-use Rattle.osi_blameless.proofs.Vocabulary.{Direction}
-use Rattle.osi_blameless.proofs.Vocabulary.{AllByRecursion, is_applied, is_stopped, takes, stops_last, IsToBlame, Joined, Sessions}
-use Rattle.osi_blameless.proofs.Vocabulary.{all_begin}
-use Rattle.osi_blameless.proofs.Vocabulary.{Course, unit_passes, way_of, Outcome, taken, Moment, moment_of, noted_past, cause_of, is_some}
-use Rattle.osi_blameless.proofs.Vocabulary.{marks_of, unread, unread_mark, marked_past, Cause}
+use Rattle.osi_blameless.proofs.Vocabulary.{spoken, arith, ◌≡◌, sym, ap, subst, ℕ, Bool, true, false, ◌∷◌, ◌++◌, [], Some, slice_get, Value}
+use Rattle.osi_blameless.proofs.Vocabulary.{Direction, AllByRecursion, is_applied, is_stopped, takes, stops_last, IsToBlame, Joined}
+use Rattle.osi_blameless.proofs.Vocabulary.{Sessions, all_begin, Course, unit_passes, way_of, Outcome, taken, Moment, moment_of, noted_past}
+use Rattle.osi_blameless.proofs.Vocabulary.{cause_of, is_some, marks_of, unread, unread_mark, marked_past, Cause}
 use Rattle.osi_rules.specs.Traffic as traffic
 use Rattle.osi_judge.specs.Connections.{packet_begins}
 use Rattle.osi_judge.specs.Courses as courses
@@ -29,6 +27,14 @@ none_begins d e t h = record {
       h.live i x at (grind arith);
   done = h.done;
 }
+
+-- nor while it has said nothing
+pub record IsMute (d : Direction) (t : Sessions) : Type 0 where
+  pub live : (i : ℕ) (j : Joined) → slice_get t.live i ≡ Some j → (spoken d j).said ≡ []
+  pub done : (i : ℕ) (j : Joined) → slice_get t.done i ≡ Some j → (spoken d j).said ≡ []
+
+pub mute_none : (d : Direction) (t : Sessions) → IsMute d t → NoneIsToBlame d t
+mute_none d t h = grind arith
 
 -- ---- the moment of a unit
 

@@ -1,15 +1,13 @@
 -- Nothing is done at a connection of a calling end before its CR has passed; and then the CR may pass.
 -- For all connections of an end and a judge.
-use Rattle.osi_blameless.proofs.Vocabulary.{◌≡◌, ◌∙◌, refl, sym, ap, subst, ℕ, ◌<◌, ◌≤◌, Bool, true, false, List, [], ◌∷◌}
-use Rattle.osi_blameless.proofs.Vocabulary.{◌++◌, Option, Some, None, arith, inl, inr, is_some, ◌⊎◌, le-leb, lt-ltb, AllByRecursion}
-use Rattle.osi_blameless.proofs.Vocabulary.{units_of}
-use Rattle.osi_blameless.proofs.Vocabulary.{Connect, Value, acknowledge, confirm, data0, data2, destination_of, disconnect, disconnected}
-use Rattle.osi_blameless.proofs.Vocabulary.{error, request, Local, EndReason, Left, State, Whole, AreGiven, Followed, IsAnswer, IsAsking}
-use Rattle.osi_blameless.proofs.Vocabulary.{Tracked, IsDc, is_dc, first_kept, first_left, names, picked_rest, those, AreApart, Opens}
-use Rattle.osi_blameless.proofs.Vocabulary.{Continues, Deeds, then_did, units_in, units_taken, Marked, all_units, units_at, Turn, Life}
-use Rattle.osi_blameless.proofs.Vocabulary.{amid}
-use Rattle.osi_blameless.proofs.Vocabulary.{early, opens_by, past, stage_at, stage_over, stays, asked_so, taken_more, has_given, Sessions}
-use Rattle.osi_blameless.proofs.Vocabulary.{Joint, TakesTurn, HaveSamePlaces}
+use Rattle.osi_blameless.proofs.Vocabulary.{◌≡◌, ◌∙◌, refl, sym, ap, subst, ℕ, ◌<◌, ◌≤◌, Bool, true, false, List, [], ◌∷◌, ◌++◌, Option}
+use Rattle.osi_blameless.proofs.Vocabulary.{Some, None, arith, inl, inr, is_some, ◌⊎◌, le-leb, lt-ltb, AllByRecursion, units_of, Connect}
+use Rattle.osi_blameless.proofs.Vocabulary.{Value, acknowledge, confirm, data0, data2, destination_of, disconnect, disconnected, error}
+use Rattle.osi_blameless.proofs.Vocabulary.{request, Local, EndReason, Left, State, Whole, AreGiven, Followed, IsAnswer, IsAsking, Tracked}
+use Rattle.osi_blameless.proofs.Vocabulary.{IsDc, is_dc, first_kept, first_left, names, picked_rest, those, AreApart, Opens, Continues}
+use Rattle.osi_blameless.proofs.Vocabulary.{Deeds, then_did, units_in, units_taken, Marked, all_units, units_at, Turn, Life, amid, early}
+use Rattle.osi_blameless.proofs.Vocabulary.{opens_by, past, stage_at, stage_over, stays, asked_so, taken_more, has_given, Sessions, Joint}
+use Rattle.osi_blameless.proofs.Vocabulary.{TakesTurn, HaveSamePlaces}
 use Rattle.osi_carrier.specs.State.{State as Carrier}
 use Rattle.osi_fair.specs.Pieces as pieces
 use Rattle.osi_honest.proofs.courses.how_long_a_connection_is_open.{Stage}

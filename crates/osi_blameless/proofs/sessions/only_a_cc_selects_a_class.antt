@@ -1,8 +1,7 @@
 -- A unit that is no CC leaves the class that is selected on a byte connection, or that none is.
 -- For a called end that has selected no class yet.
 use Rattle.osi_blameless.proofs.Vocabulary.{Option, ℕ, ◌≡◌, Value, at_place, Outcome, routed, Traffic as State, takes, Way as Direction}
-use Rattle.osi_blameless.proofs.Vocabulary.{Route, reached_class, arith}
-use Rattle.osi_blameless.proofs.sessions.a_called_end_hears_what_comes_until_class_2.{IsNoCc}
+use Rattle.osi_blameless.proofs.Vocabulary.{Route, reached_class, arith, IsNoCc}
 
 abbrev Keeps : State → Outcome → Type 0
 Keeps s o = o.state.course.class ≡ s.course.class

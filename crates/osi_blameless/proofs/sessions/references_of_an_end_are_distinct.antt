@@ -4,8 +4,7 @@
 use Rattle.osi_blameless.proofs.Vocabulary.{[], ap, Bool, inl, inr, length, List, set, Some, subst, sym, ℕ, ◌++◌, ◌∙◌, ◌∷◌, ◌≡◌, ◌⊎◌}
 use Rattle.osi_blameless.proofs.Vocabulary.{slice_get, confirm, data2, request, Value, meaning_if, meant, Traffic as State, takes, other}
 use Rattle.osi_blameless.proofs.Vocabulary.{Direction, Left, Right, all_begin, Joined, reference_of, Sessions, taken, way_of, All}
-use Rattle.osi_blameless.proofs.Vocabulary.{after_add}
-use Rattle.osi_blameless.proofs.Vocabulary.{after_change, HaveSamePlaces, arith, number_is}
+use Rattle.osi_blameless.proofs.Vocabulary.{after_add, after_change, HaveSamePlaces, arith, number_is}
 use Rattle.osi_judge.specs.Connections as joined
 use Rattle.osi_blameless.proofs.sessions.all_connections_stand.{map_of}
 use Rattle.osi_blameless.proofs.sessions.right_units_leave_all_standing.{StaysElsewhere}

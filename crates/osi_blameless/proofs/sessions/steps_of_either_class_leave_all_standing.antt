@@ -1,16 +1,16 @@
 -- A unit of an end, of either class, leaves all its connections standing at a judge, if it is no break; and nobody of the end is to blame
 -- while they stand. For the session of each connection of an end.
 use Rattle.osi_blameless.proofs.Vocabulary.{arith, ◌≡◌, sym, subst, ℕ, Bool, true, false, List, ◌∷◌, Option, Some, Value, Class, Zero}
-use Rattle.osi_blameless.proofs.Vocabulary.{Direction, AsSent, AsParts, CalledLaw, CallerLaw, State, class_for, is_stopped, takes, End}
-use Rattle.osi_blameless.proofs.Vocabulary.{Deeds}
-use Rattle.osi_blameless.proofs.Vocabulary.{Sessions, unit_passes, way_of, Joint, Steps, passes_own, calls_from}
+use Rattle.osi_blameless.proofs.Vocabulary.{Direction, class_for, is_stopped, takes, End}
+use Rattle.osi_blameless.proofs.Vocabulary.{Deeds, unit_passes, way_of, Joint, Steps, passes_own, calls_from}
 use Rattle.osi_honest.specs.Courses.{Course}
 use Rattle.osi_judge.specs.Courses.{Course as Passed}
 use Rattle.osi_blameless.proofs.no_unit_of_a_whole_end_is_a_break.{IsNoBreak}
 use Rattle.osi_blameless.proofs.what_a_taker_passes_over.{IsMild}
 use Rattle.osi_blameless.proofs.sessions.a_dt_of_class_0_leaves_all_standing as zero
 use Rattle.osi_blameless.proofs.sessions.a_turn_leaves_all_standing.{all_blameless}
-use Rattle.osi_blameless.proofs.sessions.nobody_of_a_side_is_to_blame.{NoneIsToBlame}
+use Rattle.osi_blameless.proofs.sessions.nobody_of_a_side_is_to_blame.{IsMute, NoneIsToBlame, mute_none}
+use Rattle.osi_blameless.proofs.sessions.a_session_that_is_shown_is_not_to_blame.{SessionLaws}
 use Rattle.osi_blameless.proofs.sessions.all_connections_stand.{AllStand}
 use Rattle.osi_blameless.proofs.sessions.each_step_leaves_class_0_one_connection.{Sure, is_zero}
 use Rattle.osi_blameless.proofs.sessions.steps_leave_all_standing.{Standing}
@@ -60,8 +60,13 @@ any_passes_own d deeds known at v old new step sure right ready h =
 
 -- ---- nobody is to blame
 
-module _ (known_of : AsSent) (parts : AsParts) (caller : CallerLaw) (called : CalledLaw) (d : Direction) (deeds : ℕ → Deeds)
-    (put : List Value) (b : Bool) (e : End) (courses : (r : ℕ) → Course (calls_from d) r (deeds r) e) where
-  -- nobody is to blame while all connections stand
-  pub stand_none : (known : Known) (s : State) (t : Sessions) → AllStand d deeds known put b s t → NoneIsToBlame d t
-  stand_none known s t a = grind (arith, all_blameless known_of parts caller called d deeds known put b e courses s t a)
+-- all connections of an end stand, or it has said nothing
+pub data StandsOrSilent (d : Direction) (deeds : ℕ → Deeds) (put : List Value) (b : Bool) (c : Passed) : Type 1 where
+  all_stand : (known : Known) → AllStand d deeds known put b c.traffic c.sessions → StandsOrSilent d deeds put b c
+  silent : IsMute d c.sessions → StandsOrSilent d deeds put b c
+
+pub none_so : (laws : SessionLaws) (d : Direction) (deeds : ℕ → Deeds) (put : List Value) (b : Bool) (e : End) (c : Passed) →
+    ((r : ℕ) → Course (calls_from d) r (deeds r) e) → StandsOrSilent d deeds put b c → NoneIsToBlame d c.sessions
+none_so laws d deeds put b e c courses (silent m) = mute_none d c.sessions m
+none_so laws d deeds put b e c courses (all_stand known a) =
+    let (live, done) = all_blameless laws d deeds known put b e courses c.traffic c.sessions a in record { live = live; done = done }

@@ -1,14 +1,11 @@
 -- If no session of a side is to blame at any moment, and the judge finds no break of its transport, the first break of all, of transport
 -- and of sessions, is of the other side. For the laws that an end is never blamed first.
 use Rattle.osi_blameless.proofs.Vocabulary.{arith, ◌≡◌, ◌∙◌, ◌⊎◌, inl, inr, refl, sym, ap, subst, ℕ, Bool, true, false, List, [], ◌∷◌, ◌++◌}
-use Rattle.osi_blameless.proofs.Vocabulary.{Option}
-use Rattle.osi_blameless.proofs.Vocabulary.{None, Some, is_some, AllByRecursion, Value, Capture, other, Direction, Left, Right, Finding}
-use Rattle.osi_blameless.proofs.Vocabulary.{takes}
-use Rattle.osi_blameless.proofs.Vocabulary.{Told, BreaksFirst, IsBreakOf, IsFirstOf, IsToBlame, of_session, of_transport, Cause, First}
-use Rattle.osi_blameless.proofs.Vocabulary.{Mark}
-use Rattle.osi_blameless.proofs.Vocabulary.{Course, Moment, cause_of, changes, comes_to, first_marked, is_break, mark_by, marked_past}
-use Rattle.osi_blameless.proofs.Vocabulary.{marks_of}
-use Rattle.osi_blameless.proofs.Vocabulary.{noted_by, packet_begins, unit_passes, unread, unread_mark, unread_moment, way_of}
+use Rattle.osi_blameless.proofs.Vocabulary.{Option, None, Some, is_some, AllByRecursion, Value, Capture, other, Direction, Left, Right}
+use Rattle.osi_blameless.proofs.Vocabulary.{Finding, takes, Told, BreaksFirst, IsBreakOf, IsFirstOf, IsToBlame, of_session, of_transport}
+use Rattle.osi_blameless.proofs.Vocabulary.{Cause, First, Mark, Course, Moment, cause_of, changes, comes_to, first_marked, is_break}
+use Rattle.osi_blameless.proofs.Vocabulary.{mark_by, marked_past, marks_of, noted_by, packet_begins, unit_passes, unread, unread_mark}
+use Rattle.osi_blameless.proofs.Vocabulary.{unread_moment, way_of}
 use Rattle.osi_rules.specs.Traffic as traffic
 use Rattle.osi_judge.specs.Courses.{breaks}
 use Rattle.osi_judge.specs.States as states

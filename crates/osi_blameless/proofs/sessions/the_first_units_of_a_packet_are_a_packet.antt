@@ -1,7 +1,6 @@
 -- The units of a packet before one of them are units of another packet. For what passes before a break amid a packet.
 use Rattle.osi_blameless.proofs.Vocabulary.{[], List, Ok, subst, ℕ, ◌++◌, ◌∷◌, ◌≡◌, AllByRecursion, octets_append, octets_left}
-use Rattle.osi_blameless.proofs.Vocabulary.{octets_right}
-use Rattle.osi_blameless.proofs.Vocabulary.{IsOctets, units_found, units_of, Value, arith, units_only, AreUnits}
+use Rattle.osi_blameless.proofs.Vocabulary.{octets_right, IsOctets, units_found, units_of, Value, arith, units_only, AreUnits}
 use Rattle.osi_blameless.proofs.sessions.an_end_of_class_0_has_its_connection_open.{MayBeFollowed}
 
 pub record LeadsOff (units : List Value) : Type 0 where

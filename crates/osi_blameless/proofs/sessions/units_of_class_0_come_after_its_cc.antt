@@ -1,5 +1,5 @@
--- What comes to a calling end that gets class 0 is in order: before the CC nothing for a connection, and no CC after it. So the end takes
--- no DT before its connection opens. For the session of the connection of an end in class 0.
+-- What comes to an end that gets class 0 is in order: before a CC nothing for a connection, and no CC after it. So a calling end takes no
+-- DT before its connection opens. For the session of the connection of an end in class 0.
 use Rattle.osi_blameless.proofs.Vocabulary.{[], append_assoc, List, refl, Some, subst, sym, true, ℕ, ◌++◌, ◌∙◌, ◌∷◌, ◌≡◌, append-nil}
 use Rattle.osi_blameless.proofs.Vocabulary.{AllByRecursion, acknowledge, confirm, Connect, data0, data2, disconnect, disconnected, error}
 use Rattle.osi_blameless.proofs.Vocabulary.{request, Value, early, Time as Stage, all_units_more, Opens, all_units, Marked, picked_join}
@@ -11,8 +11,9 @@ use Rattle.osi_blameless.proofs.sessions.what_stands_of_a_connection.{is_for, wa
 
 -- ---- units
 
--- a DR, a DC or an ER
+-- a CR, a DR, a DC or an ER
 abbrev pub IsQuiet : Value → Type 0
+IsQuiet (request x) = Unit {0}
 IsQuiet (disconnect n source reason user) = Unit {0}
 IsQuiet (disconnected n source) = Unit {0}
 IsQuiet (error n cause) = Unit {0}
@@ -20,15 +21,15 @@ IsQuiet _ = ⊥
 
 -- the same, or a DT of class 0
 abbrev pub IsLater : Value → Type 0
-IsLater (request x) = ⊥
 IsLater (confirm n x) = ⊥
 IsLater (data2 n number end user) = ⊥
 IsLater (acknowledge credit n number) = ⊥
 IsLater _ = Unit {0}
 
--- no CC comes after a CC or a DT of class 0, and no CR and no DT or AK of class 2 at all
+-- no CC comes after a CC or a DT of class 0, and no DT or AK of class 2 at all
 abbrev pub InOrder : List Value → Type 0
 InOrder [] = Unit {0}
+InOrder (request x ∷ vs) = InOrder vs
 InOrder (confirm n x ∷ vs) = AllByRecursion IsLater vs
 InOrder (data0 end user ∷ vs) = AllByRecursion IsLater vs
 InOrder (disconnect n source reason user ∷ vs) = InOrder vs
@@ -44,6 +45,7 @@ IsCcFor r v = (n : ℕ) (x : Connect) → v ≡ confirm n x → n ≡ r
 
 later_order : (vs : List Value) → AllByRecursion IsLater vs → InOrder vs
 later_order [] h = tt
+later_order (request x ∷ vs) h = later_order vs h.1
 later_order (disconnect n source reason user ∷ vs) h = later_order vs h.1
 later_order (disconnected n source ∷ vs) h = later_order vs h.1
 later_order (error n cause ∷ vs) h = later_order vs h.1
@@ -55,6 +57,7 @@ pub order_back : (xs ys : List Value) → InOrder (xs ++ ys) → InOrder ys
 order_back [] ys h = h
 order_back (confirm n x ∷ xs) ys h = later_order ys (all_back IsLater xs ys h)
 order_back (data0 end user ∷ xs) ys h = later_order ys (all_back IsLater xs ys h)
+order_back (request x ∷ xs) ys h = order_back xs ys h
 order_back (disconnect n source reason user ∷ xs) ys h = order_back xs ys h
 order_back (disconnected n source ∷ xs) ys h = order_back xs ys h
 order_back (error n cause ∷ xs) ys h = order_back xs ys h
@@ -65,6 +68,7 @@ pub order_more : (vs : List Value) (v : Value) → InOrder vs → IsLater v → 
 order_more [] v h l = later_order (v ∷ []) (l, tt)
 order_more (confirm n x ∷ vs) v h l = all_of_both IsLater vs (v ∷ []) h (l, tt)
 order_more (data0 end user ∷ vs) v h l = all_of_both IsLater vs (v ∷ []) h (l, tt)
+order_more (request x ∷ vs) v h l = order_more vs v h l
 order_more (disconnect n source reason user ∷ vs) v h l = order_more vs v h l
 order_more (disconnected n source ∷ vs) v h l = order_more vs v h l
 order_more (error n cause ∷ vs) v h l = order_more vs v h l
@@ -73,15 +77,30 @@ order_more _ v h l = absurd h
 -- the CC after what is quiet
 pub quiet_cc : (vs : List Value) (n : ℕ) (x : Connect) → AllByRecursion IsQuiet vs → InOrder (vs ++ confirm n x ∷ [])
 quiet_cc [] n x h = tt
+quiet_cc (request y ∷ vs) n x h = quiet_cc vs n x h.1
 quiet_cc (disconnect m source reason user ∷ vs) n x h = quiet_cc vs n x h.1
 quiet_cc (disconnected m source ∷ vs) n x h = quiet_cc vs n x h.1
 quiet_cc (error m cause ∷ vs) n x h = quiet_cc vs n x h.1
 quiet_cc _ n x h = absurd h.0
 
+-- what is quiet alone
+pub quiet_order : (vs : List Value) → AllByRecursion IsQuiet vs → InOrder vs
+quiet_order [] h = tt
+quiet_order (request x ∷ vs) h = quiet_order vs h.1
+quiet_order (disconnect n source reason user ∷ vs) h = quiet_order vs h.1
+quiet_order (disconnected n source ∷ vs) h = quiet_order vs h.1
+quiet_order (error n cause ∷ vs) h = quiet_order vs h.1
+quiet_order _ h = absurd h.0
+
+pub quiet_ccs : (r : ℕ) (vs : List Value) → AllByRecursion IsQuiet vs → AllByRecursion (IsCcFor r) vs
+quiet_ccs r [] h = tt
+quiet_ccs r (v ∷ vs) h = ((λ n x is. absurd (subst IsQuiet is h.0)), quiet_ccs r vs h.1)
+
 -- ---- for a connection
 
 pub quiet_none : (o : ℕ) (vs : List Value) → AllByRecursion IsQuiet vs → waiting_for (Some o) vs ≡ []
 quiet_none o [] h = refl
+quiet_none o (request x ∷ vs) h = picked_rest (is_for (Some o)) (request x) vs refl ∙ quiet_none o vs h.1
 quiet_none o (disconnect m source reason user ∷ vs) h = grind (arith, picked_rest, is_for, quiet_none o vs h.1)
 quiet_none o (disconnected m source ∷ vs) h = picked_rest (is_for (Some o)) (disconnected m source) vs refl ∙ quiet_none o vs h.1
 quiet_none o (error m cause ∷ vs) h = picked_rest (is_for (Some o)) (error m cause) vs refl ∙ quiet_none o vs h.1
@@ -93,6 +112,7 @@ pub before_cc : (r : ℕ) (front rest : List Value) (n : ℕ) (x : Connect) → 
 before_cc r [] rest n x h = refl
 before_cc r (confirm m y ∷ front) rest n x h = absurd (one_of IsLater front rest (confirm n x) h)
 before_cc r (data0 end user ∷ front) rest n x h = absurd (one_of IsLater front rest (confirm n x) h)
+before_cc r (request y ∷ front) rest n x h = grind (arith, picked_rest, is_for, before_cc r front rest n x h)
 before_cc r (disconnect m source reason user ∷ front) rest n x h = grind (arith, picked_rest, is_for, before_cc r front rest n x h)
 before_cc r (disconnected m source ∷ front) rest n x h = grind (arith, picked_rest, is_for, before_cc r front rest n x h)
 before_cc r (error m cause ∷ front) rest n x h = grind (arith, picked_rest, is_for, before_cc r front rest n x h)

@@ -3,18 +3,14 @@
 -- For a TSDU of the other side that becomes too long.
 use Rattle.osi_blameless.proofs.Vocabulary.{[], ap, Bool, false, List, None, Option, refl, Some, subst, sym, true, ℕ, ◌++◌, ◌∙◌, ◌∷◌, ◌≡◌}
 use Rattle.osi_blameless.proofs.Vocabulary.{append-nil, append_assoc, eq-eqb, AllByRecursion, slice_get, Value, parts_in, Part, End}
-use Rattle.osi_blameless.proofs.Vocabulary.{Standing}
-use Rattle.osi_blameless.proofs.Vocabulary.{value_at, Live, linked, Traffic as State, Connection, is_open, own, Direction, other, Deeds}
-use Rattle.osi_blameless.proofs.Vocabulary.{Joined, Sessions, reference_of, spoken, way_of, calls_from, left_over, picked_first}
-use Rattle.osi_blameless.proofs.Vocabulary.{picked_rest}
-use Rattle.osi_blameless.proofs.Vocabulary.{arith, if◌then◌else◌, append_cancel_left, takes_run, AreCalls, Gone, IsFreshLink, IsShut}
-use Rattle.osi_blameless.proofs.Vocabulary.{closed}
-use Rattle.osi_blameless.proofs.Vocabulary.{never, IsZeroAt, begun_octets}
+use Rattle.osi_blameless.proofs.Vocabulary.{Standing, value_at, Live, linked, Traffic as State, Connection, is_open, own, Direction, other}
+use Rattle.osi_blameless.proofs.Vocabulary.{Deeds, Joined, Sessions, reference_of, spoken, way_of, calls_from, left_over, picked_first}
+use Rattle.osi_blameless.proofs.Vocabulary.{picked_rest, arith, if◌then◌else◌, append_cancel_left, takes_run, AreCalls, Gone, IsFreshLink}
+use Rattle.osi_blameless.proofs.Vocabulary.{IsShut, closed, never, IsZeroAt, begun_octets, over}
 use Rattle.osi_class.proofs.bounds.what_calls_take.{all as all_taken}
 use Rattle.osi_carrier.specs.State.{asked}
 use Rattle.osi_honest.specs.Courses.{Course, awaited, is_gone, unknown}
 use Rattle.osi_honest.specs.Courses.Course.{is_open as course_open}
-use Rattle.osi_honest.specs.Courses.Gone.{over}
 use Rattle.osi_blameless.proofs.small_facts_that_many_lemmas_use.{over_none}
 use Rattle.osi_blameless.proofs.sessions.a_session_that_is_shown_is_not_to_blame.{tsdus_more}
 use Rattle.osi_blameless.proofs.sessions.all_connections_stand.{AllStand}

@@ -5,10 +5,9 @@ use Rattle.osi_blameless.proofs.Vocabulary.{[], ap, arith, Bool, false, if◌the
 use Rattle.osi_blameless.proofs.Vocabulary.{◌∷◌, ◌≡◌, slice_get_past, position, slice_get, offset_of, Connect, request, Value, first_true}
 use Rattle.osi_blameless.proofs.Vocabulary.{is_applied, reach_of, first_failed, is_free, is_live, is_named, asked_by, asks_by, asks_kept}
 use Rattle.osi_blameless.proofs.Vocabulary.{asks_of, at_found, at_place, class_for, connection_after, found_on, is_stopped, meaning_if}
-use Rattle.osi_blameless.proofs.Vocabulary.{meant}
-use Rattle.osi_blameless.proofs.Vocabulary.{none_told, Outcome, request_tests, route, routed, Traffic as State, takes, Connection, Finding}
-use Rattle.osi_blameless.proofs.Vocabulary.{Kept, NotJudged, Reach, Route, Asks, Named, Only, Unnamed, Direction, asked, count, Joined}
-use Rattle.osi_blameless.proofs.Vocabulary.{placed, Sessions, taken, way_of, first_there, HaveSamePlaces, IsOneOf}
+use Rattle.osi_blameless.proofs.Vocabulary.{meant, none_told, Outcome, request_tests, route, routed, Traffic as State, takes, Connection}
+use Rattle.osi_blameless.proofs.Vocabulary.{Finding, Kept, NotJudged, Reach, Route, Asks, Named, Only, Unnamed, Direction, asked, count}
+use Rattle.osi_blameless.proofs.Vocabulary.{Joined, placed, Sessions, taken, way_of, first_there, HaveSamePlaces, IsOneOf}
 use Rattle.osi_judge.specs.Connections as joined
 use Rattle.osi_blameless.proofs.sessions.connections_have_the_same_places.{as_long, at_same, not_asked}
 

@@ -1,8 +1,7 @@
 -- What an end takes in a turn at a connection is the first of what is in flight to it: all that is for it from the time at which it opens.
 -- For all connections of an end and a judge.
 use Rattle.osi_blameless.proofs.Vocabulary.{[], List, refl, Some, ℕ, ◌++◌, ◌∙◌, ◌∷◌, ◌≡◌, append-nil, units_more, TakesAll, all_units}
-use Rattle.osi_blameless.proofs.Vocabulary.{Marked}
-use Rattle.osi_blameless.proofs.Vocabulary.{units_at, arith, AreApart}
+use Rattle.osi_blameless.proofs.Vocabulary.{Marked, units_at, arith, AreApart}
 use Rattle.osi_blameless.proofs.sessions.what_a_turn_puts_waits.{Agree, marks_wait}
 use Rattle.osi_blameless.proofs.sessions.what_stands_of_a_connection.{waiting_for}
 

@@ -2,13 +2,11 @@
 -- or is gone: if nothing is for it before the unit with which it opens.
 -- For all connections of an end and a judge.
 use Rattle.osi_blameless.proofs.Vocabulary.{[], ap, append_assoc, Bool, false, inl, inr, is_some, List, None, Option, refl, Some, subst}
-use Rattle.osi_blameless.proofs.Vocabulary.{sym}
-use Rattle.osi_blameless.proofs.Vocabulary.{true, ℕ, ◌++◌, ◌<◌, ◌==◌, ◌∙◌, ◌∷◌, ◌≡◌, append-nil, AllByRecursion, confirm, Connect, Value}
-use Rattle.osi_blameless.proofs.Vocabulary.{Part, Carrier, EndReason, amid, early, Life, opens_by, past, Time as Stage, stage_at}
-use Rattle.osi_blameless.proofs.Vocabulary.{stage_over}
-use Rattle.osi_blameless.proofs.Vocabulary.{stays, all_units_more, none_mark, Opens, TakesAll, Continues, Deeds, units_in, units_taken}
-use Rattle.osi_blameless.proofs.Vocabulary.{all_units, Marked, units_at, Turn, IsNoCc, IsDc, parts_of, picked_join, picked_rest, those}
-use Rattle.osi_blameless.proofs.Vocabulary.{those_join, Joint, TakesTurn, arith, AreApart, HasNoDr, WhileOpen}
+use Rattle.osi_blameless.proofs.Vocabulary.{sym, true, ℕ, ◌++◌, ◌<◌, ◌==◌, ◌∙◌, ◌∷◌, ◌≡◌, append-nil, AllByRecursion, confirm, Connect}
+use Rattle.osi_blameless.proofs.Vocabulary.{Value, Part, Carrier, EndReason, amid, early, Life, opens_by, past, Time as Stage, stage_at}
+use Rattle.osi_blameless.proofs.Vocabulary.{stage_over, stays, all_units_more, none_mark, Opens, TakesAll, Continues, Deeds, units_in}
+use Rattle.osi_blameless.proofs.Vocabulary.{units_taken, all_units, Marked, units_at, Turn, IsNoCc, IsDc, parts_of, picked_join}
+use Rattle.osi_blameless.proofs.Vocabulary.{picked_rest, those, those_join, Joint, TakesTurn, arith, AreApart, HasNoDr, WhileOpen}
 use Rattle.osi_blameless.proofs.small_facts_that_many_lemmas_use.{all_left}
 use Rattle.osi_blameless.proofs.sessions.a_turn_does_what_its_deeds_say.{turn_uses}
 use Rattle.osi_blameless.proofs.sessions.nothing_is_done_before_a_cr_passes.{is_under_way, may_take}

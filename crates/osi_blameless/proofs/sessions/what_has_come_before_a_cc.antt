@@ -24,11 +24,12 @@ use Rattle.osi_fair.proofs.no_two_open_connections_have_one_peer.{differ}
 use Rattle.osi_fair.proofs.what_becomes_of_a_connection.{Told}
 use Rattle.osi_blameless.proofs.a_carrier_does_events.{none_of}
 use Rattle.osi_blameless.proofs.steps_are_events.{IsFollowed, own_first}
-use Rattle.osi_blameless.proofs.sessions.a_calling_end_hears_what_breaks_no_rule.{one_plain}
+use Rattle.osi_blameless.proofs.sessions.no_unit_waits_for_the_reference_that_a_cc_gives.{one_plain}
 use Rattle.osi_blameless.proofs.sessions.an_end_hears_what_breaks_no_rule.{AreFine, IsHeardOn}
-use Rattle.osi_blameless.proofs.sessions.a_calling_end_is_ready.{IsCalling, first, whole_joined}
+use Rattle.osi_blameless.proofs.sessions.a_whole_end_runs_along.{first, whole_joined}
+use Rattle.osi_blameless.proofs.sessions.an_end_of_class_2_goes_on.{OwnInTwo}
 use Rattle.osi_blameless.proofs.sessions.a_calling_end_takes_nothing_before_its_cc.{HasCc, has_cc}
-use Rattle.osi_blameless.proofs.sessions.a_calling_end_takes_what_is_in_flight.{early_lasts}
+use Rattle.osi_blameless.proofs.small_facts_that_many_lemmas_use.{early_lasts}
 use Rattle.osi_blameless.proofs.sessions.a_turn_does_what_its_deeds_say.{turn_leaves, units_join}
 use Rattle.osi_blameless.proofs.sessions.a_unit_after_a_dr_is_for_a_closing_connection.{not_over}
 use Rattle.osi_blameless.proofs.sessions.a_unit_is_joined_where_it_is_named.{named_there, names_there}
@@ -164,7 +165,8 @@ module _ (local : Local) (v : Value) (w : Whole) (rest : List Value) (put : w.pu
       own_after.judge.connections
   own_closed (nowhere place cs ts) p x at = q.closed p x (ap (λ (l : List Connection). slice_get l p) (sym cs) ∙ at)
   own_closed (somewhere i c k b r place there here one finding is far cs ts) p x at =
-      by (after_set w.judge.connections i p (connection_after way.Left v b r c) x (ap (λ (l : List Connection). slice_get l p) (sym cs) ∙ at))
+      by (after_set w.judge.connections i p (connection_after way.Left v b r c) x
+      (ap (λ (l : List Connection). slice_get l p) (sym cs) ∙ at))
     where
       by : ((p ≡ i) × (x ≡ connection_after way.Left v b r c)) ⊎ (slice_get w.judge.connections p ≡ Some x) → IsPast w.end x.left
       by (inr was) = q.closed p x was
@@ -250,7 +252,8 @@ module _ (local : Local) (v : Value) (w : Whole) (j : Follows local w) (on : All
       then_clear.sure)
 
 module _ (local : Local) (v : Value) (ranges : HasFieldsInRange v) (w : Whole) (j : Follows local w) (zero : IsNoZero v)
-    (clear : IsOngoing w.judge.course) (then_clear : IsOngoing (takes way.Right v w.judge).state.course) (q : IsQuiet w.end w.coming w.judge)
+    (clear : IsOngoing w.judge.course) (then_clear : IsOngoing (takes way.Right v w.judge).state.course)
+    (q : IsQuiet w.end w.coming w.judge)
     (now : (r : ℕ) → MayOpen w.end r → IsForOne r v → Tracked w.judge.connections r) where
   abbrev other_after : Whole
   other_after = record w { judge = (takes way.Right v w.judge).state; coming = w.coming ++ v ∷ [] }
@@ -357,7 +360,7 @@ module _ (local : Local) (two : local.class2 ≡ true) where
   to_whole j f q = grind (arith, quiet_as, early_lasts, stage_at, none_of, same_units)
 
   pub passes_own_quiet : (deeds : ℕ → Deeds) (at : ℕ) (unit : Value) (old new : Joint) → Steps Left (passes_own at unit) old new →
-      IsCalling local two deeds old → HaveSamePlaces old.course.traffic.connections old.course.sessions.live → AreQuiet old →
+      OwnInTwo Left local deeds old → HaveSamePlaces old.course.traffic.connections old.course.sessions.live → AreQuiet old →
       AreQuiet new
   passes_own_quiet deeds at unit old new (read, octets, put, begun, is) h places q =
       let f = h.ahead.followed in
@@ -376,7 +379,7 @@ module _ (local : Local) (two : local.class2 ≡ true) where
       (subst (λ (t : State). IsOngoing t.course) (sym knows) clear))))))
 
   pub passes_other_quiet : (deeds : ℕ → Deeds) (at : ℕ) (bytes : List ℕ) (units : List Value) (old new : Joint) →
-      Steps Left (passes_other at bytes units) old new → IsCalling local two deeds old →
+      Steps Left (passes_other at bytes units) old new → OwnInTwo Left local deeds old →
       AreFine Left at units old.course → AreQuiet old → AreQuiet new
   passes_other_quiet deeds at bytes units old new (octets, read, is) h fine q =
       let f = h.ahead.followed in

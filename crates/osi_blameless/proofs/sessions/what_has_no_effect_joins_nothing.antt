@@ -2,8 +2,7 @@
 -- For the session of each connection of an end, once nothing more is judged.
 use Rattle.osi_blameless.proofs.Vocabulary.{ap, false, Option, ℕ, ◌≡◌, Value, is_applied, reach_of, at_place, class_for, none_told, Outcome}
 use Rattle.osi_blameless.proofs.Vocabulary.{routed, Traffic as State, takes, Finding, TooMany, Route, Direction, Sessions, taken}
-use Rattle.osi_blameless.proofs.Vocabulary.{unit_passes}
-use Rattle.osi_blameless.proofs.Vocabulary.{way_of, set_same, arith, Course}
+use Rattle.osi_blameless.proofs.Vocabulary.{unit_passes, way_of, set_same, arith, Course}
 use Rattle.osi_rules.specs.declared.findings.Reach.TheVariants as reach
 use Rattle.osi_blameless.proofs.sessions.connections_have_the_same_places.{unit_joins}
 

@@ -1,12 +1,11 @@
 -- Of a connection that has lost its judgement nothing more is joined: nobody of the end is to blame there, as when it was lost, and what
 -- passes leaves it so. For all connections of an end and a judge.
 use Rattle.osi_blameless.proofs.Vocabulary.{arith, Bool, false, if◌then◌else◌, None, Option, refl, Some, true, ℕ, ◌≡◌, slice_get}
-use Rattle.osi_blameless.proofs.Vocabulary.{acknowledge}
-use Rattle.osi_blameless.proofs.Vocabulary.{confirm, data0, data2, destination_of, disconnect, disconnected, error, request, Value, Class}
-use Rattle.osi_blameless.proofs.Vocabulary.{Two, Zero, is_applied, reach_of, begins, is_named, is_refused, class_for, connection_after}
-use Rattle.osi_blameless.proofs.Vocabulary.{found_on, is_stopped, judged_on, none_told, has_broken, route, route_in, routed, takes}
-use Rattle.osi_blameless.proofs.Vocabulary.{Traffic as State, Connection, Way, Finding, NotJudged, Reach, other, Direction, Left, Right}
-use Rattle.osi_blameless.proofs.Vocabulary.{IsToBlame, Joined, way_of, All, IsOneOf, Sound}
+use Rattle.osi_blameless.proofs.Vocabulary.{acknowledge, confirm, data0, data2, destination_of, disconnect, disconnected, error, request}
+use Rattle.osi_blameless.proofs.Vocabulary.{Value, Class, Two, Zero, is_applied, reach_of, begins, is_named, is_refused, class_for}
+use Rattle.osi_blameless.proofs.Vocabulary.{connection_after, found_on, is_stopped, judged_on, none_told, has_broken, route, route_in}
+use Rattle.osi_blameless.proofs.Vocabulary.{routed, takes, Traffic as State, Connection, Way, Finding, NotJudged, Reach, other, Direction}
+use Rattle.osi_blameless.proofs.Vocabulary.{Left, Right, IsToBlame, Joined, way_of, All, IsOneOf, Sound}
 use Rattle.osi_rules.specs.declared.directions.Direction.TheVariants as way
 use Rattle.osi_rules.specs.declared.findings.Reach.TheVariants as reach
 use Rattle.osi_rules.specs.Sides as sides

@@ -1,12 +1,12 @@
 -- What is asked of what holds of an end and a judge at each step, by which nobody of the end is to blame as long as one class is not
 -- selected: class 2, or class 0. And what units are while so much is judged. For the laws that no session of an end is to blame.
-use Rattle.osi_blameless.proofs.Vocabulary.{◌≡◌, ◌≢◌, ◌∙◌, ◌⊎◌, refl, sym, ap, subst, ℕ, ◌^◌, ◌<◌, ◌≤◌, Bool, false, if◌then◌else◌, List}
-use Rattle.osi_blameless.proofs.Vocabulary.{[], ◌∷◌, ◌++◌, length, Some, is_some, arith, slice_get, length-append, Value, Class, Two, Zero}
-use Rattle.osi_blameless.proofs.Vocabulary.{Local, Capture, other, Direction, TooMany, class_for, is_stopped, takes, packet, unit, IsFirm}
-use Rattle.osi_blameless.proofs.Vocabulary.{IsOngoing, packet_begins, Holding, Deeds, no_deeds, then_did, IsFresh, Turn, Cause, Joined}
-use Rattle.osi_blameless.proofs.Vocabulary.{spoken, marked, marks_of, moved, unit_passes, units_pass, unread, unread_mark, unread_moment}
-use Rattle.osi_blameless.proofs.Vocabulary.{way_of, heard, after, Joint, Step, Steps, TakesTurn, begin, begins_other, begins_own}
-use Rattle.osi_blameless.proofs.Vocabulary.{passes_other, passes_own, calls_from}
+use Rattle.osi_blameless.proofs.Vocabulary.{◌≡◌, ◌≢◌, ◌∙◌, ◌⊎◌, inl, inr, refl, sym, ap, subst, ℕ, ◌^◌, ◌<◌, ◌≤◌, Bool, false}
+use Rattle.osi_blameless.proofs.Vocabulary.{if◌then◌else◌, List, [], ◌∷◌, ◌++◌, length, Some, is_some, arith, slice_get, length-append}
+use Rattle.osi_blameless.proofs.Vocabulary.{Value, Class, Two, Zero, Local, Capture, other, Direction, TooMany, class_for, is_stopped}
+use Rattle.osi_blameless.proofs.Vocabulary.{takes, packet, unit, IsFirm, IsOngoing, packet_begins, Holding, Deeds, no_deeds, then_did}
+use Rattle.osi_blameless.proofs.Vocabulary.{IsFresh, Turn, Cause, Joined, spoken, marked, marks_of, moved, unit_passes, units_pass, unread}
+use Rattle.osi_blameless.proofs.Vocabulary.{unread_mark, unread_moment, way_of, heard, after, Joint, Step, Steps, TakesTurn, begin}
+use Rattle.osi_blameless.proofs.Vocabulary.{begins_other, begins_own, passes_other, passes_own, calls_from}
 use Rattle.osi_rules.specs.Sides as sides
 use Rattle.osi_rules.specs.Traffic.{State as Traffic}
 use Rattle.osi_rules.specs.Traffic as traffic
@@ -16,7 +16,7 @@ use Rattle.osi_honest.specs.Courses.{Course}
 use Rattle.osi_judge.specs.Courses.{Course as Passed, fresh}
 use Rattle.osi_judge.specs.States as states
 use Rattle.osi_blameless.proofs.steps_are_events.{IsFollowed, own_first}
-use Rattle.osi_blameless.proofs.no_unit_of_a_whole_end_is_a_break.{IsFair, IsNoBreak}
+use Rattle.osi_blameless.proofs.no_unit_of_a_whole_end_is_a_break.{IsNoBreak, is_fair}
 use Rattle.osi_blameless.proofs.a_break_ends_no_judging_or_all.{IsGoing, begins_going, nothing_ends, nothing_goes}
 use Rattle.osi_blameless.proofs.all_is_judged_or_nothing.{IsJudged}
 use Rattle.osi_blameless.proofs.what_passes_keeps_a_claim.{IsClaim, after_kept, step_kept, units_kept}
@@ -26,7 +26,8 @@ use Rattle.osi_blameless.proofs.sessions.nobody_of_a_side_is_to_blame.{NoneIsToB
 use Rattle.osi_blameless.proofs.sessions.connections_have_the_same_places.{marked_traffic, unit_knows}
 use Rattle.osi_blameless.proofs.sessions.each_step_leaves_class_0_one_connection.{Sure, class_stays}
 use Rattle.osi_blameless.proofs.sessions.steps_leave_all_standing.{IsProper}
-use Rattle.osi_blameless.proofs.sessions.steps_of_either_class_leave_all_standing.{IsRight, IsTolerable}
+use Rattle.osi_blameless.proofs.sessions.steps_of_either_class_leave_all_standing.{IsRight, IsTolerable, StandsOrSilent}
+use Rattle.osi_blameless.proofs.sessions.a_session_that_is_shown_is_not_to_blame.{SessionLaws}
 
 -- ---- what is asked of what holds at each step
 
@@ -76,27 +77,76 @@ abbrev pub ArePassed : (barred : Class) (d : Direction) (at : ℕ) → List Valu
 ArePassed barred d at [] c = Unit {0}
 ArePassed barred d at (v ∷ vs) c = IsPassed barred d v c × ArePassed barred d at vs (unit_passes (other d) at v c)
 
--- It holds at the beginning, and each step keeps it as long as so much is judged and this class is not selected. Then nobody of the end is
--- to blame, also after each unit of a packet of the other side.
-pub record Keeps (barred : Class) (d : Direction) (local : Local) (Inv : (ℕ → Deeds) → Joint → Type 0) : Type 0 where
-  pub begins : (h : Holding) → IsFresh (calls_from d) local h → Inv (λ r. no_deeds) (begin h)
+-- From what holds before each step follows what holds after it, as long as so much is judged and this class is not selected. Then all
+-- connections of the end stand or it has said nothing, also after each unit of a packet of the other side.
+pub record Leads (barred : Class) (d : Direction) (local : Local) (Inv Then : (ℕ → Deeds) → Joint → Type 0) : Type 1 where
   pub own_begins : (deeds : ℕ → Deeds) (old new : Joint) → Steps d begins_own old new → HaveCourses d deeds old →
       ((i : ℕ) (j : Joined) → slice_get old.course.sessions.live i ≡ Some j → length (heard (spoken (other d) j)) < 2 ^ 64) →
-      Inv deeds old → Inv deeds new
-  pub other_begins : (deeds : ℕ → Deeds) (old new : Joint) → Steps d begins_other old new → Inv deeds old → Inv deeds new
+      Inv deeds old → Then deeds new
+  pub other_begins : (deeds : ℕ → Deeds) (old new : Joint) → Steps d begins_other old new → Inv deeds old → Then deeds new
   pub own_passes : (deeds : ℕ → Deeds) (at : ℕ) (v : Value) (old new : Joint) → Steps d (passes_own at v) old new →
       IsOwn barred d v old.course → Lasts barred old.course → (new.course.traffic.course.class ≡ Some barred → ⊥) → Inv deeds old →
-      Inv deeds new
+      Then deeds new
   pub other_passes : (deeds : ℕ → Deeds) (at : ℕ) (octets : List ℕ) (units : List Value) (old new : Joint) →
-      Steps d (passes_other at octets units) old new → ArePassed barred d at units old.course → Inv deeds old → Inv deeds new
+      Steps d (passes_other at octets units) old new → ArePassed barred d at units old.course →
+      (new.course.traffic.course.class ≡ Some barred → ⊥) → Inv deeds old → Then deeds new
   pub turn : (turn : Turn) (old new : Joint) (t : TakesTurn turn old new) (deeds : ℕ → Deeds)
       (does : TurnDoes (calls_from d) deeds turn old new t) → IsFollowed d (wholes.begin (calls_from d) local) old →
       IsFollowed d (wholes.begin (calls_from d) local) new → Lasts barred old.course → Inv deeds old →
-      Inv (λ r. then_did (deeds r) (does.of.on.more r)) new
-  pub none : (deeds : ℕ → Deeds) (j : Joint) → HaveCourses d deeds j → Inv deeds j → NoneIsToBlame d j.course.sessions
-  pub none_amid : (deeds : ℕ → Deeds) (at : ℕ) (octets : List ℕ) (front back : List Value) (old new : Joint) →
-      Steps d (passes_other at octets (front ++ back)) old new → HaveCourses d deeds old → ArePassed barred d at front old.course →
-      Inv deeds old → NoneIsToBlame d (units_pass (other d) at front old.course).sessions
+      Then (λ r. then_did (deeds r) (does.of.on.more r)) new
+  pub stands : (deeds : ℕ → Deeds) (j : Joint) → Inv deeds j → StandsOrSilent d deeds j.put j.begun j.course
+  pub stands_amid : (deeds : ℕ → Deeds) (at : ℕ) (octets : List ℕ) (front back : List Value) (old new : Joint) →
+      Steps d (passes_other at octets (front ++ back)) old new → ArePassed barred d at front old.course →
+      ((units_pass (other d) at front old.course).traffic.course.class ≡ Some barred → ⊥) → Inv deeds old →
+      StandsOrSilent d deeds old.put old.begun (units_pass (other d) at front old.course)
+
+-- It holds at the beginning, and each step keeps it.
+pub record Keeps (barred : Class) (d : Direction) (local : Local) (Inv : (ℕ → Deeds) → Joint → Type 0) : Type 1 where
+  pub begins : (h : Holding) → IsFresh (calls_from d) local h → Inv (λ r. no_deeds) (begin h)
+  pub leads : Leads barred d local Inv Inv
+  pub laws : SessionLaws
+
+-- and more follows from that
+pub leads_more : (barred : Class) (d : Direction) (local : Local) (Inv Some_of Then : (ℕ → Deeds) → Joint → Type 0) →
+    ((deeds : ℕ → Deeds) (j : Joint) → Some_of deeds j → Then deeds j) → Leads barred d local Inv Some_of → Leads barred d local Inv Then
+leads_more barred d local Inv Some_of Then f k = record {
+  own_begins = λ deeds old new step courses few h. f deeds new (k.own_begins deeds old new step courses few h);
+  other_begins = λ deeds old new step h. f deeds new (k.other_begins deeds old new step h);
+  own_passes = λ deeds at v old new step own lasts not h. f deeds new (k.own_passes deeds at v old new step own lasts not h);
+  other_passes = λ deeds at octets units old new step passed not h.
+      f deeds new (k.other_passes deeds at octets units old new step passed not h);
+  turn = λ turn old new t deeds does g h lasts i. f _ new (k.turn turn old new t deeds does g h lasts i);
+  stands = k.stands;
+  stands_amid = k.stands_amid;
+}
+
+-- one of two holds
+either : {A B C : Type 0} → (A → C) → (B → C) → A ⊎ B → C
+either f g (inl a) = f a
+either f g (inr b) = g b
+
+either_stands : {A B : Type 0} {C : Type 1} → (A → C) → (B → C) → A ⊎ B → C
+either_stands f g (inl a) = f a
+either_stands f g (inr b) = g b
+
+pub leads_either : (barred : Class) (d : Direction) (local : Local) (A B Then : (ℕ → Deeds) → Joint → Type 0) →
+    Leads barred d local A Then → Leads barred d local B Then → Leads barred d local (λ deeds j. A deeds j ⊎ B deeds j) Then
+leads_either barred d local A B Then a b = record {
+  own_begins = λ deeds old new step courses few h.
+      either (a.own_begins deeds old new step courses few) (b.own_begins deeds old new step courses few) h;
+  other_begins = λ deeds old new step h. either (a.other_begins deeds old new step) (b.other_begins deeds old new step) h;
+  own_passes = λ deeds at v old new step own lasts not h.
+      either (a.own_passes deeds at v old new step own lasts not) (b.own_passes deeds at v old new step own lasts not) h;
+  other_passes = λ deeds at octets units old new step passed not h.
+      either (a.other_passes deeds at octets units old new step passed not)
+      (b.other_passes deeds at octets units old new step passed not) h;
+  turn = λ turn old new t deeds does f g lasts h.
+      either (a.turn turn old new t deeds does f g lasts) (b.turn turn old new t deeds does f g lasts) h;
+  stands = λ deeds j h. either_stands (a.stands deeds j) (b.stands deeds j) h;
+  stands_amid = λ deeds at octets front back old new step passed not h.
+      either_stands (a.stands_amid deeds at octets front back old new step passed not)
+      (b.stands_amid deeds at octets front back old new step passed not) h;
+}
 
 -- no unit comes after a DR while class 2 is not selected
 pub early : (d : Direction) (v : Value) (c : Passed) → IsPassed Two d v c → IsTolerable (other d) v c
@@ -204,13 +254,13 @@ knows_zero e c sure is = grind arith
 -- ---- a unit of the end
 
 -- it is no break: the end is fair
-pub own_mild : (d : Direction) (local : Local) → IsFair (way_of d) (wholes.begin (calls_from d) local) → (at : ℕ) (v : Value)
-    (old new : Joint) → Steps d (passes_own at v) old new → IsFollowed d (wholes.begin (calls_from d) local) old → IsGoing old.course →
+pub own_mild : (d : Direction) (local : Local) (at : ℕ) (v : Value) (old new : Joint) → Steps d (passes_own at v) old new →
+    IsFollowed d (wholes.begin (calls_from d) local) old → IsGoing old.course →
     IsNoBreak (takes (way_of d) v old.course.traffic).told.finding
-own_mild d local fair at v old new (read, octets, put, begun, is) f j =
+own_mild d local at v old new (read, octets, put, begun, is) f j =
     let s = own_first d (wholes.begin (calls_from d) local) old new v (read, octets, put) f in
     subst (λ (t : Traffic). IsNoBreak (takes (way_of d) v t).told.finding) f.judge
-    (fair f.events f.whole v s.rest f.along (f.begun ∙ begun) s.is
+    (is_fair d local f.events f.whole v s.rest f.along (f.begun ∙ begun) s.is
     (ap (λ (t : Traffic). is_stopped (sides.other (way_of d)) t.course) f.judge ∙ (grind arith)))
 
 pub own_is : (barred : Class) (d : Direction) (v : Value) (c : Passed) → IsStillJudged barred c → Sure c →

@@ -2,8 +2,7 @@
 -- connection, and some of those after it. For a judge joins no DT that its sender sends after its DR.
 -- For all connections of an end and a judge, after breaks of the other side too.
 use Rattle.osi_blameless.proofs.Vocabulary.{[], ap, append_assoc, Bool, false, inl, inr, List, refl, Some, sym, true, ℕ, ◌++◌, ◌==◌, ◌∙◌}
-use Rattle.osi_blameless.proofs.Vocabulary.{◌∷◌}
-use Rattle.osi_blameless.proofs.Vocabulary.{◌≡◌, ◌||◌, ◌⊎◌, eq-eqb, append-nil, data2, Value, unit_parts, Part, parts_of, picked_first}
+use Rattle.osi_blameless.proofs.Vocabulary.{◌∷◌, ◌≡◌, ◌||◌, ◌⊎◌, eq-eqb, append-nil, data2, Value, unit_parts, Part, parts_of, picked_first}
 use Rattle.osi_blameless.proofs.Vocabulary.{picked_join, picked_rest, arith, is_dr, unequal}
 use Rattle.osi_blameless.proofs.sessions.what_is_in_flight_to_an_end.{in_flight, in_flight_more}
 use Rattle.osi_blameless.proofs.sessions.what_stands_of_a_connection.{Known, is_for, waiting_for}

@@ -5,9 +5,8 @@ use Rattle.osi_blameless.proofs.Vocabulary.{[], ap, Bool, false, is_some, length
 use Rattle.osi_blameless.proofs.Vocabulary.{◌++◌, ◌<◌, ◌==◌, ◌^◌, ◌∙◌, ◌∷◌, ◌≡◌, ◌≤◌, AllByRecursion, acknowledge, data0, data2, Value}
 use Rattle.osi_blameless.proofs.Vocabulary.{parts_in, unit_parts, Part, End, begins, is_open, own, Connection, other, Direction, Deeds}
 use Rattle.osi_blameless.proofs.Vocabulary.{said_in, then_did, adds, Joined, reference_of, spoken, user_of, way_of, heard, Spoken, All}
-use Rattle.osi_blameless.proofs.Vocabulary.{leads}
-use Rattle.osi_blameless.proofs.Vocabulary.{picked, picked_first, picked_join, picked_rest, all_before, AreAfter, calls_from, IsJoinedFrom}
-use Rattle.osi_blameless.proofs.Vocabulary.{IsShownNow, parts_of, with_next, arith, differ}
+use Rattle.osi_blameless.proofs.Vocabulary.{leads, picked, picked_first, picked_join, picked_rest, all_before, AreAfter, calls_from}
+use Rattle.osi_blameless.proofs.Vocabulary.{IsJoinedFrom, IsShownNow, parts_of, with_next, arith, differ}
 use Rattle.osi_honest.specs.Courses.{Course}
 use Rattle.osi_judge.specs.Connections.{packet_begins}
 use Rattle.osi_blameless.proofs.small_facts_that_many_lemmas_use.{and_both}

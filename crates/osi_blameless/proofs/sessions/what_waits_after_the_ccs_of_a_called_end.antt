@@ -4,12 +4,9 @@
 use Rattle.osi_blameless.proofs.Vocabulary.{[], ap, append_assoc, arith, false, inl, inr, IsSome, List, nat_lt, None, Option, refl, Some}
 use Rattle.osi_blameless.proofs.Vocabulary.{subst, suc, sym, true, zero, ℕ, ◌++◌, ◌<◌, ◌==◌, ◌∙◌, ◌∷◌, ◌≡◌, ◌≤◌, ◌⊎◌, eq-eqb, eqb-true}
 use Rattle.osi_blameless.proofs.Vocabulary.{AllByRecursion, slice_get, confirm, Connect, disconnect, request, Value, Local, packets}
-use Rattle.osi_blameless.proofs.Vocabulary.{Carrier}
-use Rattle.osi_blameless.proofs.Vocabulary.{EndReason, Traffic as State, Right, over_acts, Answers, Begins, is_shut, Opens, opens}
-use Rattle.osi_blameless.proofs.Vocabulary.{Continues}
-use Rattle.osi_blameless.proofs.Vocabulary.{Deeds, all_units, is_of_link, Marked, Turn, Sessions, Joint, TakesTurn, HaveSamePlaces}
-use Rattle.osi_blameless.proofs.Vocabulary.{AreApart}
-use Rattle.osi_blameless.proofs.Vocabulary.{Course, differ, number_is}
+use Rattle.osi_blameless.proofs.Vocabulary.{Carrier, EndReason, Traffic as State, Right, over_acts, Answers, Begins, is_shut, Opens, opens}
+use Rattle.osi_blameless.proofs.Vocabulary.{Continues, Deeds, all_units, is_of_link, Marked, Turn, Sessions, Joint, TakesTurn}
+use Rattle.osi_blameless.proofs.Vocabulary.{HaveSamePlaces, AreApart, Course, differ, number_is}
 use Rattle.osi_fair.specs.Wholes.{begin}
 use Rattle.osi_honest.specs.Arriving.{is_open as opened}
 use Rattle.osi_blameless.proofs.small_facts_that_many_lemmas_use.{same_bool}

@@ -1,6 +1,5 @@
--- A called end of class 2 hears each unit of the calling side: so all its connections stand after a packet, and those that are named have
--- references up to the highest at the judge.
--- For all connections of a called end and a judge.
+-- The calling side gives no reference of the called side, and none for which a unit of it waits. So all connections of an end of class 2
+-- stand after a packet of that side. For all connections of an end that is called and a judge.
 use Rattle.osi_blameless.proofs.Vocabulary.{[], append_assoc, Bool, false, List, refl, subst, sym, true, ℕ, ◌++◌, ◌∷◌, ◌≡◌, append-nil}
 use Rattle.osi_blameless.proofs.Vocabulary.{AllByRecursion, Value, is_applied, takes, Left, Right, Deeds, Sessions, unit_passes, units_pass}
 use Rattle.osi_blameless.proofs.Vocabulary.{arith, Course}

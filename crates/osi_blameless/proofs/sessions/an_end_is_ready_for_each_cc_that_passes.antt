@@ -1,34 +1,32 @@
--- A called end of class 2 is ready for each CC that passes: what waits after it is all that was put at its connection, nothing was taken
--- there, nothing in flight is for it, and its reference is new. Each step keeps it so, also if a connection has lost its judgement.
+-- An end of class 2 is ready for each CC of it that passes: what waits after it is all that was put at its connection, nothing was taken
+-- there, nothing in flight is for it, and its reference is new. And what passes and turns keep it so, also if a connection has lost its
+-- judgement.
 -- For all connections of an end and a judge.
 use Rattle.osi_blameless.proofs.Vocabulary.{◌≡◌, ◌∙◌, ◌⊎◌, inl, inr, refl, sym, ap, subst, ℕ, ◌<◌, ◌≤◌, Bool, true, false, List, [], ◌∷◌}
 use Rattle.osi_blameless.proofs.Vocabulary.{◌++◌, Some, None, Option, IsSome, arith, if◌then◌else◌, is_some, slice_get, leb-false, leb-true}
-use Rattle.osi_blameless.proofs.Vocabulary.{AllByRecursion, append-nil, units_of, Value, acknowledge, confirm, data0, data2, disconnect}
-use Rattle.osi_blameless.proofs.Vocabulary.{disconnected, error, request, Class, Two, Zero, Local, Standing, link_of, value_at, EndReason}
-use Rattle.osi_blameless.proofs.Vocabulary.{Right, Connection, is_refused, has_given, Holding, Whole, picked_join, picked_rest, AreApart}
-use Rattle.osi_blameless.proofs.Vocabulary.{Continues, Deeds, no_deeds, then_did, units_in, units_read, units_taken, Marked, all_units}
-use Rattle.osi_blameless.proofs.Vocabulary.{units_at, IsFresh, Turn, over_acts, AllProper, Life, WhenPast, amid, early, past, stage_at}
-use Rattle.osi_blameless.proofs.Vocabulary.{stage_by, stage_is, stage_over, all_units_more, taken_more, CanBeWritten, Sessions, Course}
-use Rattle.osi_blameless.proofs.Vocabulary.{Joint}
-use Rattle.osi_blameless.proofs.Vocabulary.{Steps, TakesTurn, begin, begins_other, begins_own, passes_other, passes_own, parts_of}
-use Rattle.osi_blameless.proofs.Vocabulary.{HaveSamePlaces, differ, above_up, IsOngoing}
+use Rattle.osi_blameless.proofs.Vocabulary.{AllByRecursion, Value, acknowledge, confirm, data0, data2, disconnect, disconnected, error}
+use Rattle.osi_blameless.proofs.Vocabulary.{request, Class, Two, Zero, Local, Standing, link_of, value_at, EndReason, Right, Connection}
+use Rattle.osi_blameless.proofs.Vocabulary.{is_refused, has_given, Whole, picked_join, picked_rest, AreApart, Continues, Deeds, then_did}
+use Rattle.osi_blameless.proofs.Vocabulary.{units_in, units_taken, Marked, all_units, units_at, Turn, over_acts, AllProper, Life, WhenPast}
+use Rattle.osi_blameless.proofs.Vocabulary.{amid, early, past, stage_at, stage_by, stage_is, stage_over, all_units_more, taken_more}
+use Rattle.osi_blameless.proofs.Vocabulary.{CanBeWritten, Sessions, Course, Joint, Steps, TakesTurn, passes_own, parts_of, HaveSamePlaces}
+use Rattle.osi_blameless.proofs.Vocabulary.{differ, above_up, IsOngoing}
 use Rattle.osi_carrier.specs.State.{Connection as Live, State as Carrier, asked}
 use Rattle.osi_fair.specs.Wholes as wholes
 use Rattle.osi_honest.proofs.courses.how_long_a_connection_is_open.{Stage}
 use Rattle.osi_blameless.proofs.a_carrier_does_events.{none_of}
-use Rattle.osi_blameless.proofs.small_facts_that_many_lemmas_use.{amid_not, given_so, past_not, all_join as all_of_both}
-use Rattle.osi_blameless.proofs.steps_are_events.{IsFollowed, begin_followed}
+use Rattle.osi_blameless.proofs.small_facts_that_many_lemmas_use.{amid_not, early_lasts, given_so, past_not}
+use Rattle.osi_blameless.proofs.steps_are_events.{IsFollowed}
 use Rattle.osi_blameless.proofs.sessions.a_called_end_of_class_2_has_its_lines.{HasLines, has_lines}
 use Rattle.osi_blameless.proofs.sessions.a_called_end_of_class_2_puts_no_dt_of_class_0.{called_turn_two}
-use Rattle.osi_blameless.proofs.sessions.a_calling_end_takes_what_is_in_flight.{early_lasts}
-use Rattle.osi_blameless.proofs.sessions.a_turn_does_what_its_deeds_say.{turn_leaves, turn_uses, units_join}
+use Rattle.osi_blameless.proofs.sessions.an_end_of_class_2_goes_on.{OwnInTwo}
+use Rattle.osi_blameless.proofs.sessions.a_turn_does_what_its_deeds_say.{turn_leaves, turn_uses}
 use Rattle.osi_blameless.proofs.sessions.a_unit_is_joined_where_it_is_named.{joined_any}
 use Rattle.osi_blameless.proofs.sessions.all_connections_stand.{there_too}
-use Rattle.osi_blameless.proofs.sessions.ccs_that_wait_are_above_those_that_passed.{AreAboveAt, above_along}
 use Rattle.osi_blameless.proofs.sessions.each_cc_of_a_called_end_opens_another_connection.{put_ordered}
-use Rattle.osi_blameless.proofs.sessions.each_reference_of_an_end_is_new.{GoesOn, IsAhead, above_unused, begins_other_ahead}
-use Rattle.osi_blameless.proofs.sessions.each_reference_of_an_end_is_new.{begins_own_ahead, passes_above, passes_other_ahead}
-use Rattle.osi_blameless.proofs.sessions.each_reference_of_an_end_is_new.{passes_own_ahead, turns_ahead, AreUpTo, IsUpTo}
+use Rattle.osi_blameless.proofs.sessions.each_reference_of_an_end_is_new.{GoesOn, IsAhead, above_unused}
+use Rattle.osi_blameless.proofs.sessions.each_reference_of_an_end_is_new.{passes_above}
+use Rattle.osi_blameless.proofs.sessions.each_reference_of_an_end_is_new.{passes_own_ahead, turns_ahead, IsUpTo}
 use Rattle.osi_blameless.proofs.sessions.each_unit_of_a_called_end_has_a_home.{OpensByNoCc, called_marked}
 use Rattle.osi_blameless.proofs.sessions.each_unit_of_a_turn_has_one_connection.{HasHome, IsMarked}
 use Rattle.osi_blameless.proofs.sessions.nothing_comes_before_a_cc_passes.{IsBelow, below_higher, none_waits}
@@ -100,46 +98,14 @@ module _ (local : Local) where
   abbrev pub first : Whole
   first = wholes.begin false local
 
-  -- What was put at a connection whose CC has not passed waits after it. At a connection without a CC nothing was put, and at either
-  -- nothing was taken.
-  pub record IsCalled (deeds : ℕ → Deeds) (j : Joint) : Type 0 where
-    pub ahead : IsAhead Right first j
-    pub below : AllByRecursion (IsBelow ahead.bound) (units_in j.coming)
-    pub unheard : (r : ℕ) → ahead.bound < r → units_taken (deeds r).calls ≡ []
-    pub waits : (n r : ℕ) → HasCc n r j.put → (deeds r).put ≡ waiting_for (Some n) j.put
-    pub spent : (r : ℕ) → ahead.bound < r → ((deeds r).put ≡ []) ⊎ ((n : ℕ) × HasCc n r j.put)
-    pub ordered : AreOrdered j.put
-    pub two : AllByRecursion AnswersTwo j.put
-
-  -- ---- at the beginning
-
-  pub begin_called : (holding : Holding) → IsFresh false local holding → IsCalled (λ r. no_deeds) (begin holding)
-  begin_called holding fresh =
-      let f = begin_followed Right false local holding fresh in
-      let above : AreAboveAt 0 first = omega arith in
-      record {
-        ahead = record {
-          followed = f;
-          bound = 0;
-          above = above_along 0 f.events first f.whole f.along above;
-          below = record { live = λ i j r here named. absurd (cc here); done = λ i j r here named. absurd (cc here) };
-        };
-        below = tt;
-        unheard = λ r less. refl;
-        waits = λ n r has. absurd has;
-        spent = λ r less. inl refl;
-        ordered = tt;
-        two = tt;
-      }
-
   -- such a reference is above all that the judge knows
-  pub early_above : (deeds : ℕ → Deeds) (j : Joint) (h : IsCalled deeds j) → AllByRecursion CanBeWritten j.put →
+  pub early_above : (deeds : ℕ → Deeds) (j : Joint) (h : OwnInTwo Right local deeds j) → AllByRecursion CanBeWritten j.put →
       IsOngoing j.course.traffic.course → (r : ℕ) → 0 < r → stage_at r j.holding.end.carrier ≡ early → h.ahead.bound < r
   early_above deeds j h can clear r some may =
       let f = h.ahead.followed in
       let lasts = none_of f.whole.end.ended (sym f.like.over ∙ ap is_some (early_lasts r j.holding.end.carrier may)) in
       let there : stage_at r f.whole.end ≡ early = ap (stage_at r) (f.like.lasts lasts) ∙ may in
-      let given = early_not_given r f.whole.end lasts (has_lines local j f can h.two clear).end.none there in
+      let given = early_not_given r f.whole.end lasts (has_lines local j f can h.holds.two clear).end.none there in
       grind (arith, above_given, above_up)
 
   -- a CC that waits is above all references at the judge
@@ -150,15 +116,15 @@ module _ (local : Local) where
   -- ---- a unit that passes
 
   pub is_ready : (deeds : ℕ → Deeds) (at : ℕ) (unit : Value) (old new : Joint) → Steps Right (passes_own at unit) old new →
-      HaveSamePlaces old.course.traffic.connections old.course.sessions.live → AreKnown old.course → IsCalled deeds old →
+      HaveSamePlaces old.course.traffic.connections old.course.sessions.live → AreKnown old.course → OwnInTwo Right local deeds old →
       IsReady Right deeds (known_from (may_take old.holding.end.carrier) (units_in old.coming)) unit new.put old.course.traffic
       old.course.sessions
   is_ready deeds at (confirm m x) old new (read, octets, put, begun, is) places known h =
       let less = passes_above Right first at (confirm m x) x.source refl old new (read, octets, put, begun, is) h.ahead in
       let has : HasCc m x.source old.put = subst (HasCc m x.source) (sym put) (inl (refl, refl)) in
       let all : (deeds x.source).put ≡ waiting_for (Some m) new.put =
-      h.waits m x.source has ∙ ap (waiting_for (Some m)) put in
-      let none = h.unheard x.source less in (
+      h.holds.waits m x.source has ∙ ap (waiting_for (Some m)) put in
+      let none = h.holds.unheard x.source less in (
         λ p j place here.
             let (c, there) = there_too old.course.traffic.connections old.course.sessions.live p j places here in
             grind (arith, waiting_for, joined_any Right (confirm m x) old.course m p c j places refl place there (known p c there) here),
@@ -173,74 +139,36 @@ module _ (local : Local) where
   is_ready deeds at (acknowledge credit n number) old new step places known h = tt
   is_ready deeds at (error n cause) old new step places known h = tt
 
-  -- ---- each step of the judge
-
-  -- nothing is put or passes of what the end has put
-  still : (deeds : ℕ → Deeds) (old new : Joint) (h : IsCalled deeds old) (g : GoesOn Right first h.ahead.bound new) → new.put ≡ old.put →
-      AllByRecursion (IsBelow h.ahead.bound) (units_in new.coming) → IsCalled deeds new
-  still deeds old new h g same below =
-      record {
-        ahead = g.ahead;
-        below = below_higher h.ahead.bound g.ahead.bound (units_in new.coming) g.rises below;
-        unheard = λ r less. h.unheard r (omega (arith, less));
-        waits = λ n r has.
-            h.waits n r (subst (HasCc n r) same has) ∙ ap (waiting_for (Some n)) (sym same);
-        spent = λ r less.
-            subst (λ (l : List Value). ((deeds r).put ≡ []) ⊎ ((n : ℕ) × HasCc n r l)) (sym same)
-            (h.spent r (omega (arith, less)));
-        ordered = subst AreOrdered (sym same) h.ordered;
-        two = subst (AllByRecursion AnswersTwo) (sym same) h.two;
-      }
-
-  pub begins_own_called : AllProper → (deeds : ℕ → Deeds) (old new : Joint) → Steps Right begins_own old new → IsCalled deeds old →
-      IsCalled deeds new
-  begins_own_called proper deeds old new step h =
-      still deeds old new h (begins_own_ahead Right first proper old new step h.ahead) (ap (λ (j : Joint). j.put) step.2)
-      (subst (λ (j : Joint). AllByRecursion (IsBelow h.ahead.bound) (units_in j.coming)) (sym step.2) h.below)
-
-  pub begins_other_called : AllProper → (deeds : ℕ → Deeds) (old new : Joint) → Steps Right begins_other old new → IsCalled deeds old →
-      IsCalled deeds new
-  begins_other_called proper deeds old new step h =
-      still deeds old new h (begins_other_ahead Right first proper old new step h.ahead) (ap (λ (j : Joint). j.put) step)
-      (subst (λ (j : Joint). AllByRecursion (IsBelow h.ahead.bound) (units_in j.coming)) (sym step) h.below)
-
-  -- the units of a packet of the other side are no CCs, and those of connections are for references of the judge
-  pub passes_other_called : AllProper → (deeds : ℕ → Deeds) (at : ℕ) (packet : List ℕ) (units : List Value) (old new : Joint) →
-      Steps Right (passes_other at packet units) old new →
-      (h : IsCalled deeds old) → AllByRecursion (IsBelow h.ahead.bound) units → AreUpTo Right h.ahead.bound new.course.sessions →
-      IsCalled deeds new
-  passes_other_called proper deeds at packet units old new step h below up =
-      let one : units_in (packet ∷ []) ≡ units = append-nil (units_read (units_of packet)) ∙ ap units_read step.1 in
-      still deeds old new h (passes_other_ahead Right first proper at packet units old new step h.ahead up)
-      (ap (λ (j : Joint). j.put) step.2)
-      (grind (arith, units_join, all_of_both))
+  -- ---- a unit of it passes
 
   spent_next : (deeds : Deeds) (b r : ℕ) (unit : Value) (rest : List Value) → IsUpTo Right b unit → b < r →
       (deeds.put ≡ []) ⊎ ((n : ℕ) × HasCc n r (unit ∷ rest)) → (deeds.put ≡ []) ⊎ ((n : ℕ) × HasCc n r rest)
   spent_next deeds b r unit rest up less h = grind (arith, gives_so)
 
-  pub passes_own_called : AllProper → (deeds : ℕ → Deeds) (at : ℕ) (unit : Value) (old new : Joint) →
+  pub own_passes : AllProper → (deeds : ℕ → Deeds) (at : ℕ) (unit : Value) (old new : Joint) →
       Steps Right (passes_own at unit) old new → HaveSamePlaces old.course.traffic.connections old.course.sessions.live →
-      IsCalled deeds old → IsCalled deeds new
-  passes_own_called proper deeds at unit old new step places h =
+      OwnInTwo Right local deeds old → OwnInTwo Right local deeds new
+  own_passes proper deeds at unit old new step places h =
       let p = passes_own_ahead Right first proper at unit old new step places h.ahead in
       let g = p.on in
       let put = step.2 in
-      let ordered : AreOrdered (unit ∷ new.put) = subst AreOrdered put h.ordered in
+      let ordered : AreOrdered (unit ∷ new.put) = subst AreOrdered put h.holds.ordered in
       record {
         ahead = g.ahead;
-        below = below_higher h.ahead.bound g.ahead.bound (units_in new.coming) g.rises
-            (subst (λ (j : Joint). AllByRecursion (IsBelow h.ahead.bound) (units_in j.coming)) (sym step.4) h.below);
-        unheard = λ r less. h.unheard r (omega (arith, less));
-        waits = λ n r has.
-            h.waits n r (subst (HasCc n r) (sym put) (inr has)) ∙ ap (waiting_for (Some n)) put
-            ∙ picked_rest (is_for (Some n)) unit new.put (not_so (is_for (Some n) unit) (λ e. ordered.0 n r e has));
-        spent = λ r less.
-            spent_next (deeds r) g.ahead.bound r unit new.put p.up less
-            (subst (λ (l : List Value). ((deeds r).put ≡ []) ⊎ ((n : ℕ) × HasCc n r l)) put
-            (h.spent r (omega (arith, less))));
-        ordered = ordered.1;
-        two = (subst (AllByRecursion AnswersTwo) put h.two).1;
+        holds = record {
+          below = below_higher h.ahead.bound g.ahead.bound (units_in new.coming) g.rises
+              (subst (λ (j : Joint). AllByRecursion (IsBelow h.ahead.bound) (units_in j.coming)) (sym step.4) h.holds.below);
+          unheard = λ r less. h.holds.unheard r (omega (arith, less));
+          waits = λ n r has.
+              h.holds.waits n r (subst (HasCc n r) (sym put) (inr has)) ∙ ap (waiting_for (Some n)) put
+              ∙ picked_rest (is_for (Some n)) unit new.put (not_so (is_for (Some n) unit) (λ e. ordered.0 n r e has));
+          spent = λ r less.
+              spent_next (deeds r) g.ahead.bound r unit new.put p.up less
+              (subst (λ (l : List Value). ((deeds r).put ≡ []) ⊎ ((n : ℕ) × HasCc n r l)) put
+              (h.holds.spent r (omega (arith, less))));
+          ordered = ordered.1;
+          two = (subst (AllByRecursion AnswersTwo) put h.holds.two).1;
+        };
       }
 
   -- ---- a turn, with what was done at each connection
@@ -250,7 +178,7 @@ module _ (local : Local) where
       (life : (r : ℕ) → 0 < r → Life false r (stage_at r old.holding.end.carrier) on.took on.put (stage_at r new.holding.end.carrier))
       (units : t.units ≡ all_units on.put) (can : AllByRecursion CanBeWritten old.put) (can_new : AllByRecursion CanBeWritten new.put)
       (places : HaveSamePlaces old.course.traffic.connections old.course.sessions.live) (clear : IsOngoing old.course.traffic.course)
-      (h : IsCalled deeds old) (turn_two : AllByRecursion AnswersTwo new.put) where
+      (h : OwnInTwo Right local deeds old) (turn_two : AllByRecursion AnswersTwo new.put) where
     abbrev carrier : Carrier
     carrier = old.holding.end.carrier
 
@@ -264,7 +192,7 @@ module _ (local : Local) where
     turn_put = t.put ∙ ap (λ (l : List Value). old.put ++ l) units
 
     before : HasLines local f.whole
-    before = has_lines local old f can h.two clear
+    before = has_lines local old f can h.holds.two clear
 
     after : HasLines local g.ahead.followed.whole
     after = has_lines local new g.ahead.followed can_new turn_two (grind arith)
@@ -288,7 +216,7 @@ module _ (local : Local) where
       where
         low : n ≤ h.ahead.bound
         low = come (IsBelow h.ahead.bound)
-            (subst (AllByRecursion (IsBelow h.ahead.bound)) (same_units old.coming ∙ sym (f.coming lasts)) h.below)
+            (subst (AllByRecursion (IsBelow h.ahead.bound)) (same_units old.coming ∙ sym (f.coming lasts)) h.holds.below)
 
         by : (s : Stage) → stage_at q carrier ≡ s → AreApart q on.put
         by early may = let over = early_above deeds old h can clear q some may in absurd (omega (arith, low, is, over))
@@ -318,10 +246,10 @@ module _ (local : Local) where
     waits_by : (n r : ℕ) → HasCc n r new.put → HasCc n r old.put ⊎ HasCc n r (all_units on.put) →
         (deeds r).put ++ (on.more r).put ≡ waiting_for (Some n) (old.put ++ all_units on.put)
     waits_by n r has (inl waited) =
-        (λ i. h.waits n r waited i ++ put_more n r has i) ∙ sym (picked_join (is_for (Some n)) old.put (all_units on.put))
+        (λ i. h.holds.waits n r waited i ++ put_more n r has i) ∙ sym (picked_join (is_for (Some n)) old.put (all_units on.put))
     waits_by n r has (inr put) =
         let less = above_old n r has in
-        (λ i. none_put_before n r put less (h.spent r less) i ++ put_more n r has i)
+        (λ i. none_put_before n r put less (h.holds.spent r less) i ++ put_more n r has i)
         ∙ ap (λ (l : List Value). l ++ waiting_for (Some n) (all_units on.put))
         (sym (none_before n r old.put (all_units on.put) (subst AreOrdered turn_put turn_ordered) put))
         ∙ sym (picked_join (is_for (Some n)) old.put (all_units on.put))
@@ -342,7 +270,7 @@ module _ (local : Local) where
           let s = turn_uses turn old new t false deeds on lasts in
           let l = on.lives r some in
           let none : waiting_for (Some r) (all_units on.took ++ (s.left ++ units_in new.coming)) ≡ [] =
-          ap (waiting_for (Some r)) (sym s.coming) ∙ none_waits h.ahead.bound r (units_in old.coming) less h.below in
+          ap (waiting_for (Some r)) (sym s.coming) ∙ none_waits h.ahead.bound r (units_in old.coming) less h.holds.below in
           grind (arith, waiting_for, none_both, picked_join, is_for, all_units_more, during_taken)
       taken_by (Some reason) over = grind (arith, past_none, stage_at, stage_over, some)
 
@@ -362,7 +290,7 @@ module _ (local : Local) where
 
       turn_spent : ((then_did (deeds r) (on.more r)).put ≡ []) ⊎ ((n : ℕ) × HasCc n r new.put)
       turn_spent =
-          spent_by (h.spent r less)
+          spent_by (h.holds.spent r less)
           (search (arith, named, g, before, after, no_cc, alike_old, alike_new, some))
 
     -- ---- each unit of the turn has a home
@@ -391,16 +319,19 @@ module _ (local : Local) where
 
     -- ---- all of it
 
-    pub turns_called : IsCalled (λ r. then_did (deeds r) (on.more r)) new
-    turns_called =
+    pub turns_own : OwnInTwo Right local (λ r. then_did (deeds r) (on.more r)) new
+    turns_own =
         let rises = g.rises in
         record {
           ahead = g.ahead;
-          below = below_higher h.ahead.bound g.ahead.bound (units_in new.coming) g.rises
-              (grind (arith, all_back, turn_leaves turn old new t));
-          unheard = λ r less. turn_unheard r (omega (arith, less, rises));
-          waits = turn_waits;
-          spent = λ r less. turn_spent r (omega (arith, less, rises));
-          ordered = turn_ordered;
-          two = turn_two;
+          holds = record {
+            below = below_higher h.ahead.bound g.ahead.bound (units_in new.coming) g.rises
+                (all_back (IsBelow h.ahead.bound) (units_in t.used) (units_in new.coming)
+                (subst (AllByRecursion (IsBelow h.ahead.bound)) (turn_leaves turn old new t) h.holds.below));
+            unheard = λ r less. turn_unheard r (omega (arith, less, rises));
+            waits = turn_waits;
+            spent = λ r less. turn_spent r (omega (arith, less, rises));
+            ordered = turn_ordered;
+            two = turn_two;
+          };
         }

@@ -1,5 +1,5 @@
--- A calling end of class 2 hears each unit of the called side: a CC gives a reference for which nothing waits. So all its connections stand
--- after a packet of the called side. For all connections of a calling end and a judge.
+-- No unit of an end of class 2 waits for the reference that a CC of the other side gives, and that side gives none of the end. So all
+-- connections of the end stand after a packet of the other side. For all connections of an end that calls and a judge.
 use Rattle.osi_blameless.proofs.Vocabulary.{arith, ◌≡◌, ◌∙◌, refl, sym, ap, subst, ℕ, Bool, true, List, [], ◌∷◌, ◌++◌, map, Some}
 use Rattle.osi_blameless.proofs.Vocabulary.{append_assoc, AllByRecursion, append-nil, HasFieldsInRange, Value, acknowledge, confirm, data0}
 use Rattle.osi_blameless.proofs.Vocabulary.{data2, disconnect, disconnected, error, Connect, request, written, Local, Left, Right}
@@ -9,7 +9,8 @@ use Rattle.osi_rules.specs.declared.directions.Direction.TheVariants as way
 use Rattle.osi_fair.specs.Wholes as wholes
 use Rattle.osi_fair.proofs.a_calling_end_is_fair_in_class_2.{Joined as Follows}
 use Rattle.osi_blameless.proofs.sessions.an_end_hears_what_breaks_no_rule.{AreFine, AreHeard, IsHeardOn, IsNotAwaited, one_heard}
-use Rattle.osi_blameless.proofs.sessions.a_calling_end_is_ready.{IsPlain}
+use Rattle.osi_blameless.proofs.sessions.each_reference_of_an_end_is_new.{IsUpTo}
+use Rattle.osi_blameless.proofs.sessions.nothing_is_done_before_a_cr_passes.{IsNoZero}
 use Rattle.osi_blameless.proofs.sessions.a_cc_comes_before_what_is_put_for_it.{nothing_waits}
 use Rattle.osi_blameless.proofs.sessions.a_right_dt_has_one_place.{AreUsedApart, named_apart}
 use Rattle.osi_blameless.proofs.sessions.connections_have_the_same_places.{unit_knows}
@@ -19,6 +20,10 @@ use Rattle.osi_blameless.proofs.sessions.what_passes_leaves_all_standing.{no_req
 use Rattle.osi_blameless.proofs.sessions.what_stands_of_a_connection.{waiting_for}
 
 -- ---- units of the other side
+
+-- neither a CR nor a DT of class 0
+abbrev pub IsPlain : ℕ → Value → Type 0
+IsPlain b v = IsNoZero v × IsUpTo Left b v
 
 pub one_plain : (b : ℕ) (v : Value) (c : Course) → IsHeardOn Left v c → IsPlain b v
 one_plain b v c p = grind (arith, no_request, no_zero)
@@ -63,7 +68,8 @@ module _ (local : Local) (put : List Value) (can : AllByRecursion CanBeWritten p
   none_awaited (acknowledge credit n number) c p w places = tt
   none_awaited (error n cause) c p w places = tt
 
-  next_behind : (at : ℕ) (v : Value) (c : Course) → HasFieldsInRange v → IsBehind local put c → IsBehind local put (unit_passes Right at v c)
+  next_behind : (at : ℕ) (v : Value) (c : Course) → HasFieldsInRange v → IsBehind local put c →
+      IsBehind local put (unit_passes Right at v c)
   next_behind at v c ranges w =
       let next : Whole = record w.whole { judge = (takes way.Right v w.whole.judge).state; coming = w.whole.coming ++ v ∷ [] } in
       record {

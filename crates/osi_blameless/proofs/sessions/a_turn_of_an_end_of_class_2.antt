@@ -1,0 +1,207 @@
+-- A turn of an end of class 2 leaves all its connections standing at a judge: each unit that it puts has its mark, and what it takes at a
+-- connection is the first of what is left over for it.
+-- For the session of each connection of an end.
+use Rattle.osi_blameless.proofs.Vocabulary.{AllByRecursion, AllProper, CanBeWritten, Connection, Continues, Course, Deeds, Direction}
+use Rattle.osi_blameless.proofs.Vocabulary.{HaveSamePlaces, IsOngoing, Joined, Joint, Left, Life, List, Local, Part, Right, Some}
+use Rattle.osi_blameless.proofs.Vocabulary.{TakesTurn, Time, Tracked, Turn, Value, [], all_units, ap, arith, calls_from, early, false, inl}
+use Rattle.osi_blameless.proofs.Vocabulary.{inr, is_closing, is_some, le-leb, lt-ltb, none_of, number_is, other, reference_of, slice_get}
+use Rattle.osi_blameless.proofs.Vocabulary.{stage_at, subst, sym, then_did, true, units_in, ℕ, ◌++◌, ◌<◌, ◌∙◌, ◌≡◌, ◌≢◌, ◌≤◌, ◌⊎◌}
+use Rattle.osi_judge.specs.Courses.{Course as Passed}
+use Rattle.osi_blameless.proofs.sessions.an_end_is_ready_for_each_cc_that_passes as ccs
+use Rattle.osi_blameless.proofs.sessions.an_end_is_ready_for_each_cr_that_passes as crs
+use Rattle.osi_blameless.proofs.sessions.a_called_end_of_class_2_has_its_lines.{has_lines}
+use Rattle.osi_blameless.proofs.sessions.a_calling_end_takes_nothing_before_its_cc.{AwaitsCc, TrackedJudged, awaits_cc, calm_turn}
+use Rattle.osi_blameless.proofs.sessions.a_turn_does_what_its_deeds_say.{turn_uses}
+use Rattle.osi_blameless.proofs.sessions.a_turn_leaves_all_standing.{IsOfOne, Turns, of_done, of_live}
+use Rattle.osi_blameless.proofs.sessions.all_connections_stand.{one_at}
+use Rattle.osi_blameless.proofs.sessions.an_end_is_ready_for_each_cc_that_passes.{early_above, turn_homed}
+use Rattle.osi_blameless.proofs.sessions.a_whole_end_runs_along.{whole_followed, whole_joined}
+use Rattle.osi_blameless.proofs.sessions.an_end_of_class_2_goes_on.{OwnInTwo}
+use Rattle.osi_blameless.proofs.sessions.an_end_stands_as_units_pass.{MayGetTwo, StandsInTwo, known_at, used_apart}
+use Rattle.osi_blameless.proofs.sessions.an_end_takes_what_is_left_for_it.{IsClean, dr_stays, either_takes, was_live}
+use Rattle.osi_blameless.proofs.sessions.connections_have_the_same_places.{at_same}
+use Rattle.osi_blameless.proofs.sessions.each_unit_of_a_turn_has_one_connection.{IsMarked, puts_wait}
+use Rattle.osi_blameless.proofs.sessions.nothing_comes_before_a_cc_passes.{none_waits}
+use Rattle.osi_blameless.proofs.sessions.nothing_is_done_before_a_cr_passes.{IsNoZero, may_take, same_units}
+use Rattle.osi_blameless.proofs.sessions.references_of_an_end_are_distinct.{AreDistinct}
+use Rattle.osi_blameless.proofs.sessions.steps_leave_all_standing.{step_turns}
+use Rattle.osi_blameless.proofs.sessions.the_dr_of_the_other_side_is_in_flight.{AreShut, turn_shut}
+use Rattle.osi_blameless.proofs.sessions.units_written_alike_have_the_same_ccs.{AnswersTwo}
+use Rattle.osi_blameless.proofs.sessions.what_an_end_takes_at_each_stage.{AreReady}
+use Rattle.osi_blameless.proofs.sessions.what_is_left_for_an_end.{known_left}
+use Rattle.osi_blameless.proofs.sessions.what_stands_of_a_connection.{Takes, waiting_for}
+use Rattle.osi_blameless.proofs.small_facts_that_many_lemmas_use.{can_more, early_lasts}
+use Rattle.osi_blameless.proofs.what_is_put_is_what_is_written.{none_written}
+
+first_so : {A B C : Type 0} → (A → C) → A ⊎ B → C ⊎ B
+first_so f (inl a) = inl (f a)
+first_so f (inr b) = inr b
+
+-- A turn of which each unit has its mark, and which takes the first of what is in flight to each connection.
+module _ (d : Direction) (local : Local) (two : MayGetTwo d local) (deeds : ℕ → Deeds) (turn : Turn) (old new : Joint)
+    (t : TakesTurn turn old new) (on : Continues (calls_from d) deeds old.holding turn new.holding) (units : t.units ≡ all_units on.put)
+    (can : AllByRecursion CanBeWritten (all_units on.put))
+    (marked : AllByRecursion (IsMarked d old.course.traffic old.course.sessions) on.put)
+    (takes : (r : ℕ) → 0 < r → IsOfOne d r old.course.traffic old.course.sessions → (later : List Part) →
+    known_left (may_take old.holding.end.carrier) (units_in old.coming) r later →
+    Takes (on.more r) later (known_left (may_take new.holding.end.carrier) (units_in new.coming) r))
+    (shut : AreShut d (may_take new.holding.end.carrier) (units_in new.coming) old.course.traffic old.course.sessions)
+    (some : old.begun ≡ true → old.put ≢ []) (clear : IsOngoing old.course.traffic.course) (h : StandsInTwo d local deeds old) where
+  turns : Turns d on.more (known_at old) (known_at new) t.units old.course.traffic old.course.sessions
+  turns = record {
+    puts = λ i c j r there here mine live.
+        let up : 0 < r = (h.own.ahead.below.live i j r here mine).0 in
+        puts_wait d deeds (known_at old) old.put old.begun old.course.traffic old.course.sessions h.standing.all
+        (used_apart d local two deeds old clear h) h.distinct i c j r
+        there here mine live up on.put marked (on.more r).put (on.own r up)
+        ∙ ap (waiting_for (reference_of (other d) j)) (sym units);
+    takes = λ r one later sure.
+        let x = takes r sure.0 one later sure.1 in record { rest = x.rest; first = x.first; sure = (sure.0, x.sure) };
+  }
+
+  turns_with : OwnInTwo d local (λ r. then_did (deeds r) (on.more r)) new → StandsInTwo d local (λ r. then_did (deeds r) (on.more r)) new
+  turns_with own = record {
+    own = own;
+    standing = step_turns d deeds (known_at old) turn on.more (known_at new) old new t some turns h.standing;
+    distinct = subst (λ (c : Passed). AreDistinct d c.sessions) (sym t.course) h.distinct;
+    shut = subst (λ (c : Passed). AreShut d (may_take new.holding.end.carrier) (units_in new.coming) c.traffic c.sessions) (sym t.course)
+        shut;
+    can = subst (AllByRecursion CanBeWritten) (sym (t.put ∙ ap (λ (l : List Value). old.put ++ l) units))
+        (can_more old.put (all_units on.put) h.can can);
+  }
+
+-- ---- a turn of an end that calls
+
+module _ (local : Local) (two : local.class2 ≡ true) where
+  -- at a connection whose CC has passed and that has not opened, what has come awaits the CC
+  joint_awaits : (deeds : ℕ → Deeds) (j : Joint) → OwnInTwo Left local deeds j → IsOngoing j.course.traffic.course →
+      HaveSamePlaces j.course.traffic.connections j.course.sessions.live → (r : ℕ) → 0 < r →
+      TrackedJudged j.course.traffic.connections r → stage_at r j.holding.end.carrier ≡ early → AwaitsCc r (units_in j.coming)
+  joint_awaits deeds j h clear places r some tracked may =
+      let f = h.ahead.followed in
+      let lasts = early_lasts r j.holding.end.carrier may in
+      let whole_lasts = none_of f.whole.end.ended (sym f.like.over ∙ ap is_some lasts) in
+      let alike : stage_at r f.whole.end ≡ stage_at r j.holding.end.carrier = ap (stage_at r) (f.like.lasts whole_lasts) in
+      let (p, c, at, is, same, judged) = tracked in
+      let (k, here, one) = at_same j.course.traffic.connections j.course.sessions.live p c places at in
+      let low : r ≤ h.ahead.bound = (h.ahead.below.live p k r here (ap (λ (m : ℕ). Some m) (one.calling ∙ same))).1 in
+      grind (arith, awaits_cc, lt-ltb, le-leb, f.coming lasts, same_units j.coming, whole_joined local two j f)
+
+  module _ (turn : Turn) (old new : Joint) (t : TakesTurn turn old new) (deeds : ℕ → Deeds)
+      (on : Continues true deeds old.holding turn new.holding) (h : OwnInTwo Left local deeds old)
+      (then_h : OwnInTwo Left local (λ r. then_did (deeds r) (on.more r)) new) (clear : IsOngoing old.course.traffic.course)
+      (places : HaveSamePlaces old.course.traffic.connections old.course.sessions.live) (r : ℕ) (some : 0 < r)
+      (life : Life true r (stage_at r old.holding.end.carrier) on.took on.put (stage_at r new.holding.end.carrier)) where
+    abbrev stage : Time
+    stage = stage_at r old.holding.end.carrier
+
+    -- a connection whose CC has passed
+    tracked_ready : TrackedJudged old.course.traffic.connections r → stage ≡ early →
+        AreReady true r (IsClean r) (stage_at r new.holding.end.carrier) on.took
+    tracked_ready tracked may =
+        let s = turn_uses turn old new t true deeds on (early_lasts r old.holding.end.carrier may) in
+        calm_turn r (stage_at r new.holding.end.carrier) on.took (s.left ++ units_in new.coming)
+        (subst (AwaitsCc r) s.coming (joint_awaits deeds old h clear places r some tracked may))
+        (λ still. subst (λ (l : List Value). AwaitsCc r (l ++ units_in new.coming))
+        (sym (s.all (early_lasts r new.holding.end.carrier still)))
+        (joint_awaits (λ q. then_did (deeds q) (on.more q)) new then_h
+        (subst (λ (c : Course). IsOngoing c.traffic.course) (sym t.course) clear)
+        (subst (λ (c : Course). HaveSamePlaces c.traffic.connections c.sessions.live) (sym t.course) places) r some
+        (subst (λ (c : Course). TrackedJudged c.traffic.connections r) (sym t.course) tracked) still))
+        (subst (AllByRecursion IsNoZero) s.coming h.holds.zero)
+
+  -- no two connections have one reference
+  judged_tracked : (deeds : ℕ → Deeds) (j : Joint) → StandsInTwo Left local deeds j → (r i : ℕ) (c : Connection) (k : Joined) →
+      slice_get j.course.traffic.connections i ≡ Some c → slice_get j.course.sessions.live i ≡ Some k → c.is_judged ≡ true →
+      reference_of Left k ≡ Some r → Tracked j.course.traffic.connections r → TrackedJudged j.course.traffic.connections r
+  judged_tracked deeds j h r i c k there here judged named (p, e, at, tracked, same) =
+      let cs = j.course.traffic.connections in
+      let (l, here_too, one) = at_same cs j.course.sessions.live p e h.standing.all.places at in
+      let place : i ≡ p = h.distinct.live i p k l r here here_too named (ap (λ (m : ℕ). Some m) (one.calling ∙ same)) in
+      grind arith
+
+  judged_or : (deeds : ℕ → Deeds) (j : Joint) → StandsInTwo Left local deeds j → (r : ℕ) →
+      IsOfOne Left r j.course.traffic j.course.sessions →
+      Tracked j.course.traffic.connections r ⊎ (waiting_for (Some r) (units_in j.coming) ≡ []) →
+      TrackedJudged j.course.traffic.connections r ⊎ (waiting_for (Some r) (units_in j.coming) ≡ [])
+  judged_or deeds j h r one (inr none) = inr none
+  judged_or deeds j h r (of_live i c k there here judged named) (inl tracked) =
+      inl (judged_tracked deeds j h r i c k there here judged named tracked)
+  judged_or deeds j h r (of_done i k here named) (inl (p, e, at, tracked, same)) =
+      let (l, here_too, one) = at_same j.course.traffic.connections j.course.sessions.live p e h.standing.all.places at in
+      absurd (h.distinct.done p i l k r here_too here (ap (λ (m : ℕ). Some m) (one.calling ∙ same)) named)
+
+  -- If at each connection that may open the CC has passed, or nothing of what has come is for it; and if it has passed at each that the
+  -- other side has closed.
+  pub asks_turn : AllProper → (turn : Turn) (old new : Joint) (t : TakesTurn turn old new) (deeds : ℕ → Deeds)
+      (on : Continues true deeds old.holding turn new.holding) →
+      ((r : ℕ) → 0 < r → Life true r (stage_at r old.holding.end.carrier) on.took on.put (stage_at r new.holding.end.carrier)) →
+      t.units ≡ all_units on.put → AllByRecursion CanBeWritten (all_units on.put) →
+      AllByRecursion (IsMarked Left old.course.traffic old.course.sessions) on.put →
+      ((r : ℕ) → 0 < r → stage_at r old.holding.end.carrier ≡ early →
+      Tracked old.course.traffic.connections r ⊎ (waiting_for (Some r) (units_in old.coming) ≡ [])) →
+      ((i : ℕ) (c : Connection) → slice_get old.course.traffic.connections i ≡ Some c → is_closing c.right.phase ≡ true →
+      0 < c.left.reference → stage_at c.left.reference old.holding.end.carrier ≡ early →
+      Tracked old.course.traffic.connections c.left.reference) → IsOngoing old.course.traffic.course → StandsInTwo Left local deeds old →
+      StandsInTwo Left local (λ r. then_did (deeds r) (on.more r)) new
+  asks_turn proper turn old new t deeds on life units can marked quiet tracked clear h =
+      let places = h.standing.all.places in
+      let own = crs.turns_own local two proper turn old new t deeds on life places clear h.own in
+      let f = h.own.ahead.followed in
+      turns_with Left local two deeds turn old new t on units can marked
+      (λ r some one later sure.
+      either_takes true turn old new t deeds on r some (life r some)
+      (λ may.
+      first_so (λ is. tracked_ready turn old new t deeds on h.own own clear places r some (life r some) is may)
+      (judged_or deeds old h r one (quiet r some may))) later sure)
+      (turn_shut Left (may_take old.holding.end.carrier) (may_take new.holding.end.carrier) (units_in old.coming)
+      (units_in new.coming) old.course.traffic old.course.sessions
+      (λ i c j r there here judged closing named live.
+      let some = (h.own.ahead.below.live i j r here named).0 in
+      let one = one_at old.course.traffic.connections old.course.sessions.live i c j places there here in
+      let same : c.left.reference ≡ r = number_is c.left.reference r (ap (λ (n : ℕ). Some n) (sym one.calling) ∙ named) in (
+        was_live true turn old new t deeds on r some (life r some) live,
+        dr_stays true turn old new t deeds on r some (life r some)
+            (λ may.
+            tracked_ready turn old new t deeds on h.own own clear places r some (life r some)
+            (judged_tracked deeds old h r i c j there here judged named
+            (subst (λ (n : ℕ). 0 < n → stage_at n old.holding.end.carrier ≡ early → Tracked old.course.traffic.connections n) same
+            (tracked i c there closing) some may)) may) live,
+      )) h.shut)
+      (λ begun. none_written old.put f.whole.put (sym f.put) ((whole_followed local two old f clear).some (f.begun ∙ begun))) clear h own
+
+-- ---- a turn of an end that is called
+
+-- If none of the CCs that wait then selects class 0: nothing is for a connection that the end has not answered.
+pub answers_turn : (local : Local) → AllProper → (turn : Turn) (old new : Joint) (t : TakesTurn turn old new) (deeds : ℕ → Deeds)
+    (on : Continues false deeds old.holding turn new.holding) →
+    ((r : ℕ) → 0 < r → Life false r (stage_at r old.holding.end.carrier) on.took on.put (stage_at r new.holding.end.carrier)) →
+    t.units ≡ all_units on.put → AllByRecursion CanBeWritten (all_units on.put) → AllByRecursion AnswersTwo new.put →
+    IsOngoing old.course.traffic.course → StandsInTwo Right local deeds old →
+    StandsInTwo Right local (λ r. then_did (deeds r) (on.more r)) new
+answers_turn local proper turn old new t deeds on life units can two clear h =
+    let a = h.standing.all in
+    let f = h.own.ahead.followed in
+    let b = h.own.ahead.bound in
+    let lines = has_lines local old f h.can h.own.holds.two clear in
+    let then_can : AllByRecursion CanBeWritten new.put =
+    subst (AllByRecursion CanBeWritten) (sym (t.put ∙ ap (λ (l : List Value). old.put ++ l) units))
+    (can_more old.put (all_units on.put) h.can can) in
+    let marked = turn_homed local proper turn old new t deeds on life units h.can then_can a.places clear h.own two in
+    turns_with Right local tt deeds turn old new t on units can marked
+    (λ r some one later sure.
+    either_takes false turn old new t deeds on r some (life r some)
+    (λ may. inr (none_waits b r (units_in old.coming) (early_above local deeds old h.own h.can clear r some may)
+    h.own.holds.below)) later sure)
+    (turn_shut Right (may_take old.holding.end.carrier) (may_take new.holding.end.carrier) (units_in old.coming)
+    (units_in new.coming) old.course.traffic old.course.sessions
+    (λ i c j r there here judged closing named live.
+    let up = h.own.ahead.below.live i j r here named in (
+      was_live false turn old new t deeds on r up.0 (life r up.0) live,
+      dr_stays false turn old new t deeds on r up.0 (life r up.0)
+          (λ may.
+          let over = early_above local deeds old h.own h.can clear r up.0 may in
+          let low = up.1 in absurd (omega (arith, low, over))) live,
+    )) h.shut)
+    (grind (arith, none_written)) clear h
+    (ccs.turns_own local proper turn old new t deeds on life units h.can then_can a.places clear h.own two)

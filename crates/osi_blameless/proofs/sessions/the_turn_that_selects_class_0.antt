@@ -1,0 +1,169 @@
+-- The turn in which a called end selects class 0: it puts its CC first, and opens one connection with it. Before that nothing waits, and no
+-- connection is open. For the session of the connection of an end in class 0.
+use Rattle.osi_blameless.proofs.Vocabulary.{◌≡◌, ◌∙◌, refl, sym, ap, subst, ℕ, ◌<◌, Bool, true, false, List, [], ◌∷◌}
+use Rattle.osi_blameless.proofs.Vocabulary.{◌++◌, map, Some, None, arith, AllByRecursion, Connect, Value, confirm, written, Zero, Local}
+use Rattle.osi_blameless.proofs.Vocabulary.{acceptance, Right, State, Selecting, IsClear, IsFirm, Continues, Deeds, then_did, units_in}
+use Rattle.osi_blameless.proofs.Vocabulary.{all_units, Turn, AllProper, Life, amid, stage_at, all_units_more, CanBeWritten, Sessions, Joint}
+use Rattle.osi_blameless.proofs.Vocabulary.{TakesTurn, parts_of, going_on}
+use Rattle.osi_carrier.specs.State.{State as Carrier}
+use Rattle.osi_blameless.proofs.steps_are_events.{IsFollowed}
+use Rattle.osi_blameless.proofs.small_facts_that_many_lemmas_use.{can_more as all_more, none_some}
+use Rattle.osi_blameless.proofs.what_is_put_is_what_is_written.{none_written}
+use Rattle.osi_blameless.proofs.sessions.an_end_is_ready_for_each_cc_that_passes.{waits_above}
+use Rattle.osi_blameless.proofs.sessions.a_called_end_of_class_2_has_its_lines.{has_lines}
+use Rattle.osi_blameless.proofs.sessions.a_turn_after_which_a_cc_of_class_0_waits.{dts_after, no_cc_taken, turns_waiting}
+use Rattle.osi_blameless.proofs.sessions.a_turn_of_an_end_in_class_0.{cc_not_dt}
+use Rattle.osi_blameless.proofs.sessions.all_connections_stand.{AllStand}
+use Rattle.osi_blameless.proofs.sessions.an_end_answers_with_class_0.{StandsAnswering, first}
+use Rattle.osi_blameless.proofs.sessions.an_end_stands_as_units_pass.{StandsInTwo, known_at}
+use Rattle.osi_blameless.proofs.sessions.an_end_stands_before_a_class_is_selected.{StandInNone}
+use Rattle.osi_blameless.proofs.sessions.an_end_stands_in_class_0.{known_in}
+use Rattle.osi_blameless.proofs.sessions.each_reference_of_an_end_is_new.{GoesOn, turns_ahead}
+use Rattle.osi_blameless.proofs.sessions.each_step_leaves_class_0_one_connection.{Sure}
+use Rattle.osi_blameless.proofs.sessions.each_unit_of_a_calling_end_has_a_home.{IsWrittenAs}
+use Rattle.osi_blameless.proofs.sessions.no_connection_is_opened_before_a_class_is_selected.{AreUncalled}
+use Rattle.osi_blameless.proofs.sessions.units_of_class_0_come_after_its_cc.{IsQuiet}
+use Rattle.osi_blameless.proofs.sessions.units_written_alike_have_the_same_ccs.{AnswersTwo, AreAlike, HasCc, first_not_zero, has_alike}
+use Rattle.osi_blameless.proofs.sessions.what_a_turn_puts_at_the_connections_that_are_open.{WasOpen, open_before, puts_cc, takes_cc}
+use Rattle.osi_blameless.proofs.sessions.what_a_turn_puts_goes_to_its_peer.{all_so, one_of}
+use Rattle.osi_blameless.proofs.sessions.what_is_in_flight_to_an_end.{parts_taken}
+use Rattle.osi_blameless.proofs.sessions.what_stands_of_a_connection.{Known, waiting_for}
+use Rattle.osi_blameless.proofs.sessions.what_the_stage_of_a_whole_end_says.{IsDt0}
+
+-- ---- connections without a reference of the end
+
+module _ (deeds : ℕ → Deeds) (known then_known : Known) (put : List Value) (b : Bool) where
+  -- they stand whatever is known of what is in flight
+  all_unnamed : (s : State) (t : Sessions) → AreUncalled t → AllStand Right deeds known put b s t →
+      AllStand Right deeds then_known put b s t
+  all_unnamed s t none a = search arith
+
+-- It has selected no class, or its CC of class 2 waits: each connection that it has open has a CC that waits.
+pub record StandsUnselected (local : Local) (deeds : ℕ → Deeds) (j : Joint) : Type 0 where
+  pub stands : StandsInTwo Right local deeds j
+  pub sure : Sure j.course
+  pub class : j.course.traffic.course.class ≡ None
+  pub quiet : AllByRecursion IsQuiet (units_in j.coming)
+  pub uncalled : AreUncalled j.course.sessions
+  pub shut : (q peer : ℕ) → 0 < q → stage_at q j.holding.end.carrier ≡ amid peer → (n : ℕ) × HasCc n q j.put
+
+pub unselected_so : (local : Local) (deeds : ℕ → Deeds) (j : Joint) → StandsUnselected local deeds j →
+    StandInNone Right deeds j
+unselected_so local deeds j h = record {
+  sure = h.sure;
+  class = h.class;
+  all = all_unnamed deeds (known_at j) (known_in j.holding.end.carrier (units_in j.coming)) j.put j.begun j.course.traffic j.course.sessions
+      h.uncalled h.stands.standing.all;
+  quiet = h.quiet;
+  new = h.uncalled;
+}
+
+-- ---- the first unit that waits is the CC
+
+record StartsWithCc (r : ℕ) (put : List Value) : Type 0 where
+  n : ℕ
+  x : Connect
+  rest : List Value
+  is : put ≡ confirm n x ∷ rest
+  source : x.source ≡ r
+  not_two : x.class ≡ 2 → ⊥
+
+starts_with_cc : (m : ℕ) (y : Connect) (us put : List Value) → AreAlike (confirm m y ∷ us) put → y.class ≡ 0 → StartsWithCc y.source put
+starts_with_cc m y us [] a zero_is = absurd (let same = a.same in cc)
+starts_with_cc m y us (v ∷ put) a zero_is = grind (arith, has_alike)
+
+-- nothing waits before it
+none_two : (m : ℕ) (y : Connect) (us old more : List Value) → AreAlike (confirm m y ∷ us) (old ++ more) → y.class ≡ 0 →
+    AllByRecursion AnswersTwo old → old ≡ []
+none_two m y us [] more a zero_is two = refl
+none_two m y us (v ∷ old) more a zero_is two = grind (arith, first_not_zero)
+
+-- ---- the turn
+
+abbrev IsFor : ℕ → Value → Type 0
+IsFor r v = (m : ℕ) (y : Connect) → v ≡ confirm m y → y.source ≡ r
+
+same_cc : (n m : ℕ) (x y : Connect) → confirm n x ≡ confirm m y → y.source ≡ x.source
+same_cc n m x y e = cc
+
+module _ (local : Local) (proper : AllProper) (turn : Turn) (old new : Joint) (t : TakesTurn turn old new) (deeds : ℕ → Deeds)
+    (on : Continues false deeds old.holding turn new.holding)
+    (life : (r : ℕ) → 0 < r → Life false r (stage_at r old.holding.end.carrier) on.took on.put (stage_at r new.holding.end.carrier))
+    (units : t.units ≡ all_units on.put) (sure : IsFirm old.course.traffic.course) (all : StandsUnselected local deeds old) where
+  abbrev h : StandsInTwo Right local deeds old
+  h = all.stands
+
+  abbrev end : Carrier
+  end = old.holding.end.carrier
+
+  abbrev pub ahead : GoesOn Right (first local) h.own.ahead.bound new
+  ahead = turns_ahead Right (first local) proper turn old new t h.own.ahead
+
+  abbrev f : IsFollowed Right (first local) new
+  f = ahead.ahead.followed
+
+  pub then_can : AllByRecursion CanBeWritten new.put
+  then_can = grind (arith, all_more)
+
+  clear : IsClear old.course.traffic.course
+  clear = record { sure = sure; two = λ zero_is. none_some old.course.traffic.course.class Zero all.class zero_is }
+
+  module _ (z : Selecting local f.whole) where
+    alike : AreAlike (confirm z.x.source (acceptance Zero z.size z.x local z.r) ∷ z.more) new.put
+    alike = record {
+      same = ap (λ (l : List Value). map written l) (sym z.put) ∙ f.put;
+      can = subst (AllByRecursion CanBeWritten) z.put f.can;
+      can_too = then_can;
+    }
+
+    abbrev answer : Connect
+    answer = acceptance Zero z.size z.x local z.r
+
+    starts : StartsWithCc answer.source new.put
+    starts = starts_with_cc z.x.source answer z.more new.put alike refl
+
+    abbrev x : Connect
+    x = starts.x
+
+    empty : old.put ≡ []
+    empty =
+        none_two z.x.source answer z.more old.put t.units (subst (AreAlike (confirm z.x.source answer ∷ z.more)) t.put alike) refl
+        h.own.holds.two
+
+    all_put : all_units on.put ≡ confirm starts.n x ∷ starts.rest
+    all_put = sym units ∙ ap (λ (l : List Value). l ++ t.units) (sym empty) ∙ sym t.put ∙ starts.is
+
+    less : h.own.ahead.bound < x.source
+    less = search (arith, waits_above, first, then_can, starts)
+
+    dts : AllByRecursion (IsWrittenAs IsDt0) starts.rest
+    dts = dts_after local new f starts.n x starts.rest starts.is z
+
+    all_for : AllByRecursion (IsFor x.source) (all_units on.put)
+    all_for =
+        subst (AllByRecursion (IsFor x.source)) (sym all_put) (
+          (λ m y is. same_cc starts.n m x y is),
+          all_so (IsWrittenAs IsDt0) (IsFor x.source) (λ v w m y is. cc_not_dt m y (subst (IsWrittenAs IsDt0) is w)) starts.rest dts,
+        )
+
+    is_x : (q : ℕ) → 0 < q → WasOpen false q (stage_at q end) on.took on.put → q ≡ x.source
+    is_x q more (open_before peer is) = (let (n, has) = all.shut q peer more is in absurd (subst (HasCc n q) empty has))
+    is_x q more (puts_cc called m y front later source is) =
+        sym source
+        ∙ one_of (IsFor x.source) (all_units front) (all_units later) (confirm m y)
+        (grind (arith, all_units_more, all_for)) m y refl
+    is_x q more (takes_cc may y front later is) =
+        no_cc_taken local proper turn old new t deeds on life units q q y front later all.quiet may is
+
+    some : old.begun ≡ true → old.put ≡ [] → ⊥
+    some begun =
+        let g = h.own.ahead.followed in
+        let lines = has_lines local old g h.can h.own.holds.two (going_on old.course.traffic.course clear) in
+        none_written old.put g.whole.put (sym g.put) (λ none. lines.called.some (g.begun ∙ begun) (sym lines.called.put ∙ none))
+
+    pub turns_selecting : StandsAnswering local (λ r. then_did (deeds r) (on.more r)) new
+    turns_selecting =
+        turns_waiting local proper turn old new t deeds on life units ahead.ahead then_can starts.n x starts.rest starts.is starts.not_two
+        (grind (arith, less)) (unselected_so local deeds old all) some
+        ((grind (arith, less, empty)) ∙ ap (waiting_for (Some starts.n)) (sym empty))
+        (parts_taken (deeds x.source).calls ∙ ap parts_of (h.own.holds.unheard x.source less)) dts is_x
