@@ -140,6 +140,7 @@ pub use Rattle.osi_honest.proofs.ends.what_a_session_answers_fits.{all_proper}
 pub use Rattle.osi_honest.proofs.ends.what_a_session_sends_fits.{AllProper}
 pub use Rattle.osi_honest.proofs.ends.what_class_0_does_not_take_ends_the_end.{AreHard, IsHard, IsHardPacket, IsLast, IsZeroAt, hard_ends}
 pub use Rattle.osi_honest.proofs.keeping.what_holds_of_each_connection_stays.{row_at, row_more, row_put, row_without}
+pub use Rattle.osi_honest.proofs.reading.a_written_form_is_of_one_unit.{packets_once}
 pub use Rattle.osi_honest.proofs.reading.a_cr_and_a_cc_can_be_written.{cc_plain, cr_by, size_in_range}
 pub use Rattle.osi_honest.proofs.reading.how_much_of_a_piece_is_used.{all_octets, more_used, stopped_within}
 pub use Rattle.osi_honest.proofs.reading.two_readings_of_a_stream_agree.{GoesBeyond, first, packets_on, packets_then, front_of as part_of}

@@ -3,12 +3,13 @@
 use Rattle.osi_blameless.proofs.Vocabulary.{false, refl, subst, sym, AllByRecursion, Zero, Local, acceptance, Traffic, CanBeWritten, lines}
 use Rattle.osi_blameless.proofs.Vocabulary.{selected, selecting, Called, IsCalled, NamesApart as AreApart, IsOngoing, Whole, Joint, arith}
 use Rattle.osi_blameless.proofs.Vocabulary.{Stage, AreNamedApart}
+use Rattle.osi_blameless.proofs.Vocabulary.{◌∙◌}
 use Rattle.osi_side.specs.declared.directions.Direction.TheVariants as side
 use Rattle.osi_rules.specs.declared.directions.Direction.TheVariants as way
 use Rattle.osi_fair.specs.Wholes.{begin}
 use Rattle.osi_blameless.proofs.steps_are_events.{IsFollowed}
 use Rattle.osi_blameless.proofs.sessions.a_called_end_has_its_lines.{called_joined}
-use Rattle.osi_blameless.proofs.sessions.units_written_alike_have_the_same_ccs.{AnswersTwo, AreAlike, first_not_zero}
+use Rattle.osi_blameless.proofs.sessions.ccs_among_units.{AnswersTwo, first_not_zero}
 
 -- with what keeps references apart at the judge
 pub record HasLines (local : Local) (w : Whole) : Type 0 where
@@ -25,9 +26,7 @@ module _ (local : Local) (j : Joint) (f : IsFollowed side.Right (begin false loc
   by_stage : Stage local f.whole → HasLines local f.whole
   by_stage (lines h c named) = grind (arith, called_joined local j f)
   by_stage (selecting z) =
-      let alike : AreAlike f.whole.put j.put = record { same = f.put; can = f.can; can_too = can } in
-      first_not_zero z.x.source (acceptance Zero z.size z.x local z.r) z.more j.put
-      (subst (λ l. AreAlike l j.put) z.put alike) refl two
+      first_not_zero z.x.source (acceptance Zero z.size z.x local z.r) z.more j.put (sym z.put ∙ f.put) refl two
   by_stage (selected z) = absurd (judge_clear.two z.class)
 
   pub has_lines : HasLines local f.whole

@@ -1,12 +1,12 @@
 -- What a called end of class 2 has put and what has not passed has no DT of class 0.
 -- For the units that a called end puts.
-use Rattle.osi_blameless.proofs.Vocabulary.{[], ap, append_assoc, false, List, map, None, Ok, Option, refl, Some, subst, sym, ℕ, ◌&&◌, ◌++◌}
-use Rattle.osi_blameless.proofs.Vocabulary.{◌∙◌, ◌∷◌, ◌≡◌, AllByRecursion, slice_get, acknowledge, data0, data2, disconnected, Value}
-use Rattle.osi_blameless.proofs.Vocabulary.{written, Flow, ack, part0, part2, Standing, give_out, hand_in, hand_out, Move, Moves, take_in}
-use Rattle.osi_blameless.proofs.Vocabulary.{Local, Connection, Way as Direction, Continues, Deeds, all_units, Turn, answering, AreStrays}
-use Rattle.osi_blameless.proofs.Vocabulary.{Called, refuses, runs, Stand, StrayIf, at_first, at_join, first_at, Placed, values, gives_so}
-use Rattle.osi_blameless.proofs.Vocabulary.{takes_so, Act, Acts, ActsAlong, begins_elsewhere, ignores, Line, moves, units_put, Whole, Joint}
-use Rattle.osi_blameless.proofs.Vocabulary.{TakesTurn, comes, arith}
+use Rattle.osi_blameless.proofs.Vocabulary.{[], ap, append_assoc, false, List, None, Ok, Option, refl, Some, subst, sym, ℕ, ◌&&◌, ◌++◌, ◌∙◌}
+use Rattle.osi_blameless.proofs.Vocabulary.{◌∷◌, ◌≡◌, AllByRecursion, slice_get, acknowledge, data0, data2, disconnected, Value, Flow, ack}
+use Rattle.osi_blameless.proofs.Vocabulary.{part0, part2, Standing, give_out, hand_in, hand_out, Move, Moves, take_in, Local, Connection}
+use Rattle.osi_blameless.proofs.Vocabulary.{Way as Direction, Continues, Deeds, all_units, Turn, answering, AreStrays, Called, refuses}
+use Rattle.osi_blameless.proofs.Vocabulary.{runs, Stand, StrayIf, at_first, at_join, first_at, Placed, values, gives_so, takes_so, Act}
+use Rattle.osi_blameless.proofs.Vocabulary.{Acts, ActsAlong, begins_elsewhere, ignores, Line, moves, units_put, Whole, Joint, TakesTurn}
+use Rattle.osi_blameless.proofs.Vocabulary.{comes, arith}
 use Rattle.osi_class.specs.Link.{taken}
 use Rattle.osi_rules.specs.declared.directions.Direction.TheVariants.{Right}
 use Rattle.osi_fair.specs.Lines.{answers, begins_other, begins_own, closes, passes_other, passes_own}
@@ -15,8 +15,6 @@ use Rattle.osi_side.specs.declared.directions.Direction.TheVariants as side
 use Rattle.osi_fair.specs.Wholes.{begin}
 use Rattle.osi_blameless.proofs.small_facts_that_many_lemmas_use.{all_join as all_of_both}
 use Rattle.osi_blameless.proofs.steps_are_events.{IsFollowed}
-use Rattle.osi_blameless.proofs.what_is_put_is_what_is_written.{same_written, written_join}
-use Rattle.osi_blameless.proofs.sessions.each_unit_of_a_calling_end_has_a_home.{IsWrittenAs, first, not_two, written_as}
 use Rattle.osi_blameless.proofs.sessions.what_a_turn_puts_goes_to_its_peer.{IsNotZero, all_back, all_so, one_of}
 use Rattle.osi_fair.proofs.each_connection_of_a_called_end.{past}
 
@@ -117,15 +115,10 @@ module _ (local : Local) (w : Whole) (f : Called local w) where
 
 -- ---- what it puts in a turn, if it has its lines after it
 
-written_two : (u v : Value) → IsNotZero u → written u ≡ written v → IsNotZero v
-written_two u v h same end user is = grind (arith, not_two, first)
-
 pub called_turn_two : (local : Local) (deeds : ℕ → Deeds) (turn : Turn) (old new : Joint) (step : TakesTurn turn old new)
-    (on : Continues false deeds old.holding turn new.holding) (g : IsFollowed side.Right (begin false local) new) → Called local g.whole →
-    AllByRecursion IsNotZero (all_units on.put)
-called_turn_two local deeds turn old new step on g lines =
-    let same : map written step.units ≡ map written (all_units on.put) =
-    same_written step.units (all_units on.put) (sym step.written ∙ on.written) in
-    let alike : map written g.whole.put ≡ map written (old.put ++ all_units on.put) = grind (arith, written_join) in
-    all_so (IsWrittenAs IsNotZero) IsNotZero (λ v x. written_two x.u v x.so x.same) (all_units on.put)
-    (grind (arith, all_back, written_as, called_put_two local g.whole lines))
+    (on : Continues false deeds old.holding turn new.holding) (g : IsFollowed side.Right (begin false local) new) →
+    step.units ≡ all_units on.put → Called local g.whole → AllByRecursion IsNotZero (all_units on.put)
+called_turn_two local deeds turn old new step on g units lines =
+    let put : g.whole.put ≡ old.put ++ all_units on.put =
+    g.put ∙ step.put ∙ ap (λ (l : List Value). old.put ++ l) units in
+    grind (arith, all_back, called_put_two local g.whole lines)

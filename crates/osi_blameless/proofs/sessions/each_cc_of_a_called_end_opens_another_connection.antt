@@ -19,7 +19,7 @@ use Rattle.osi_blameless.proofs.sessions.connections_have_the_same_places.{at_sa
 use Rattle.osi_blameless.proofs.sessions.each_unit_of_a_called_end_has_a_home.{named_open, not_empty, only_one, row_peer, same_number}
 use Rattle.osi_blameless.proofs.sessions.each_unit_of_a_called_end_has_a_home.{used_asked}
 use Rattle.osi_blameless.proofs.sessions.each_unit_of_a_turn_has_one_connection.{HasHome}
-use Rattle.osi_blameless.proofs.sessions.units_written_alike_have_the_same_ccs.{AnswersTwo, AreOrdered, HasCc, IsCc, has_back}
+use Rattle.osi_blameless.proofs.sessions.ccs_among_units.{AnswersTwo, AreOrdered, HasCc, IsCc, has_back}
 use Rattle.osi_blameless.proofs.sessions.what_a_turn_puts_goes_to_its_peer.{IsNotZero, all_so, one_of}
 use Rattle.osi_blameless.proofs.sessions.what_stands_of_a_connection.{is_for}
 

@@ -1,22 +1,21 @@
 -- Each DT and each AK that a calling end puts in a turn is for a connection that the judge knows by its references and that this end has
 -- not closed there; each other unit is for none.
 -- For all connections of an end and a judge.
-use Rattle.osi_blameless.proofs.Vocabulary.{[], ap, append_assoc, arith, Bool, false, is_some, List, map, None, Option, refl, Some, subst}
-use Rattle.osi_blameless.proofs.Vocabulary.{suc, sym, true, ℕ, ◌++◌, ◌<◌, ◌==◌, ◌∙◌, ◌∷◌, ◌≡◌, eq-eqb, AllByRecursion, slice_get, confirm}
-use Rattle.osi_blameless.proofs.Vocabulary.{Connect, data0, disconnect, request, Value, written, Standing, Local, value_at, closing, Live}
-use Rattle.osi_blameless.proofs.Vocabulary.{linked, Carrier, has_given, Traffic as State, Connection, Left, amid, early, Life, opens_by}
-use Rattle.osi_blameless.proofs.Vocabulary.{past, Time as Stage, stage_at, stays, all_units_more, Opens, Continues, Deeds, all_units}
-use Rattle.osi_blameless.proofs.Vocabulary.{Marked, Turn, Sessions, Followed, is_tracked, IsOwned, Row, Tracked, each_picked, first_kept}
-use Rattle.osi_blameless.proofs.Vocabulary.{is_dc, IsDc, IsOngoing, names, those, those_join, Line, Whole, Joint, TakesTurn, HaveSamePlaces}
-use Rattle.osi_blameless.proofs.Vocabulary.{AreGiven, AreApart, BeforeOpen, WhileOpen, stage_by, Awaiting, FirstOf, HasNoCc, asked_so, goes}
-use Rattle.osi_blameless.proofs.Vocabulary.{le-leb, lt-ltb, awaits}
+use Rattle.osi_blameless.proofs.Vocabulary.{[], ap, append_assoc, arith, Bool, false, is_some, List, None, Option, refl, Some, subst, sym}
+use Rattle.osi_blameless.proofs.Vocabulary.{true, ℕ, ◌++◌, ◌<◌, ◌==◌, ◌∙◌, ◌∷◌, ◌≡◌, eq-eqb, AllByRecursion, slice_get, confirm, Connect}
+use Rattle.osi_blameless.proofs.Vocabulary.{data0, disconnect, request, Value, Standing, Local, value_at, closing, Live, linked, Carrier}
+use Rattle.osi_blameless.proofs.Vocabulary.{has_given, Traffic as State, Connection, Left, amid, early, Life, opens_by, past, Time as Stage}
+use Rattle.osi_blameless.proofs.Vocabulary.{stage_at, stays, all_units_more, Opens, Continues, Deeds, all_units, Marked, Turn, Sessions}
+use Rattle.osi_blameless.proofs.Vocabulary.{Followed, is_tracked, IsOwned, Row, Tracked, each_picked, first_kept, is_dc, IsDc, IsOngoing}
+use Rattle.osi_blameless.proofs.Vocabulary.{names, those, those_join, Line, Whole, Joint, TakesTurn, HaveSamePlaces, AreGiven, AreApart}
+use Rattle.osi_blameless.proofs.Vocabulary.{BeforeOpen, WhileOpen, stage_by, Awaiting, FirstOf, HasNoCc, asked_so, goes, le-leb, lt-ltb}
+use Rattle.osi_blameless.proofs.Vocabulary.{awaits}
 use Rattle.osi_carrier.specs.State.{asked}
 use Rattle.osi_fair.specs.Wholes.{begin}
 use Rattle.osi_honest.proofs.courses.the_first_cc_opens_a_connection.{opens_so}
 use Rattle.osi_judge.specs.Courses.{Course as Passed}
 use Rattle.osi_blameless.proofs.small_facts_that_many_lemmas_use.{and_both, over_not, all_join as all_of_both}
 use Rattle.osi_blameless.proofs.steps_are_events.{IsFollowed}
-use Rattle.osi_blameless.proofs.what_is_put_is_what_is_written.{same_written, written_join}
 use Rattle.osi_blameless.proofs.sessions.a_turn_does_what_its_deeds_say.{turn_uses}
 use Rattle.osi_blameless.proofs.sessions.a_whole_end_runs_along.{whole_followed}
 use Rattle.osi_blameless.proofs.sessions.connections_have_the_same_places.{at_same}
@@ -91,34 +90,9 @@ module _ (local : Local) (w : Whole) (t : Sessions) (f : Followed local w) (plac
       let same : x ≡ h.x = grind (arith, first_cc, those, those_first, all_so, dc_not_cc) in
       grind (arith, home_of w.judge t places p c at so)
 
--- ---- no DT of class 0 is put
-
-abbrev pub first : List ℕ → ℕ
-first [] = 0
-first (n ∷ ns) = n
-
--- it has another length
-pub not_two : (x : ℕ) → suc (suc (suc x)) ≡ 2 → ⊥
-not_two x e = omega (arith, e)
-
-not_data0 : (end : Bool) (user : List ℕ) (s : State) (u : Value) → IsOwned s u → written u ≡ written (data0 end user) → ⊥
-not_data0 end user s u h e = grind (arith, not_two)
-
--- a unit is written as one of these
-pub record IsWrittenAs (P : Value → Type 0) (v : Value) : Type 0 where
-  pub u : Value
-  pub so : P u
-  pub same : written u ≡ written v
-
-pub written_as : (P : Value → Type 0) (us vs : List Value) → map written us ≡ map written vs → AllByRecursion P us →
-    AllByRecursion (IsWrittenAs P) vs
-written_as P [] [] e h = tt
-written_as P [] (v ∷ vs) e h = absurd (cc)
-written_as P (u ∷ us) [] e h = absurd (cc)
-written_as P (u ∷ us) (v ∷ vs) e h =
-    let one : written u ≡ written v = cc in
-    let more : map written us ≡ map written vs = cc in
-    (record { u = u; so = h.0; same = one }, written_as P us vs more h.1)
+-- no DT of class 0 is owned
+not_data0 : (s : State) (u : Value) → IsOwned s u → (end : Bool) (user : List ℕ) → u ≡ data0 end user → ⊥
+not_data0 s u h end user e = grind arith
 
 -- ---- a turn
 
@@ -136,7 +110,7 @@ linked_by false given (Some (linked q link)) peer is =
     amid_same m n e = cc
 
 module _ (local : Local) (two : local.class2 ≡ true) (deeds : ℕ → Deeds) (turn : Turn) (old new : Joint) (step : TakesTurn turn old new)
-    (on : Continues true deeds old.holding turn new.holding)
+    (on : Continues true deeds old.holding turn new.holding) (units : step.units ≡ all_units on.put)
     (life : (r : ℕ) → 0 < r → Life true r (stage_at r old.holding.end.carrier) on.took on.put (stage_at r new.holding.end.carrier))
     (opening : (r : ℕ) → 0 < r → FirstOf true r old.holding.end.carrier on.took on.put new.holding.end.carrier)
     (f : IsFollowed Left (begin true local) old)
@@ -160,17 +134,13 @@ module _ (local : Local) (two : local.class2 ≡ true) (deeds : ℕ → Deeds) (
   places_so : HaveSamePlaces f.whole.judge.connections t.live
   places_so = subst (λ (x : State). HaveSamePlaces x.connections t.live) (sym f.judge) places
 
-  -- each unit is written as one that is owned
-  abbrev IsOwnedSo : Value → Type 0
-  IsOwnedSo v = IsWrittenAs (IsOwned g.whole.judge) v
-
-  owned_units : AllByRecursion IsOwnedSo (all_units on.put)
+  -- each unit is owned
+  owned_units : AllByRecursion (IsOwned g.whole.judge) (all_units on.put)
   owned_units =
       let all = (whole_followed local two new g (subst (λ (c : Passed). IsOngoing c.traffic.course) (sym step.course) clear)).owned in
-      let same : map written step.units ≡ map written (all_units on.put) =
-      same_written step.units (all_units on.put) (sym step.written ∙ on.written) in
-      let alike : map written g.whole.put ≡ map written (old.put ++ all_units on.put) = grind (arith, written_join) in
-      grind (arith, all_back, written_as (IsOwned g.whole.judge) g.whole.put (old.put ++ all_units on.put) alike all)
+      let put : g.whole.put ≡ old.put ++ all_units on.put =
+      g.put ∙ step.put ∙ ap (λ (l : List Value). old.put ++ l) units in
+      grind (arith, all_back)
 
   -- ---- the connection that a unit is put for
 
