@@ -9,7 +9,7 @@ use Rattle.osi_blameless.proofs.Vocabulary.{stage_at, subst, sym, then_did, true
 use Rattle.osi_judge.specs.Courses.{Course as Passed}
 use Rattle.osi_blameless.proofs.sessions.an_end_is_ready_for_each_cc_that_passes as ccs
 use Rattle.osi_blameless.proofs.sessions.an_end_is_ready_for_each_cr_that_passes as crs
-use Rattle.osi_blameless.proofs.sessions.a_called_end_of_class_2_has_its_lines.{has_lines}
+use Rattle.osi_blameless.proofs.sessions.a_whole_end_runs_along.{has_lines}
 use Rattle.osi_blameless.proofs.sessions.a_calling_end_takes_nothing_before_its_cc.{AwaitsCc, TrackedJudged, awaits_cc, calm_turn}
 use Rattle.osi_blameless.proofs.sessions.a_turn_does_what_its_deeds_say.{turn_uses}
 use Rattle.osi_blameless.proofs.sessions.a_turn_leaves_all_standing.{IsOfOne, Turns, of_done, of_live}
@@ -182,7 +182,7 @@ answers_turn local proper turn old new t deeds on life units can two clear h =
     let a = h.standing.all in
     let f = h.own.ahead.followed in
     let b = h.own.ahead.bound in
-    let lines = has_lines local old f h.can h.own.holds.two clear in
+    let lines = has_lines local old f clear h.can h.own.holds.two in
     let then_can : AllByRecursion CanBeWritten new.put =
     subst (AllByRecursion CanBeWritten) (sym (t.put ∙ ap (λ (l : List Value). old.put ++ l) units))
     (can_more old.put (all_units on.put) h.can can) in

@@ -18,7 +18,7 @@ use Rattle.osi_honest.proofs.courses.how_long_a_connection_is_open.{Stage}
 use Rattle.osi_blameless.proofs.a_carrier_does_events.{none_of}
 use Rattle.osi_blameless.proofs.small_facts_that_many_lemmas_use.{amid_not, early_lasts, given_so, past_not}
 use Rattle.osi_blameless.proofs.steps_are_events.{IsFollowed}
-use Rattle.osi_blameless.proofs.sessions.a_called_end_of_class_2_has_its_lines.{HasLines, has_lines}
+use Rattle.osi_blameless.proofs.sessions.a_whole_end_runs_along.{HasLines, has_lines}
 use Rattle.osi_blameless.proofs.sessions.a_called_end_of_class_2_puts_no_dt_of_class_0.{called_turn_two}
 use Rattle.osi_blameless.proofs.sessions.an_end_of_class_2_goes_on.{OwnInTwo}
 use Rattle.osi_blameless.proofs.sessions.a_turn_does_what_its_deeds_say.{turn_leaves, turn_uses}
@@ -105,7 +105,7 @@ module _ (local : Local) where
       let f = h.ahead.followed in
       let lasts = none_of f.whole.end.ended (sym f.like.over ∙ ap is_some (early_lasts r j.holding.end.carrier may)) in
       let there : stage_at r f.whole.end ≡ early = ap (stage_at r) (f.like.lasts lasts) ∙ may in
-      let given = early_not_given r f.whole.end lasts (has_lines local j f can h.holds.two clear).end.none there in
+      let given = early_not_given r f.whole.end lasts (has_lines local j f clear can h.holds.two).end.none there in
       grind (arith, above_given, above_up)
 
   -- a CC that waits is above all references at the judge
@@ -192,10 +192,10 @@ module _ (local : Local) where
     turn_put = t.put ∙ ap (λ (l : List Value). old.put ++ l) units
 
     before : HasLines local f.whole
-    before = has_lines local old f can h.holds.two clear
+    before = has_lines local old f clear can h.holds.two
 
     after : HasLines local g.ahead.followed.whole
-    after = has_lines local new g.ahead.followed can_new turn_two (grind arith)
+    after = has_lines local new g.ahead.followed (grind arith) can_new turn_two
 
     -- the reference of a CC that waits now
     above_old : (n r : ℕ) → HasCc n r new.put → h.ahead.bound < r
@@ -223,7 +223,7 @@ module _ (local : Local) where
     turn_ordered : AreOrdered new.put
     turn_ordered =
         subst AreOrdered g.ahead.followed.put
-        (put_ordered local g.ahead.followed.whole new.course.sessions after.called after.apart after.named (grind (arith, g)))
+        (put_ordered local g.ahead.followed.whole new.course.sessions after (grind (arith, g)))
 
     put_more : (n r : ℕ) → HasCc n r new.put → (on.more r).put ≡ waiting_for (Some n) (all_units on.put)
     put_more n r has = search (arith, puts_for, g, before, after, no_cc, home_low, above_old)
@@ -304,7 +304,7 @@ module _ (local : Local) where
       where
         by : (o : Option EndReason) → carrier.ended ≡ o → AllByRecursion (IsMarked Right old.course.traffic old.course.sessions) on.put
         by None lasts =
-            called_marked local deeds turn old new t on f clear.sure (grind (arith, none_of, no_zero, before)) places news
+            called_marked local deeds turn old new t on f before places news
             (called_turn_two local deeds turn old new t on g.ahead.followed units after.called) no_cc
         by (Some reason) gone =
             let done = over_acts turn old.holding new.holding (subst IsSome (sym gone) refl) t.takes in

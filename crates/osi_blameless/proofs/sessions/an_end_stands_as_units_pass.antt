@@ -21,7 +21,7 @@ use Rattle.osi_blameless.proofs.sessions.what_stands_of_a_connection.{Known}
 use Rattle.osi_blameless.proofs.sessions.what_passes_leaves_all_standing.{IsReady}
 use Rattle.osi_fair.specs.Wholes as wholes
 use Rattle.osi_blameless.proofs.small_facts_that_many_lemmas_use.{all_front, ranges_of}
-use Rattle.osi_blameless.proofs.sessions.a_called_end_of_class_2_has_its_lines.{has_lines}
+use Rattle.osi_blameless.proofs.sessions.a_whole_end_runs_along.{has_lines}
 use Rattle.osi_blameless.proofs.sessions.an_end_of_class_2_goes_on.{MayCome, OwnInTwo, two_first, two_other_begins, two_other_passes}
 use Rattle.osi_blameless.proofs.sessions.an_end_of_class_2_goes_on.{two_own_begins}
 use Rattle.osi_blameless.proofs.sessions.an_end_is_ready_for_each_cc_that_passes as ccs
@@ -163,7 +163,7 @@ pub used_apart : (d : Direction) (local : Local) → MayGetTwo d local → (deed
 used_apart Left local two deeds j clear h = peers_apart local two j h.own.ahead.followed clear
 used_apart Right local two deeds j clear h =
     let f = h.own.ahead.followed in
-    let lines = has_lines local j f h.can h.own.holds.two clear in
+    let lines = has_lines local j f clear h.can h.own.holds.two in
     subst (λ (s : State). AreUsedApart Right s.connections) f.judge (named_apart Right f.whole.judge.connections lines.apart lines.named)
 
 -- ---- a unit of the end passes

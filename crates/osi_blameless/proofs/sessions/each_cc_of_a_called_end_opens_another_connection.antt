@@ -6,8 +6,8 @@ use Rattle.osi_blameless.proofs.Vocabulary.{ℕ, ◌&&◌, ◌++◌, ◌∙◌, 
 use Rattle.osi_blameless.proofs.Vocabulary.{Connect, data2, disconnect, Value, Standing, Move, Two, Local, acceptance, opened_link}
 use Rattle.osi_blameless.proofs.Vocabulary.{value_at, linked, is_open, uses, Connection, Way as Direction, Sessions, Answering, answering}
 use Rattle.osi_blameless.proofs.Vocabulary.{AreStrays, Asked, Called, comes, line_of, refuses, runs, Stand, StrayIf, at_first, at_join}
-use Rattle.osi_blameless.proofs.Vocabulary.{first_at, is_at, Placed, values, NamesApart as AreApart, keep, Act, ActsAlong, Line}
-use Rattle.osi_blameless.proofs.Vocabulary.{opened_line, units_put, Whole, HaveSamePlaces, arith, AreNamedApart, each_sound, differ}
+use Rattle.osi_blameless.proofs.Vocabulary.{first_at, is_at, Placed, values, keep, Act, ActsAlong, Line}
+use Rattle.osi_blameless.proofs.Vocabulary.{opened_line, units_put, Whole, HaveSamePlaces, arith, each_sound, differ}
 use Rattle.osi_side.specs.declared.directions.Direction.TheVariants as side
 use Rattle.osi_rules.specs.declared.directions.Direction.TheVariants.{Left, Right}
 use Rattle.osi_fair.proofs.each_connection_of_a_called_end.{past}
@@ -15,6 +15,7 @@ use Rattle.osi_fair.proofs.units_by_their_place.{units_at}
 use Rattle.osi_blameless.proofs.small_facts_that_many_lemmas_use.{all_join as all_of_both}
 use Rattle.osi_blameless.proofs.sessions.a_called_end_of_class_2_puts_no_dt_of_class_0.{called_put_two}
 use Rattle.osi_blameless.proofs.sessions.a_right_dt_has_one_place.{still_used}
+use Rattle.osi_blameless.proofs.sessions.a_whole_end_runs_along.{HasLines}
 use Rattle.osi_blameless.proofs.sessions.connections_have_the_same_places.{at_same}
 use Rattle.osi_blameless.proofs.sessions.each_unit_of_a_called_end_has_a_home.{named_open, not_empty, only_one, row_peer, same_number}
 use Rattle.osi_blameless.proofs.sessions.each_unit_of_a_called_end_has_a_home.{used_asked}
@@ -84,8 +85,10 @@ item c e o h k = cc
 
 -- ---- the CCs that a called end has put
 
-module _ (local : Local) (w : Whole) (t : Sessions) (f : Called local w) (apart : AreApart w.judge.connections)
-    (named : AreNamedApart Left w.judge.connections) (places : HaveSamePlaces w.judge.connections t.live) where
+module _ (local : Local) (w : Whole) (t : Sessions) (lined : HasLines local w) (places : HaveSamePlaces w.judge.connections t.live) where
+  abbrev f : Called local w
+  f = lined.called
+
   abbrev StandsAt : ℕ → Connection → Type 0
   StandsAt p c = Stand local f.shut w.end w.coming (units_at p f.tagged) (units_at p f.came) (w.begun && first_at p f.tagged) (f.refs p) c
 
@@ -185,7 +188,7 @@ module _ (local : Local) (w : Whole) (t : Sessions) (f : Called local w) (apart 
 
   same_place : (n r q : ℕ) (ts us : List Placed) (k : CcAt n r ts) (l : CcAt n q us) → k.place ≡ l.place
   same_place n r q ts us k l =
-      named.used n k.place l.place k.c l.c k.at l.at (grind (arith, used_asked k.x k.c k.asked)) (grind (arith, used_asked l.x l.c l.asked))
+      lined.named.used n k.place l.place k.c l.c k.at l.at (grind (arith, used_asked k.x k.c k.asked)) (grind (arith, used_asked l.x l.c l.asked))
 
   pub same_destination : (n r q : ℕ) → HasCc n r w.put → HasCc n q w.put → r ≡ q
   same_destination n r q h i =
@@ -206,10 +209,10 @@ module _ (local : Local) (w : Whole) (t : Sessions) (f : Called local w) (apart 
       is_open e.right.phase ≡ true → e.left.reference ≡ n → A
   open_not n r ts k i e at lives is =
       let (j, here, one) = at_same w.judge.connections t.live i e places at in
-      let used = still_used side.Right n e j one (each_sound Left w.judge.connections apart named i e at) lives
+      let used = still_used side.Right n e j one (each_sound Left w.judge.connections lined.apart lined.named i e at) lives
       (ap (λ (m : ℕ). Some m) (one.calling ∙ is)) in
       let same : k.place ≡ i =
-      named.used n k.place i k.c e k.at at (grind (arith, used_asked)) used in
+      lined.named.used n k.place i k.c e k.at at (grind (arith, used_asked)) used in
       grind (arith, item, differ)
 
   pub none_open_for : (n r : ℕ) → HasCc n r w.put → (i : ℕ) (e : Connection) → slice_get w.judge.connections i ≡ Some e →
@@ -252,7 +255,7 @@ module _ (local : Local) (w : Whole) (t : Sessions) (f : Called local w) (apart 
           let peer : n ≡ h.x.source = to_peer n h.x.source v mine zero
           (one_of (IsTo h.x.source) zs (units_at p rest) v (subst (AllByRecursion (IsTo h.x.source)) (sym others) later)) in
           let same : p ≡ k.place =
-          named.used n p k.place c k.c at k.at
+          lined.named.used n p k.place c k.c at k.at
           (subst (λ (i : ℕ). uses Left i c ≡ true) (sym peer) (used_asked h.x c h.asked)) (grind (arith, used_asked k.x k.c k.asked)) in
           ordered_here n r p front rest v is mine k same
   ordered_by n r p c front rest v at is zero mine k (runs h none) =

@@ -3,12 +3,12 @@
 -- For all connections of an end and a judge.
 use Rattle.osi_blameless.proofs.Vocabulary.{[], ap, append_assoc, false, List, None, Option, refl, Some, subst, sym, true, ℕ, ◌&&◌, ◌++◌}
 use Rattle.osi_blameless.proofs.Vocabulary.{◌∙◌, ◌∷◌, ◌≡◌, AllByRecursion, slice_get, confirm, Connect, disconnect, request, Value}
-use Rattle.osi_blameless.proofs.Vocabulary.{Standing, Zero, Local, value_at, linked, Carrier, is_open, is_refused, uses, silent_half}
+use Rattle.osi_blameless.proofs.Vocabulary.{Standing, Local, value_at, linked, Carrier, is_open, is_refused, uses, silent_half}
 use Rattle.osi_blameless.proofs.Vocabulary.{Traffic as State, Connection, Phase, Left, Right, Answers, Begins, is_shut, Opens, opens}
 use Rattle.osi_blameless.proofs.Vocabulary.{Continues, Deeds, all_units, Marked, Turn, Joined, reference_of, Sessions, answering as answers}
 use Rattle.osi_blameless.proofs.Vocabulary.{Asked, Called, comes, refuses, runs, Stand, Untagged, at_first, at_join, first_at, Placed}
-use Rattle.osi_blameless.proofs.Vocabulary.{values, NamesApart, IsCalm, open_link, ◌<◌, Whole, Joint, TakesTurn, HaveSamePlaces, named_by}
-use Rattle.osi_blameless.proofs.Vocabulary.{arith, AreNamedApart, each_sound, AreApart, differ}
+use Rattle.osi_blameless.proofs.Vocabulary.{values, open_link, ◌<◌, Whole, Joint, TakesTurn, HaveSamePlaces, named_by}
+use Rattle.osi_blameless.proofs.Vocabulary.{arith, each_sound, AreApart, differ}
 use Rattle.osi_rules.specs.declared.directions.Direction.TheVariants as way
 use Rattle.osi_fair.specs.Wholes.{begin}
 use Rattle.osi_fair.proofs.each_connection_of_a_called_end.{Row, past}
@@ -16,7 +16,7 @@ use Rattle.osi_fair.proofs.units_by_their_place.{units_at}
 use Rattle.osi_honest.specs.Arriving.{is_open as opened}
 use Rattle.osi_blameless.proofs.small_facts_that_many_lemmas_use.{all_front, over_not, not_some}
 use Rattle.osi_blameless.proofs.steps_are_events.{IsFollowed}
-use Rattle.osi_blameless.proofs.sessions.a_called_end_has_its_lines.{HasCalled, called_joined, called_lines}
+use Rattle.osi_blameless.proofs.sessions.a_whole_end_runs_along.{HasLines}
 use Rattle.osi_blameless.proofs.sessions.a_right_dt_has_one_place.{still_used}
 use Rattle.osi_blameless.proofs.sessions.all_connections_stand.{one_at, there_too}
 use Rattle.osi_blameless.proofs.sessions.connections_have_the_same_places.{at_same}
@@ -63,9 +63,11 @@ pub not_empty : {A : Type 0} (xs ys : List Value) (v : Value) → xs ++ v ∷ ys
 not_empty [] ys v e = absurd (cc)
 not_empty (x ∷ xs) ys v e = absurd (cc)
 
-module _ (local : Local) (w : Whole) (t : Sessions) (f : Called local w) (apart : NamesApart w.judge.connections)
-    (named : AreNamedApart way.Left w.judge.connections) (places : HaveSamePlaces w.judge.connections t.live)
+module _ (local : Local) (w : Whole) (t : Sessions) (lined : HasLines local w) (places : HaveSamePlaces w.judge.connections t.live)
     (lasts : w.end.ended ≡ None) where
+  abbrev f : Called local w
+  f = lined.called
+
   abbrev StandsAt : ℕ → Connection → Type 0
   StandsAt p c = Stand local f.shut w.end w.coming (units_at p f.tagged) (units_at p f.came) (w.begun && first_at p f.tagged) (f.refs p) c
 
@@ -75,8 +77,8 @@ module _ (local : Local) (w : Whole) (t : Sessions) (f : Called local w) (apart 
       is_open e.right.phase ≡ true → reference_of Left j ≡ Some x.source → ⊥
   none_open x p c at a i e j there here lives is =
       let used = still_used Right x.source e j (one_at w.judge.connections t.live i e j places there here)
-      (each_sound way.Left w.judge.connections apart named i e there) lives is in
-      let same : p ≡ i = named.used x.source p i c e at there (used_asked x c a) used in
+      (each_sound way.Left w.judge.connections lined.apart lined.named i e there) lives is in
+      let same : p ≡ i = lined.named.used x.source p i c e at there (used_asked x c a) used in
       grind (arith, differ)
 
   -- a connection that right has answered has the reference that the end gave it
@@ -187,7 +189,7 @@ OpensByNoCc local deeds turn old new step on f = old.holding.end.carrier.ended �
 
 module _ (local : Local) (deeds : ℕ → Deeds) (turn : Turn) (old new : Joint) (step : TakesTurn turn old new)
     (on : Continues false deeds old.holding turn new.holding) (f : IsFollowed Right (begin false local) old)
-    (calm : IsCalm old.course.traffic.course) (two : old.holding.end.carrier.class ≡ Some Zero → ⊥)
+    (h : HasLines local f.whole)
     (places : HaveSamePlaces old.course.traffic.connections old.course.sessions.live)
     (news : AllByRecursion (λ (v : Value). GivesNew Right v old.course.sessions) (all_units on.put))
     (class_2 : AllByRecursion IsNotZero (all_units on.put))
@@ -204,12 +206,6 @@ module _ (local : Local) (deeds : ℕ → Deeds) (turn : Turn) (old new : Joint)
   abbrev LivedSo : ℕ → Type 0
   LivedSo q = Lived Right false (begin false local) deeds turn old new step on f q
 
-  lines : carrier.ended ≡ None → HasCalled local f.whole
-  lines lasts = called_lines local old f calm lasts two
-
-  apart : NamesApart f.whole.judge.connections
-  apart = (called_joined local old f).apart
-
   -- a CC that is put gives a new reference
   new_reference : (q : ℕ) (l : LivedSo q) (others answer : List Marked) → l.left.before ≡ others ++ answer → (cc_is : Connect) →
       cc_is.source ≡ q → answer ≡ (0, confirm l.peer cc_is) ∷ [] → IsUnused Right q t
@@ -225,7 +221,7 @@ module _ (local : Local) (deeds : ℕ → Deeds) (turn : Turn) (old new : Joint)
       Begins false q l.peer carrier new.holding.end.carrier l.arrived l.left → (AreApart q on.put → ⊥) →
       IsHomed Right q l.peer f.whole.judge t
   home_by lasts q positive l (opened link there none none_left) some =
-      linked_homed local f.whole t (lines lasts).called apart (lines lasts).named (grind arith)
+      linked_homed local f.whole t h (grind arith)
       (whole_lasts Right false (begin false local) deeds turn old new step on f lasts) q l.peer link
       (linked_so Right false (begin false local) deeds turn old new step on f lasts q l.peer link there)
   home_by lasts q positive l (opens shut unit opening front is others answer gives put) some = by unit opening gives is
@@ -236,7 +232,7 @@ module _ (local : Local) (deeds : ℕ → Deeds) (turn : Turn) (old new : Joint)
           absurd (search (arith, came Right false (begin false local) deeds turn old new step on f lasts (confirm n x) front q l come))
       by (request x) (called, theirs) (cc_is, source, one) come =
           subst (λ (k : ℕ). IsHomed Right q k f.whole.judge t) theirs
-          (asked_homed local f.whole t (lines lasts).called apart (lines lasts).named (grind arith)
+          (asked_homed local f.whole t h (grind arith)
           (whole_lasts Right false (begin false local) deeds turn old new step on f lasts) q x
           (came Right false (begin false local) deeds turn old new step on f lasts (request x) front q l come)
           (new_reference q l others answer put cc_is source one))

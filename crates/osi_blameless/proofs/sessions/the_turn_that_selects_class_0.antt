@@ -9,7 +9,7 @@ use Rattle.osi_carrier.specs.State.{State as Carrier}
 use Rattle.osi_blameless.proofs.steps_are_events.{IsFollowed}
 use Rattle.osi_blameless.proofs.small_facts_that_many_lemmas_use.{can_more as all_more, none_some}
 use Rattle.osi_blameless.proofs.sessions.an_end_is_ready_for_each_cc_that_passes.{waits_above}
-use Rattle.osi_blameless.proofs.sessions.a_called_end_of_class_2_has_its_lines.{has_lines}
+use Rattle.osi_blameless.proofs.sessions.a_whole_end_runs_along.{has_lines}
 use Rattle.osi_blameless.proofs.sessions.a_turn_after_which_a_cc_of_class_0_waits.{dts_after, no_cc_taken, turns_waiting}
 use Rattle.osi_blameless.proofs.sessions.all_connections_stand.{AllStand}
 use Rattle.osi_blameless.proofs.sessions.an_end_answers_with_class_0.{StandsAnswering, first}
@@ -149,7 +149,7 @@ module _ (local : Local) (proper : AllProper) (turn : Turn) (old new : Joint) (t
     some : old.begun ≡ true → old.put ≡ [] → ⊥
     some begun =
         let g = h.own.ahead.followed in
-        let lines = has_lines local old g h.can h.own.holds.two (going_on old.course.traffic.course clear) in
+        let lines = has_lines local old g (going_on old.course.traffic.course clear) h.can h.own.holds.two in
         λ none. lines.called.some (g.begun ∙ begun) (sym lines.called.put ∙ g.put ∙ none)
 
     pub turns_selecting : StandsAnswering local (λ r. then_did (deeds r) (on.more r)) new

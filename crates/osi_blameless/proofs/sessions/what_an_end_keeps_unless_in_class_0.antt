@@ -12,7 +12,7 @@ use Rattle.osi_judge.specs.Courses.{Course as Passed}
 use Rattle.osi_blameless.proofs.sessions.a_turn_of_an_end_of_class_2.{answers_turn, asks_turn}
 use Rattle.osi_blameless.proofs.sessions.what_stands_of_a_connection.{Known}
 use Rattle.osi_blameless.proofs.sessions.a_called_end_answers_with_class_2_or_selects_class_0.{answers_or_selects}
-use Rattle.osi_blameless.proofs.sessions.a_called_end_has_its_lines.{called_joined}
+use Rattle.osi_blameless.proofs.sessions.a_whole_end_runs_along.{called_joined}
 use Rattle.osi_blameless.proofs.sessions.all_connections_stand.{AllStand, there_too}
 use Rattle.osi_blameless.proofs.sessions.an_end_hears_what_breaks_no_rule.{AreFine}
 use Rattle.osi_blameless.proofs.sessions.an_end_stands_as_units_pass.{MayGetTwo, StandsInTwo, hears_front, known_at, stands_first}

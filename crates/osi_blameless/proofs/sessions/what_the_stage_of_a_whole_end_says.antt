@@ -17,7 +17,7 @@ use Rattle.osi_fair.proofs.how_requests_go_on.{Stage, asks, zero}
 use Rattle.osi_blameless.proofs.small_facts_that_many_lemmas_use.{early_lasts, given_so, none_some}
 use Rattle.osi_blameless.proofs.small_facts_that_many_lemmas_use as small
 use Rattle.osi_blameless.proofs.steps_are_events.{IsFollowed}
-use Rattle.osi_blameless.proofs.sessions.a_called_end_has_its_lines.{called_joined}
+use Rattle.osi_blameless.proofs.sessions.a_whole_end_runs_along.{called_joined}
 use Rattle.osi_blameless.proofs.sessions.each_reference_of_an_end_is_new.{IsAhead, IsWithin, WaitAbove}
 use Rattle.osi_blameless.proofs.sessions.nothing_is_done_before_a_cr_passes.{same_units}
 use Rattle.osi_blameless.proofs.a_carrier_does_events.{none_of}

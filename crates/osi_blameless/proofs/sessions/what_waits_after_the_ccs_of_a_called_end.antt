@@ -11,7 +11,7 @@ use Rattle.osi_fair.specs.Wholes.{begin}
 use Rattle.osi_honest.specs.Arriving.{is_open as opened}
 use Rattle.osi_blameless.proofs.small_facts_that_many_lemmas_use.{same_bool}
 use Rattle.osi_blameless.proofs.steps_are_events.{IsFollowed}
-use Rattle.osi_blameless.proofs.sessions.a_called_end_of_class_2_has_its_lines.{HasLines}
+use Rattle.osi_blameless.proofs.sessions.a_whole_end_runs_along.{HasLines}
 use Rattle.osi_blameless.proofs.sessions.a_called_end_of_class_2_puts_no_dt_of_class_0.{called_turn_two}
 use Rattle.osi_blameless.proofs.sessions.all_connections_stand.{one_at}
 use Rattle.osi_blameless.proofs.sessions.each_cc_of_a_called_end_opens_another_connection.{none_open_for, open_there, same_destination}
@@ -79,7 +79,7 @@ module _ (local : Local) (deeds : ℕ → Deeds) (turn : Turn) (old new : Joint)
   open_named : carrier.ended ≡ None → (q : ℕ) → 0 < q → (l : LivedSo q) →
       Begins false q l.peer carrier new.holding.end.carrier l.arrived l.left → AreApart q on.put ⊎ IsNamed q l.peer
   open_named lasts q positive l (opened link there none none_left) =
-      by (open_there local f.whole t before.called before.apart before.named (grind arith)
+      by (open_there local f.whole t before (grind arith)
       (whole_lasts Right false (begin false local) deeds turn old new step on f lasts) q l.peer link
       (linked_so Right false (begin false local) deeds turn old new step on f lasts q l.peer link there))
     where
@@ -125,7 +125,7 @@ module _ (local : Local) (deeds : ℕ → Deeds) (turn : Turn) (old new : Joint)
       forth_by l e (inl apart) = differ (m.0 == r) e (at (λ (k : Marked). (k.0 == r) ≡ false) apart)
       forth_by l e (inr (inl h)) =
           let same : l.peer ≡ n =
-          same_source local g.whole t after.called after.apart after.named places_g l.peer n r (has_whole l.peer r h)
+          same_source local g.whole t after places_g l.peer n r (has_whole l.peer r h)
           (has_whole n r has) in
           ap (λ (i : ℕ). is_for (Some i) m.1) (sym same) ∙ sym (grind arith)
           ∙ at (GoesTo r l.peer) (goes_to r on.put l.peer l.left l.gives) e
@@ -143,11 +143,11 @@ module _ (local : Local) (deeds : ℕ → Deeds) (turn : Turn) (old new : Joint)
           differ (m.0 == m.0) (eq-eqb m.0 m.0 refl) (at (λ (k : Marked). (k.0 == m.0) ≡ false) apart)
       back_by l mine (inr (inl h)) =
           eq-eqb m.0 r
-          (same_destination local g.whole t after.called after.apart after.named places_g n m.0 r
+          (same_destination local g.whole t after places_g n m.0 r
           (subst (λ (i : ℕ). HasCc i m.0 g.whole.put) (sym (peer_so l mine)) (has_whole l.peer m.0 h)) (has_whole n r has))
       back_by l mine (inr (inr h)) =
           let one = one_at s.connections t.live h.place h.connection h.joined places h.there h.here in
-          absurd (none_open_for local g.whole t after.called after.apart after.named places_g n r (has_whole n r has) h.place
+          absurd (none_open_for local g.whole t after places_g n r (has_whole n r has) h.place
           h.connection (ap (λ (x : State). slice_get x.connections h.place) judge_g ∙ h.there) h.lives
           (sym one.calling ∙ number_is h.joined.calling l.peer h.theirs ∙ sym (peer_so l mine)))
 
