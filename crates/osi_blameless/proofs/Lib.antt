@@ -18,7 +18,7 @@ pub mod what_waits_changes_nothing
 pub mod what_a_carrier_puts_can_be_written
 pub mod what_packets_and_short_tsdus_keep_a_turn_keeps
 pub mod a_carrier_does_events
-pub mod what_is_put_is_what_is_written
+pub mod the_packets_that_an_end_took_come_first
 pub mod steps_are_events
 -- so no unit of the end is a break
 pub mod no_unit_of_a_whole_end_is_a_break

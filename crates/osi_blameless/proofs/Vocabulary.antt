@@ -46,17 +46,19 @@ pub use Rattle.osi_class.specs.declared.terms.Class.TheVariants.{Two, Zero}
 pub use Rattle.osi_class.specs.declared.terms.Local.{Local}
 pub use Rattle.osi_carrier.proofs.effects.what_is_in_front_changes_nothing.{apart_all}
 pub use Rattle.osi_carrier.proofs.stream.a_piece_is_read_packet_by_packet.{acts_cases}
+pub use Rattle.osi_carrier.proofs.effects.units_one_after_the_other.{react_over}
+pub use Rattle.osi_carrier.proofs.written.what_is_put_is_written.{call_written, state_is, unit_written}
 pub use Rattle.osi_carrier.specs.Calls.{asks, closed_on, closed_with, ended_by, link_of, may_connect, open_link, send_all_error, sent}
-pub use Rattle.osi_carrier.specs.Calls.{sent_all}
+pub use Rattle.osi_carrier.specs.Calls.{put_closing, put_sent, put_together, sent_all}
 pub use Rattle.osi_carrier.specs.Fetching.{IsNoFront}
 pub use Rattle.osi_carrier.specs.Happenings.{Happening}
 pub use Rattle.osi_carrier.specs.Negotiation.{acceptance, opened_link, unit_octets}
 pub use Rattle.osi_carrier.specs.Orderly.{RiseFrom, connection_by}
 pub use Rattle.osi_carrier.specs.Pump.{written_by}
 pub use Rattle.osi_carrier.specs.React.{answers, before_class, denies, handed_out, has_peer, in_class, in_two, in_zero, is_full, pumps}
-pub use Rattle.osi_carrier.specs.React.{react, react_by, reacts, taking, to_connection, to_linked, to_only, to_reference}
+pub use Rattle.osi_carrier.specs.React.{outcome, put_for, react, react_by, reacts, taking, to_connection, to_linked, to_only, to_reference}
 pub use Rattle.osi_carrier.specs.Rows.{Rows, value_at}
-pub use Rattle.osi_carrier.specs.Runs.{UserCall, breaks, closes, connects, put_back, sends, sends_all, user, user_does}
+pub use Rattle.osi_carrier.specs.Runs.{UserCall, breaks, closes, connects, put_back, put_by, sends, sends_all, user, user_does}
 pub use Rattle.osi_carrier.specs.State.{State as Carrier, Connection as Live, closing, ends, linked, packets}
 pub use Rattle.osi_carrier.specs.declared.ends.EndReason.{EndReason}
 pub use Rattle.osi_carrier.specs.declared.ends.EndReason.TheVariants.{NoMemory}
@@ -138,6 +140,7 @@ pub use Rattle.osi_honest.proofs.ends.what_a_session_answers_fits.{all_proper}
 pub use Rattle.osi_honest.proofs.ends.what_a_session_sends_fits.{AllProper}
 pub use Rattle.osi_honest.proofs.ends.what_class_0_does_not_take_ends_the_end.{AreHard, IsHard, IsHardPacket, IsLast, IsZeroAt, hard_ends}
 pub use Rattle.osi_honest.proofs.keeping.what_holds_of_each_connection_stays.{row_at, row_more, row_put, row_without}
+pub use Rattle.osi_honest.proofs.reading.a_written_form_is_of_one_unit.{packets_once}
 pub use Rattle.osi_honest.proofs.reading.a_cr_and_a_cc_can_be_written.{cc_plain, cr_by, size_in_range}
 pub use Rattle.osi_honest.proofs.reading.how_much_of_a_piece_is_used.{all_octets, more_used, stopped_within}
 pub use Rattle.osi_honest.proofs.reading.two_readings_of_a_stream_agree.{GoesBeyond, first, packets_on, packets_then, front_of as part_of}
@@ -216,11 +219,11 @@ pub use Rattle.osi_fair.proofs.small_facts_that_many_lemmas_use.{unequal}
 pub use Rattle.osi_fair.proofs.the_end_is_judged_as_the_other_side_is.{side_zero}
 pub use Rattle.osi_fair.proofs.units_by_their_place.{Placed, at_first, at_join, first_at, values}
 pub use Rattle.osi_fair.proofs.what_a_called_end_does_to_its_lines.{above_more}
-pub use Rattle.osi_fair.proofs.what_a_carrier_puts.{call_writes, unit_writes}
+pub use Rattle.osi_fair.proofs.what_a_carrier_puts.{alone, connected}
 pub use Rattle.osi_fair.proofs.what_a_link_does.{begun_by, gives_so, takes_so}
 pub use Rattle.osi_fair.proofs.what_an_end_does_in_class_zero.{IsInZero, anyhow, zero_puts}
 pub use Rattle.osi_fair.proofs.what_an_end_puts_in_class_zero.{PutsData}
-pub use Rattle.osi_fair.proofs.what_becomes_of_a_called_end.{IsCalled, above_up, units_no_cc}
+pub use Rattle.osi_fair.proofs.what_becomes_of_a_called_end.{IsCalled, above_up, closing_no_cc, confirms_no_cc, given_no_cc, none_by_call}
 pub use Rattle.osi_fair.proofs.what_becomes_of_a_connection.{IsIdle, comes_for}
 pub use Rattle.osi_fair.proofs.what_holds_of_one_item.{HoldsOfEach, after_add, after_map, after_set, each_add, each_map, each_set}
 pub use Rattle.osi_fair.proofs.what_holds_of_one_item.{first_true, none_true, one_added, one_changed, one_mapped, one_put}
@@ -239,8 +242,6 @@ pub use Rattle.osi_fair.specs.Asking.{asked_in}
 pub use Rattle.osi_fair.specs.Lines.{Act, Acts, ActsAlong, Line, begins_elsewhere, ignores, moves, opened_line, units_put}
 pub use Rattle.osi_fair.specs.Naming.{HoldsOfOne, Passing, packet, passes, rubbish, unit}
 pub use Rattle.osi_fair.specs.Pieces.{units_by}
-pub use Rattle.osi_fair.specs.Putting.{put_at, put_before, put_by, put_closing, put_for, put_for_selection, put_in, put_in_two, put_in_zero}
-pub use Rattle.osi_fair.specs.Putting.{put_linked, put_only, put_sent, put_taking, put_to, put_together, refusal}
 pub use Rattle.osi_fair.specs.Wholes.{Event, HappenAlong, Happens, MayCall, Whole, arrives, calls, passes_rubbish}
 pub use Rattle.osi_blameless.specs.Bounded.{AreJudgedOf, AreMomentsOf, IsCourseOf, IsFedWithin, IsJudgedOf, IsMomentOf, SessionsOf}
 pub use Rattle.osi_blameless.specs.Bounded.{comes_within}

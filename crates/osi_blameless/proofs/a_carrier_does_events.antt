@@ -5,12 +5,12 @@ use Rattle.osi_blameless.proofs.Vocabulary.{arith, ◌≡◌, ◌∙◌, ◌≤�
 use Rattle.osi_blameless.proofs.Vocabulary.{refl, sym, ap, subst, Option, Some, None, option_map, is_some, Result, Ok, Err, append_assoc}
 use Rattle.osi_blameless.proofs.Vocabulary.{AllByRecursion, append-nil, IsOctets, tsap_octets, units_of, Value, Fits, TpduFault, Tsap}
 use Rattle.osi_blameless.proofs.Vocabulary.{units_fit, units_found, Standing, asks, closed_on, closed_with, ended_by, link_of, may_connect}
-use Rattle.osi_blameless.proofs.Vocabulary.{open_link, sent_all, Happening, react_by, reacts, value_at, UserCall, breaks, closes, connects}
-use Rattle.osi_blameless.proofs.Vocabulary.{sends_all, user_does, ends, packets, EndReason, NoMemory, OpenError, Ended, NotCaller, units_by}
-use Rattle.osi_blameless.proofs.Vocabulary.{put_by, put_for, Event, HappenAlong, Happens, MayCall, Whole, arrives, calls, call_writes}
-use Rattle.osi_blameless.proofs.Vocabulary.{unit_writes, packets_joined, AreNumbered, CanBeWritten}
+use Rattle.osi_blameless.proofs.Vocabulary.{open_link, sent_all, Happening, reacts, value_at, UserCall, breaks, closes, connects, sends_all}
+use Rattle.osi_blameless.proofs.Vocabulary.{user_does, ends, packets, EndReason, NoMemory, OpenError, Ended, NotCaller, units_by, put_by}
+use Rattle.osi_blameless.proofs.Vocabulary.{put_for, Event, HappenAlong, Happens, MayCall, Whole, arrives, calls, call_written}
+use Rattle.osi_blameless.proofs.Vocabulary.{unit_written, packets_joined, AreNumbered, CanBeWritten, react_over}
 use Rattle.osi_carrier.specs.Packets as carriers
-unfoldable use Rattle.osi_carrier.specs.React.{react}
+use Rattle.osi_carrier.specs.React.{react}
 use Rattle.osi_carrier.specs.State.{State}
 use Rattle.osi_rules.specs.declared.directions.Direction.{Direction}
 use Rattle.osi_fair.specs.Pieces.{units_in}
@@ -23,10 +23,6 @@ use Rattle.osi_blameless.proofs.what_waits_changes_nothing.{IsApart, bare, call_
 
 over_not : {A : Type 0} (s : State) → is_some s.ended ≡ true → s.ended ≡ None → A
 over_not s over lasts = let no : true ≡ false = sym over ∙ ap is_some lasts in absurd (cc)
-
-idle_unit : (v : Value) (c : State) → is_some c.ended ≡ true → react v c ≡ c
-unfolding react
-idle_unit v c over = ap (λ (b : Bool). react_by b v c) over
 
 no_link : (r : ℕ) (c : State) → is_some c.ended ≡ true → open_link r c ≡ None
 no_link r c over = ap (λ (b : Bool). if b then None else link_of (value_at r c.live)) over
@@ -122,11 +118,11 @@ module _ (d : Direction) (w : Whole) (out : List ℕ) where
   unit_by : (b : Bool) (v : Value) (later : List Value) (c : State) (h : HasCome d w out (v ∷ later) c) → Fits v →
       is_some h.end.ended ≡ b → HasCome d w out later (react v c)
   unit_by true v later c h fits over =
-      grind (arith, idle_unit v c (h.like.over ∙ over), rests (v ∷ later) later c c h over (h.like.over ∙ over) refl)
+      grind (arith, react_over v c (h.like.over ∙ over), rests (v ∷ later) later c c h over (h.like.over ∙ over) refl)
   unit_by false v later c h fits lasting =
       let lasts = none_of h.end.ended lasting in
       goes (react v) (unit_apart v fits) arrives (put_for v h.end) later (v ∷ later) later c h lasts (v, h.still lasts, refl)
-      (unit_writes v h.end) (unit_fine h.end h.links v fits.in_range) refl
+      (unit_written v h.end) (unit_fine h.end h.links v fits.in_range) refl
 
   all_come : (units later : List Value) (c : State) → AllByRecursion Fits units → HasCome d w out (units ++ later) c →
       HasCome d w out later (reacts units c)
@@ -140,7 +136,7 @@ module _ (d : Direction) (w : Whole) (out : List ℕ) where
       Fine (put_by call h.end) (user_does call h.end) → HasCome d w out later (user_does call c)
   calls_so call later c h lasts may fine =
       goes (user_does call) (call_apart call) (calls call) (put_by call h.end) h.coming later later c h lasts (may, refl)
-      (call_writes call h.end) fine (h.still lasts)
+      (call_written call h.end) fine (h.still lasts)
 
   ends_by : (b : Bool) (reason : EndReason) (later after : List Value) (c : State) (h : HasCome d w out later c) → is_some h.end.ended ≡ b →
       HasCome d w out after (ends reason c)

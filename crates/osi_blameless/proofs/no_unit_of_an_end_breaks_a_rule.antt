@@ -22,7 +22,7 @@ use Rattle.osi_blameless.proofs.an_end_that_is_judged_alone_stays_so.{along_kept
 use Rattle.osi_blameless.proofs.in_class_0_one_side_alone_is_judged.{AfterUnread, IsAlone, all_over, alone_begins, alone_own, unit_alone}
 use Rattle.osi_blameless.proofs.in_class_0_one_side_alone_is_judged.{unread_alone}
 use Rattle.osi_blameless.proofs.later_steps_are_events.{later_followed, spoilt_followed}
-use Rattle.osi_blameless.proofs.steps_are_events.{IsFollowed, begin_followed, own_first}
+use Rattle.osi_blameless.proofs.steps_are_events.{IsFollowed, begin_followed}
 use Rattle.osi_blameless.proofs.no_unit_of_a_whole_end_is_a_break.{IsNoBreak, is_fair}
 use Rattle.osi_blameless.proofs.sessions.class_0_is_known_once_it_is_selected.{IsKnownOnce, joint_known_once, unit_known_once}
 use Rattle.osi_blameless.proofs.sessions.connections_have_the_same_places.{unit_knows}
@@ -95,9 +95,9 @@ module _ (d : Direction) where
     own_none : (at : ℕ) (v : Value) (old new : Joint) → Steps d (passes_own at v) old new → IsFollowed d first old → IsWhole old.course →
         IsNoBreak (takes (way_of d) v old.course.traffic).told.finding
     own_none at v old new (read, octets, put, begun, is) f w =
-        let s = own_first d first old new v (read, octets, put) f in
+        let s : f.whole.put ≡ v ∷ new.put = f.put ∙ put in
         subst (λ (t : Traffic). IsNoBreak (takes (way_of d) v t).told.finding) f.judge
-        (is_fair d local f.events f.whole v s.rest f.along (f.begun ∙ begun) s.is
+        (is_fair d local f.events f.whole v new.put f.along (f.begun ∙ begun) s
         (ap (λ (t : Traffic). is_stopped (sides.other (way_of d)) t.course) f.judge ∙ other_goes d old.course w.going))
 
     own_passes_so : (at : ℕ) (v : Value) (old new : Joint) → Steps d (passes_own at v) old new → IsFollowed d first old →

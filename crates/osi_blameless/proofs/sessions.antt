@@ -44,7 +44,6 @@ pub mod a_turn_does_what_its_deeds_say
 pub mod what_a_turn_puts_waits
 pub mod references_of_an_end_are_distinct
 pub mod each_unit_of_a_turn_has_one_connection
-pub mod units_written_alike_are_for_the_same
 pub mod a_cc_comes_before_what_is_put_for_it
 pub mod crs_that_wait_are_above_those_that_passed
 pub mod ccs_that_wait_are_above_those_that_passed
@@ -52,11 +51,10 @@ pub mod each_reference_of_an_end_is_new
 pub mod nothing_is_done_before_a_cr_passes
 pub mod a_whole_end_runs_along
 pub mod what_a_turn_puts_goes_to_its_peer
-pub mod what_a_turn_puts_is_written_alike
 pub mod each_unit_of_a_calling_end_has_a_home
 pub mod a_called_end_of_class_2_puts_no_dt_of_class_0
 pub mod each_unit_of_a_called_end_has_a_home
-pub mod units_written_alike_have_the_same_ccs
+pub mod ccs_among_units
 pub mod each_cc_of_a_called_end_opens_another_connection
 pub mod a_called_end_answers_with_class_2_or_selects_class_0
 pub mod what_waits_after_the_ccs_of_a_called_end

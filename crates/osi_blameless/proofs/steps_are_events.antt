@@ -1,12 +1,12 @@
 -- Steps of an end and of a judge are events of a whole end.
 -- For the first break of transport.
-use Rattle.osi_blameless.proofs.Vocabulary.{[], ap, append_assoc, Bool, false, is_some, List, map, None, Ok, Option, refl, Some, subst, sym}
-use Rattle.osi_blameless.proofs.Vocabulary.{true, ℕ, ◌++◌, ◌∙◌, ◌∷◌, ◌≡◌, ◌≢◌, append-nil, append_cancel_left, AllByRecursion, IsOctets}
-use Rattle.osi_blameless.proofs.Vocabulary.{units_fit, units_found, units_of, Value, Fits, written, Local, packets, Carrier, EndReason, End}
-use Rattle.osi_blameless.proofs.Vocabulary.{Holding, Traffic, takes, Told, other, Direction, AllProper, AreNumbered, CanBeWritten, IsFresh}
-use Rattle.osi_blameless.proofs.Vocabulary.{Turn, noted_by, unit_passes, units_pass, way_of, Cause, units_by, Event, HappenAlong, Whole}
+use Rattle.osi_blameless.proofs.Vocabulary.{[], ap, append_assoc, Bool, false, is_some, List, None, Option, refl, Some, subst, sym, true, ℕ}
+use Rattle.osi_blameless.proofs.Vocabulary.{◌++◌, ◌∙◌, ◌∷◌, ◌≡◌, ◌≢◌, append-nil, append_cancel_left, AllByRecursion, units_fit}
+use Rattle.osi_blameless.proofs.Vocabulary.{units_found, units_of, Value, Fits, written, Local, packets, Carrier, EndReason, End, Holding}
+use Rattle.osi_blameless.proofs.Vocabulary.{Traffic, takes, Told, other, Direction, AllProper, AreNumbered, CanBeWritten, IsFresh, Turn}
+use Rattle.osi_blameless.proofs.Vocabulary.{noted_by, unit_passes, units_pass, way_of, Cause, units_by, Event, HappenAlong, Whole}
 use Rattle.osi_blameless.proofs.Vocabulary.{begins_other, begins_own, Joint, passes_other, passes_own, Step, Steps, TakesTurn, turns, arith}
-use Rattle.osi_blameless.proofs.Vocabulary.{Course, packet_begins, begin, none_of}
+use Rattle.osi_blameless.proofs.Vocabulary.{Course, packet_begins, begin, none_of, packets_once}
 use Rattle.osi_rules.specs.Sides as sides
 use Rattle.osi_rules.specs.Traffic as traffic
 use Rattle.osi_fair.specs.Pieces.{units_in}
@@ -14,8 +14,7 @@ use Rattle.osi_fair.specs.Wholes as wholes
 use Rattle.osi_blameless.proofs.small_facts_that_many_lemmas_use.{can_more as all_more, over_none}
 use Rattle.osi_blameless.proofs.a_carrier_does_events.{Came, IsLike, came_asking, came_tracked, happen_join, none_come, units_join}
 use Rattle.osi_blameless.proofs.all_is_judged_or_nothing.{changes_traffic}
-use Rattle.osi_blameless.proofs.what_is_put_is_what_is_written.{AreFirst, StartsWith, are_first, none_written, same_written, starts_with}
-use Rattle.osi_blameless.proofs.what_is_put_is_what_is_written.{written_join}
+use Rattle.osi_blameless.proofs.the_packets_that_an_end_took_come_first.{AreFirst, are_first}
 use Rattle.osi_blameless.proofs.what_waits_changes_nothing.{bare}
 use Rattle.osi_blameless.proofs.what_packets_and_short_tsdus_keep_a_turn_keeps.{Tracks, turn_tracked}
 
@@ -33,12 +32,12 @@ unit_traffic d at v c = grind (arith, noted_traffic)
 
 -- ---- an end and a judge, and a whole end
 
--- Events of a whole end have made one that is like the end and the judge: with the same octets between them.
+-- Events of a whole end have made one that is like the end and the judge: with the same units between them.
 pub record IsFollowed (d : Direction) (first : Whole) (j : Joint) : Type 0 where
   pub whole : Whole
   pub events : List Event
   pub along : HappenAlong (way_of d) first events whole
-  pub put : map written whole.put ≡ map written j.put
+  pub put : whole.put ≡ j.put
   pub begun : whole.begun ≡ j.begun
   pub judge : whole.judge ≡ j.course.traffic
   pub coming : j.holding.end.carrier.ended ≡ None → whole.coming ≡ units_in j.coming
@@ -71,12 +70,12 @@ module _ (d : Direction) (first : Whole) where
         let h = track.holds later now in
         let same : turn.put ≡ packets h.put =
         append_cancel_left carrier.outgoing turn.put (packets h.put) (sym track.outgoing ∙ h.written) in
-        let alike : map written h.put ≡ map written t.units = same_written h.put t.units (sym same ∙ t.written) in
+        let units : h.put ≡ t.units = packets_once h.put t.units h.can t.can (sym same ∙ t.written) in
         record {
           whole = record f.whole { end = h.end; put = f.whole.put ++ h.put; coming = h.coming };
           events = f.events ++ h.events;
           along = grind (arith, happen_join);
-          put = grind (arith, written_join);
+          put = (λ i. f.put i ++ units i) ∙ sym t.put;
           begun = f.begun ∙ sym t.begun;
           judge = f.judge ∙ sym (ap (λ (c : Course). c.traffic) t.course);
           coming = grind (arith, none_of, track);
@@ -110,7 +109,7 @@ module _ (d : Direction) (first : Whole) where
         whole = next;
         events = f.events ++ wholes.begins_own ∷ [];
         along = happen_join (way_of d) f.events (wholes.begins_own ∷ []) first f.whole next f.along
-            (next, (none_written f.whole.put old.put f.put some, f.begun ∙ none, refl), refl);
+            (next, ((λ nothing. some (sym f.put ∙ nothing)), f.begun ∙ none, refl), refl);
         put = f.put;
         begun = refl;
         judge = ap (traffic.packet_begins (way_of d)) f.judge;
@@ -120,31 +119,23 @@ module _ (d : Direction) (first : Whole) where
         links = f.links;
       })
 
-  -- the unit that passes is the first that the whole end has put
-  abbrev PassingOwn : Joint → Value → Joint → Type 0
-  PassingOwn old unit new = (units_of (written unit) ≡ Ok (unit ∷ [])) × IsOctets (written unit) × (old.put ≡ unit ∷ new.put)
-
-  pub own_first : (old new : Joint) (unit : Value) → PassingOwn old unit new → (f : IsFollowed d first old) →
-      StartsWith f.whole.put new.put unit
-  own_first old new unit (read, octets, is) f = grind (arith, starts_with)
-
-  passes_own_so : (old new : Joint) (at : ℕ) (unit : Value) → PassingOwn old unit new → old.begun ≡ true →
+  passes_own_so : (old new : Joint) (at : ℕ) (unit : Value) → old.put ≡ unit ∷ new.put → old.begun ≡ true →
       new ≡ record old { put = new.put; begun = false; course = units_pass d at (unit ∷ []) old.course } → IsFollowed d first old →
       IsFollowed d first new
-  passes_own_so old new at unit passing begun is f =
-      let s = own_first old new unit passing f in
-      let next : Whole = record f.whole { put = s.rest; begun = false; judge = (takes (way_of d) unit f.whole.judge).state } in
+  passes_own_so old new at unit put begun is f =
+      let first_is : f.whole.put ≡ unit ∷ new.put = f.put ∙ put in
+      let next : Whole = record f.whole { put = new.put; begun = false; judge = (takes (way_of d) unit f.whole.judge).state } in
       subst (IsFollowed d first) (sym is) (record {
         whole = next;
         events = f.events ++ wholes.passes_own ∷ [];
         along = happen_join (way_of d) f.events (wholes.passes_own ∷ []) first f.whole next f.along
-            (next, (unit, s.is, f.begun ∙ begun, refl), refl);
-        put = s.same;
+            (next, (unit, first_is, f.begun ∙ begun, refl), refl);
+        put = refl;
         begun = refl;
         judge = ap (λ (t : Traffic). (takes (way_of d) unit t).state) f.judge ∙ sym (unit_traffic d at unit old.course);
         coming = f.coming;
         like = f.like;
-        can = s.can;
+        can = (subst (AllByRecursion CanBeWritten) first_is f.can).1;
         links = f.links;
       })
 
@@ -211,7 +202,7 @@ module _ (d : Direction) (first : Whole) where
   step_followed proper (turns turn) old new t f = turn_followed proper turn old new t f
   step_followed proper begins_own old new (some, none, is) f = begins_own_so old new some none is f
   step_followed proper (passes_own at unit) old new (read, octets, put, begun, is) f =
-      passes_own_so old new at unit (read, octets, put) begun is f
+      passes_own_so old new at unit put begun is f
   step_followed proper begins_other old new is f = begins_other_so old new is f
   step_followed proper (passes_other at packet units) old new (octets, read, is) f =
       passes_other_so old new at packet units (units_fit units packet (units_found packet units octets read)) (ap units_by read) is f

@@ -1,6 +1,7 @@
 -- An end of this library and a judge, packet by packet. What passes is what the judge is fed: the capture may be taken anywhere between the
 -- end and the other side.
 use Rattle.std.specs.Prelude.{◌≡◌, ◌≢◌, ℕ, Bool, true, false, List, [], ◌∷◌, ◌++◌, None, Ok}
+use Rattle.std.specs.List.{AllByRecursion}
 use Rattle.osi_unit.specs.Octets.{IsOctets}
 use Rattle.osi_tpkt.specs.Stream.{ArePackets}
 use Rattle.osi_tpdu.specs.Packet.{units_of}
@@ -11,6 +12,7 @@ use Rattle.osi_side.specs.declared.directions.Direction.{Direction}
 use Rattle.osi_side.specs.Captures.{other}
 use Rattle.osi_stack.specs.State.{Holding}
 use Rattle.osi_honest.specs.Turns.{Takes, Turn}
+use Rattle.osi_honest.specs.Writable.{CanBeWritten}
 use Rattle.osi_judge.specs.Courses.{Course, fresh, packet_begins, units_pass}
 
 pub record Joint : Type 0 where
@@ -37,12 +39,13 @@ pub data Step : Type 0 where
   begins_other : Step
   passes_other : (at : ℕ) → List ℕ → List Value → Step
 
--- The end takes a turn. It puts these units, and uses these packets: the next that have passed. As long as it lasts, it holds
--- the octets after them.
+-- The end takes a turn. It puts these units, each of which can be written, and uses these packets: the next that have passed. As
+-- long as it lasts, it holds the octets after them.
 pub record TakesTurn (turn : Turn) (old new : Joint) : Type 0 where
   pub takes : Takes old.holding turn new.holding
   pub units : List Value
   pub written : turn.put ≡ packets units
+  pub can : AllByRecursion CanBeWritten units
   pub put : new.put ≡ old.put ++ units
   pub used : List (List ℕ)
   pub coming : old.coming ≡ used ++ new.coming

@@ -123,8 +123,13 @@ one_more None y a b digits rest octets tail u v e so_far = absurd (search (arith
 one_more (Some h) None a b digits rest octets tail u v e so_far = absurd (search (arith, e))
 one_more (Some h) (Some l) a b digits rest octets None u v e so_far = absurd (search (arith, e))
 one_more (Some h) (Some l) a b digits rest octets (Some more) u v e so_far =
-    grind (arith, two_read a b h l (digits ++ rest) u v, so_far more refl,
-    after_both ((h * 16 + l) ∷ []) more (octets_from (digits_of rest) None), e)
+    grind (
+      arith,
+      two_read a b h l (digits ++ rest) u v,
+      so_far more refl,
+      after_both ((h * 16 + l) ∷ []) more (octets_from (digits_of rest) None),
+      e,
+    )
 
 digits_read : (digits rest octets : List ℕ) → octets_from digits None ≡ Some octets →
     octets_from (digits_of (digits ++ rest)) None ≡ after_octets octets (octets_from (digits_of rest) None)

@@ -88,8 +88,16 @@ pair_read a b rest = pair_by (hex_digit_value a) (hex_digit_value b) (octets_fro
 four_by : (o p q r : Option ℕ) (a b c d e f g h : ℕ) → octet_of a b ≡ o → octet_of c d ≡ p → octet_of e f ≡ q → octet_of g h ≡ r →
     octets_from (a ∷ b ∷ c ∷ d ∷ e ∷ f ∷ g ∷ h ∷ []) None ≡ with_octet o (with_octet p (with_octet q (with_octet r (Some []))))
 four_by o p q r a b c d e f g h u v w x =
-    rw (pair_read a b (c ∷ d ∷ e ∷ f ∷ g ∷ h ∷ []), pair_read c d (e ∷ f ∷ g ∷ h ∷ []), pair_read e f (g ∷ h ∷ []), pair_read g h [],
-    u, v, w, x) refl
+    rw (
+      pair_read a b (c ∷ d ∷ e ∷ f ∷ g ∷ h ∷ []),
+      pair_read c d (e ∷ f ∷ g ∷ h ∷ []),
+      pair_read e f (g ∷ h ∷ []),
+      pair_read g h [],
+      u,
+      v,
+      w,
+      x,
+    ) refl
 
 four_are : (a b c d e f g h : ℕ) → number_of_two a b + number_of_two c d + number_of_two e f + number_of_two g h < 65536 →
     octets_from (a ∷ b ∷ c ∷ d ∷ e ∷ f ∷ g ∷ h ∷ []) None

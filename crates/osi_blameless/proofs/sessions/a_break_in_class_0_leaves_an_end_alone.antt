@@ -1,11 +1,11 @@
 -- With a break of the other side in class 0, an end and a judge begin to go on as if it had not come, for the end takes no packet of it;
 -- and so they go on, step by step. For the law that no session of an end is to blame after such a break.
 use Rattle.osi_blameless.proofs.Vocabulary.{◌≡◌, ◌∙◌, inl, inr, refl, sym, ap, subst, ℕ, ◌^◌, ◌<◌, ◌≤◌, Bool, true, false, List, [], ◌∷◌}
-use Rattle.osi_blameless.proofs.Vocabulary.{◌++◌, map, length, Some, arith, append_assoc, Result, Ok, AllByRecursion, append-nil, IsOctets}
-use Rattle.osi_blameless.proofs.Vocabulary.{units_of, Value, data0, written, TpduFault, Two, Zero, Local, other, Direction, is_applied}
-use Rattle.osi_blameless.proofs.Vocabulary.{class_for, takes, side_zero, Deeds, AreHard, IsHard, Known, Cause, unit_passes, units_pass}
-use Rattle.osi_blameless.proofs.Vocabulary.{unread, way_of, Joint, Step, begins_other, begins_own, passes_other, passes_own, turns}
-use Rattle.osi_blameless.proofs.Vocabulary.{stops_last, calls_from, IsNoPacket, IsUnread, LaterAlong, LaterSteps, spoilt}
+use Rattle.osi_blameless.proofs.Vocabulary.{◌++◌, length, Some, arith, append_assoc, Result, Ok, AllByRecursion, append-nil, IsOctets}
+use Rattle.osi_blameless.proofs.Vocabulary.{units_of, Value, data0, TpduFault, Two, Zero, Local, other, Direction, is_applied, class_for}
+use Rattle.osi_blameless.proofs.Vocabulary.{takes, side_zero, Deeds, AreHard, IsHard, Known, Cause, unit_passes, units_pass, unread, way_of}
+use Rattle.osi_blameless.proofs.Vocabulary.{Joint, Step, begins_other, begins_own, passes_other, passes_own, turns, stops_last, calls_from}
+use Rattle.osi_blameless.proofs.Vocabulary.{IsNoPacket, IsUnread, LaterAlong, LaterSteps, spoilt}
 use Rattle.osi_rules.specs.declared.courses.Course.{Course as Judging}
 use Rattle.osi_rules.specs.declared.findings.Reach.TheVariants as reach
 use Rattle.osi_fair.specs.Pieces.{units_in}
@@ -139,7 +139,7 @@ module _ (known : Known) (d : Direction) (local : Local)
           without = w;
           is = record {
             goes = b.goes;
-            put = ap (λ (l : List Value). map written l) b.put;
+            put = b.put;
             begun = b.begun;
             beside = subst (λ (x : Passed). IsBeside d x w.course) all_join (subst (IsBeside d _) (sym b.course) s.beside);
             alone = subst (IsAlone d) all_join s.alone;

@@ -8,7 +8,7 @@ use Rattle.osi_fair.specs.Wholes.{begin}
 use Rattle.osi_blameless.proofs.steps_are_events.{IsFollowed}
 use Rattle.osi_blameless.proofs.sessions.a_whole_end_runs_along.{HasLines, lines_or_selects}
 use Rattle.osi_blameless.proofs.sessions.each_cc_of_a_called_end_opens_another_connection.{put_answers_two}
-use Rattle.osi_blameless.proofs.sessions.units_written_alike_have_the_same_ccs.{AnswersTwo, two_alike}
+use Rattle.osi_blameless.proofs.sessions.ccs_among_units.{AnswersTwo}
 
 module _ (local : Local) (j : Joint) (f : IsFollowed side.Right (begin false local) j) (can : AllByRecursion CanBeWritten j.put)
     (clear : IsOngoing j.course.traffic.course) (places : HaveSamePlaces j.course.traffic.connections j.course.sessions.live) where
@@ -16,8 +16,7 @@ module _ (local : Local) (j : Joint) (f : IsFollowed side.Right (begin false loc
   by (inl h) =
       let there : HaveSamePlaces f.whole.judge.connections j.course.sessions.live =
       subst (λ (s : Traffic). HaveSamePlaces s.connections j.course.sessions.live) (sym f.judge) places in
-      inl (two_alike f.whole.put j.put (record { same = f.put; can = f.can; can_too = can })
-      (put_answers_two local f.whole j.course.sessions h there))
+      inl (subst (AllByRecursion AnswersTwo) f.put (put_answers_two local f.whole j.course.sessions h there))
   by (inr z) = inr z
 
   pub answers_or_selects : AllByRecursion AnswersTwo j.put ⊎ Selecting local f.whole

@@ -1,11 +1,11 @@
 -- A turn of a called end after which its CC of class 0 waits: the one in which the end puts this CC, and each one until it passes. What the
 -- end puts after the CC is for this connection, and it takes nothing there yet.
 -- For the session of the connection of an end in class 0.
-use Rattle.osi_blameless.proofs.Vocabulary.{◌≡◌, ◌∙◌, refl, sym, ap, subst, ℕ, ◌-◌, ◌<◌, true, false, List, [], ◌∷◌, ◌++◌, map, Option}
-use Rattle.osi_blameless.proofs.Vocabulary.{Some, None, arith, inl, inr, ◌⊎◌, ◌≢◌, AllByRecursion, Connect, Value, confirm, written}
-use Rattle.osi_blameless.proofs.Vocabulary.{parts_in, Part, Local, unit_octets, Right, Selecting, zero_puts, IsFirm, picked_join, Continues}
-use Rattle.osi_blameless.proofs.Vocabulary.{Deeds, then_did, units_in, Marked, all_units, Turn, AllProper, Life, early, stage_at}
-use Rattle.osi_blameless.proofs.Vocabulary.{all_units_more, taken_more, CanBeWritten, Joint, TakesTurn, parts_of, HaveSamePlaces}
+use Rattle.osi_blameless.proofs.Vocabulary.{◌≡◌, ◌∙◌, refl, sym, ap, subst, ℕ, ◌-◌, ◌<◌, true, false, List, [], ◌∷◌, ◌++◌, Option, Some}
+use Rattle.osi_blameless.proofs.Vocabulary.{None, arith, inl, inr, ◌⊎◌, ◌≢◌, AllByRecursion, Connect, Value, confirm, parts_in, Part, Local}
+use Rattle.osi_blameless.proofs.Vocabulary.{unit_octets, Right, Selecting, zero_puts, IsFirm, picked_join, Continues, Deeds, then_did}
+use Rattle.osi_blameless.proofs.Vocabulary.{units_in, Marked, all_units, Turn, AllProper, Life, early, stage_at, all_units_more, taken_more}
+use Rattle.osi_blameless.proofs.Vocabulary.{CanBeWritten, Joint, TakesTurn, parts_of, HaveSamePlaces}
 use Rattle.std.proofs.lemmas.List.Concat.{flat_map-append}
 use Rattle.osi_carrier.specs.State.{State as Carrier}
 use Rattle.osi_judge.specs.Courses.{Course as Passed}
@@ -13,13 +13,11 @@ use Rattle.osi_blameless.proofs.steps_are_events.{IsFollowed}
 use Rattle.osi_blameless.proofs.small_facts_that_many_lemmas_use.{can_more as all_more, none_some, all_front, early_lasts}
 use Rattle.osi_blameless.proofs.sessions.a_called_end_answers_with_class_2_or_selects_class_0.{answers_or_selects}
 use Rattle.osi_blameless.proofs.sessions.a_turn_does_what_its_deeds_say.{turn_uses}
-use Rattle.osi_blameless.proofs.sessions.a_turn_of_an_end_in_class_0.{cc_not_dt}
 use Rattle.osi_blameless.proofs.sessions.an_end_answers_with_class_0.{StandsAnswering, first}
 use Rattle.osi_blameless.proofs.sessions.an_end_stands_before_a_class_is_selected.{StandInNone, none_turns}
 use Rattle.osi_blameless.proofs.sessions.each_reference_of_an_end_is_new.{GoesOn, IsAhead, turns_ahead}
-use Rattle.osi_blameless.proofs.sessions.what_a_turn_puts_is_written_alike.{IsWrittenAs, written_as}
 use Rattle.osi_blameless.proofs.sessions.units_of_class_0_come_after_its_cc.{IsQuiet, quiet_none}
-use Rattle.osi_blameless.proofs.sessions.units_written_alike_have_the_same_ccs.{AnswersTwo}
+use Rattle.osi_blameless.proofs.sessions.ccs_among_units.{AnswersTwo}
 use Rattle.osi_blameless.proofs.sessions.what_a_turn_puts_at_the_connections_that_are_open.{IsPlainDt, WasOpen, agree_one, all_marked}
 use Rattle.osi_blameless.proofs.sessions.what_a_turn_puts_at_the_connections_that_are_open.{open_before, puts_cc, takes_cc, then_open}
 use Rattle.osi_blameless.proofs.sessions.what_a_turn_puts_goes_to_its_peer.{all_back, all_so, one_of}
@@ -44,7 +42,7 @@ none_first (x ∷ xs) ys e = absurd (cc)
 no_list : (v : Value) (vs : List Value) → v ∷ vs ≡ [] → ⊥
 no_list v vs e = cc
 
-same_later : (u v : Value) (us vs : List Value) → map written (u ∷ us) ≡ map written (v ∷ vs) → map written us ≡ map written vs
+same_later : (u v : Value) (us vs : List Value) → u ∷ us ≡ v ∷ vs → us ≡ vs
 same_later u v us vs e = cc
 
 -- nothing was taken before, and nothing now
@@ -55,11 +53,10 @@ none_taken a b before now = grind (arith, parts_taken, taken_more, flat_map-appe
 
 module _ (local : Local) (j : Joint) (f : IsFollowed Right (first local) j) (n : ℕ) (x : Connect) (rest : List Value)
     (put : j.put ≡ confirm n x ∷ rest) where
-  pub dts_after : Selecting local f.whole → AllByRecursion (IsWrittenAs IsDt0) rest
+  pub dts_after : Selecting local f.whole → AllByRecursion IsDt0 rest
   dts_after z =
       let limit = unit_octets z.size - 3 in
-      written_as IsDt0 z.more rest
-      (grind (arith, same_later, f))
+      subst (AllByRecursion IsDt0) (same_later _ _ z.more rest (sym z.put ∙ f.put ∙ put))
       (all_data limit 0 z.more (zero_puts limit f.whole.end 0 z.more z.end))
 
   selects : AllByRecursion CanBeWritten j.put → IsFirm j.course.traffic.course → j.course.traffic.course.class ≡ None →
@@ -107,7 +104,7 @@ module _ (local : Local) (proper : AllProper) (turn : Turn) (old new : Joint) (t
       (put : new.put ≡ confirm n x ∷ rest) (not_two : x.class ≡ 2 → ⊥) (positive : 0 < x.source) (e : StandInNone Right deeds old)
       (some : old.begun ≡ true → old.put ≢ [])
       (waits : (deeds x.source).put ≡ waiting_for (Some n) old.put) (unheard : parts_in (deeds x.source).calls ≡ [])
-      (dts : AllByRecursion (IsWrittenAs IsDt0) rest)
+      (dts : AllByRecursion IsDt0 rest)
       (is_x : (q : ℕ) → 0 < q → WasOpen false q (stage_at q end) on.took on.put → q ≡ x.source) where
     links : AllByRecursion IsPlainDt (all_units on.put)
     links = grind (arith, all_back, turn_put, never, all_so, dts)
@@ -168,7 +165,7 @@ module _ (local : Local) (proper : AllProper) (turn : Turn) (old new : Joint) (t
         let on_can = on.can in
         subst (AllByRecursion CanBeWritten) (sym turn_put) (all_more old.put (all_units on.put) h.can on_can)
 
-    dts : AllByRecursion (IsWrittenAs IsDt0) (h.rest ++ all_units on.put)
+    dts : AllByRecursion IsDt0 (h.rest ++ all_units on.put)
     dts =
         let f = g.ahead.followed in
         dts_after local new f h.n h.x (h.rest ++ all_units on.put) then_put
@@ -181,7 +178,7 @@ module _ (local : Local) (proper : AllProper) (turn : Turn) (old new : Joint) (t
     is_x : (q : ℕ) → 0 < q → WasOpen false q (stage_at q end) on.took on.put → q ≡ h.x.source
     is_x q more (open_before peer is) = h.amid_is q peer more is
     is_x q more (puts_cc called n x front later source is) =
-        cc_not_dt n x (one_of (IsWrittenAs IsDt0) (all_units front) (all_units later) (confirm n x)
+        absurd (one_of IsDt0 (all_units front) (all_units later) (confirm n x)
         (grind (arith, all_units_more, all_back, dts)))
     is_x q more (takes_cc may x front later is) = no_cc_taken q q x front later h.none.quiet may is
 

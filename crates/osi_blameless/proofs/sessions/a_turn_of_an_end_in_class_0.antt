@@ -20,7 +20,6 @@ use Rattle.osi_blameless.proofs.sessions.an_end_stands_in_class_0.{within_higher
 use Rattle.osi_blameless.proofs.sessions.class_0_keeps_its_one_place.{HasOne, still_gone}
 use Rattle.osi_blameless.proofs.sessions.each_reference_of_an_end_is_new.{GoesOn, IsWithin, turns_ahead}
 use Rattle.osi_blameless.proofs.sessions.each_step_leaves_class_0_one_connection.{Sure, is_zero}
-use Rattle.osi_blameless.proofs.sessions.what_a_turn_puts_is_written_alike.{IsWrittenAs, first as first_octet, not_two, turn_written}
 use Rattle.osi_blameless.proofs.sessions.steps_leave_all_standing.{step_turns}
 use Rattle.osi_blameless.proofs.sessions.units_of_class_0_come_after_its_cc.{InOrder, IsCcFor, order_back, order_calm}
 use Rattle.osi_blameless.proofs.sessions.what_a_turn_puts_at_the_connections_that_are_open.{WasOpen, agree_apart, agree_one, all_marked}
@@ -31,10 +30,6 @@ use Rattle.osi_blameless.proofs.sessions.what_a_turn_puts_waits.{Agree, marks_wa
 use Rattle.osi_blameless.proofs.sessions.what_an_end_takes_at_each_stage.{AreCalm, turn_takes}
 use Rattle.osi_blameless.proofs.sessions.what_stands_of_a_connection.{waiting_for}
 use Rattle.osi_blameless.proofs.sessions.what_the_stage_of_a_whole_end_says.{AwaitsCc, IsDt0, stage_of, zero_awaits, zero_put}
-
--- a CC is not written as a DT
-pub cc_not_dt : {A : Type 0} (n : ℕ) (x : Connect) → IsWrittenAs IsDt0 (confirm n x) → A
-cc_not_dt n x w = grind (arith, not_two, first_octet)
 
 -- nothing is for the connection before it opens
 calm_of : (d : Direction) (r : ℕ) (s : Time) (took : List Marked) (had others : List Value) → AwaitsCc d had →
@@ -84,11 +79,12 @@ module _ (d : Direction) (local : Local) (proper : AllProper) (turn : Turn) (old
   then_within = within_higher h.ahead.bound g.ahead.bound h.r g.rises h.within
 
   -- all that it puts is DTs
-  dts : AllByRecursion (IsWrittenAs IsDt0) (all_units on.put)
+  dts : AllByRecursion IsDt0 (all_units on.put)
   dts =
       let all = zero_put d local whole (ap (λ (x : State). x.course.class) g.ahead.followed.judge ∙ class_then ∙ z.class)
       (stage_of d local new g.ahead.followed then_firm) in
-      turn_written d (calls_from d) (wholes.begin (calls_from d) local) deeds turn old new t on g.ahead.followed IsDt0 all
+      let put = g.ahead.followed.put in
+      grind (arith, all, put, all_back)
 
   -- what holds of all that had come holds of a CC that was taken
   cc_came : (P : Value → Type 0) (q : ℕ) (x : Connect) (some later : List Marked) → stage_at q end ≡ early →
@@ -102,9 +98,8 @@ module _ (d : Direction) (local : Local) (proper : AllProper) (turn : Turn) (old
   is_r q some (open_before peer is) = h.amid_is q peer some is
   is_r q some (takes_cc may x front later is) = cc_came (IsCcFor h.r) q x front later may is z.ccs q x refl
   is_r q some (puts_cc called n x front later source is) =
-      cc_not_dt n x
-      (one_of (IsWrittenAs IsDt0) (all_units front) (all_units later) (confirm n x)
-      (subst (AllByRecursion (IsWrittenAs IsDt0)) (ap all_units is ∙ all_units_more front ((0, confirm n x) ∷ later)) dts))
+      absurd (one_of IsDt0 (all_units front) (all_units later) (confirm n x)
+      (subst (AllByRecursion IsDt0) (ap all_units is ∙ all_units_more front ((0, confirm n x) ∷ later)) dts))
 
   -- ---- what it puts is for the one connection
 
@@ -137,7 +132,7 @@ module _ (d : Direction) (local : Local) (proper : AllProper) (turn : Turn) (old
           (agree_one r (reference_of (other d) j) some
           (both_named (other d) c j one (ap (λ (y : Connection). is_open y.right.phase) is ∙ only.right)) on.put
           (all_marked (calls_from d) turn old new deeds on life r (λ q more was. is_r q more was ∙ is_it)) on.by_links
-          (all_so (IsWrittenAs IsDt0) (λ v. is_of_link v ≡ true → IsWrittenAs IsDt0 v) (λ v w link. w) (all_units on.put) dts))
+          (all_so IsDt0 (λ v. is_of_link v ≡ true → IsDt0 v) (λ v w link. w) (all_units on.put) dts))
       by false e =
           let apart : i ≡ only.place → ⊥ = unlike i only.place e in
           let gone = z.one.others i j r (λ k. apart (k ∙ sym only_is)) here mine in

@@ -2,9 +2,9 @@
 -- connection is the first of what is left over for it.
 -- For the session of each connection of an end.
 use Rattle.osi_blameless.proofs.Vocabulary.{AllByRecursion, AllProper, CanBeWritten, Connection, Continues, Course, Deeds, Direction}
-use Rattle.osi_blameless.proofs.Vocabulary.{HaveSamePlaces, IsOngoing, Joined, Joint, Left, Life, List, Local, Part, Right, Some}
-use Rattle.osi_blameless.proofs.Vocabulary.{TakesTurn, Time, Tracked, Turn, Value, [], all_units, ap, arith, calls_from, early, false, inl}
-use Rattle.osi_blameless.proofs.Vocabulary.{inr, is_closing, is_some, le-leb, lt-ltb, none_of, number_is, other, reference_of, slice_get}
+use Rattle.osi_blameless.proofs.Vocabulary.{HaveSamePlaces, IsOngoing, Joined, Joint, Left, Life, List, Local, Part, Right, Some, TakesTurn}
+use Rattle.osi_blameless.proofs.Vocabulary.{Time, Tracked, Turn, Value, [], all_units, ap, arith, calls_from, early, false, inl, inr}
+use Rattle.osi_blameless.proofs.Vocabulary.{is_closing, is_some, le-leb, lt-ltb, none_of, number_is, other, reference_of, slice_get}
 use Rattle.osi_blameless.proofs.Vocabulary.{stage_at, subst, sym, then_did, true, units_in, ℕ, ◌++◌, ◌<◌, ◌∙◌, ◌≡◌, ◌≢◌, ◌≤◌, ◌⊎◌}
 use Rattle.osi_judge.specs.Courses.{Course as Passed}
 use Rattle.osi_blameless.proofs.sessions.an_end_is_ready_for_each_cc_that_passes as ccs
@@ -26,12 +26,11 @@ use Rattle.osi_blameless.proofs.sessions.nothing_is_done_before_a_cr_passes.{IsN
 use Rattle.osi_blameless.proofs.sessions.references_of_an_end_are_distinct.{AreDistinct}
 use Rattle.osi_blameless.proofs.sessions.steps_leave_all_standing.{step_turns}
 use Rattle.osi_blameless.proofs.sessions.the_dr_of_the_other_side_is_in_flight.{AreShut, turn_shut}
-use Rattle.osi_blameless.proofs.sessions.units_written_alike_have_the_same_ccs.{AnswersTwo}
+use Rattle.osi_blameless.proofs.sessions.ccs_among_units.{AnswersTwo}
 use Rattle.osi_blameless.proofs.sessions.what_an_end_takes_at_each_stage.{AreReady}
 use Rattle.osi_blameless.proofs.sessions.what_is_left_for_an_end.{known_left}
 use Rattle.osi_blameless.proofs.sessions.what_stands_of_a_connection.{Takes, waiting_for}
 use Rattle.osi_blameless.proofs.small_facts_that_many_lemmas_use.{can_more, early_lasts}
-use Rattle.osi_blameless.proofs.what_is_put_is_what_is_written.{none_written}
 
 first_so : {A B C : Type 0} → (A → C) → A ⊎ B → C ⊎ B
 first_so f (inl a) = inl (f a)
@@ -168,7 +167,7 @@ module _ (local : Local) (two : local.class2 ≡ true) where
             (subst (λ (n : ℕ). 0 < n → stage_at n old.holding.end.carrier ≡ early → Tracked old.course.traffic.connections n) same
             (tracked i c there closing) some may)) may) live,
       )) h.shut)
-      (λ begun. none_written old.put f.whole.put (sym f.put) ((whole_followed local two old f clear).some (f.begun ∙ begun))) clear h own
+      (λ begun none. (whole_followed local two old f clear).some (f.begun ∙ begun) (f.put ∙ none)) clear h own
 
 -- ---- a turn of an end that is called
 
@@ -203,5 +202,5 @@ answers_turn local proper turn old new t deeds on life units can two clear h =
           let over = early_above local deeds old h.own h.can clear r up.0 may in
           let low = up.1 in absurd (omega (arith, low, over))) live,
     )) h.shut)
-    (grind (arith, none_written)) clear h
+    (λ begun none. lines.called.some (f.begun ∙ begun) (sym lines.called.put ∙ f.put ∙ none)) clear h
     (ccs.turns_own local proper turn old new t deeds on life units h.can then_can a.places clear h.own two)

@@ -1,17 +1,16 @@
 -- At every step of an end and of a judge a whole end runs along, and references are apart at the judge. A calling end that offers class 2
 -- has its lines; a called end has them, also when it is over, unless the CC that waits first selects class 0.
 -- For the units that an end puts.
-use Rattle.osi_blameless.proofs.Vocabulary.{Direction, Followed, Follows, IsOngoing, Joint, Left, Right, Local, State, Whole, first_joined}
-use Rattle.osi_blameless.proofs.Vocabulary.{subst, sym, true, false, ◌≡◌, refl, inl, inr, ◌⊎◌, AllByRecursion, Zero, acceptance}
-use Rattle.osi_blameless.proofs.Vocabulary.{CanBeWritten, lines, selected, selecting, Selecting, Called, IsCalled, NamesApart, Stage}
-use Rattle.osi_blameless.proofs.Vocabulary.{AreNamedApart}
+use Rattle.osi_blameless.proofs.Vocabulary.{Direction, Followed, Follows, IsOngoing, Joint, Left, Right, Local, State, Whole, first_joined, subst, sym}
+use Rattle.osi_blameless.proofs.Vocabulary.{true, false, ◌≡◌, ◌∙◌, refl, inl, inr, ◌⊎◌, AllByRecursion, Zero, acceptance, CanBeWritten}
+use Rattle.osi_blameless.proofs.Vocabulary.{lines, selected, selecting, Selecting, Called, IsCalled, NamesApart, Stage, AreNamedApart}
 use Rattle.osi_rules.specs.declared.directions.Direction.TheVariants as way
 use Rattle.osi_fair.specs.Wholes as wholes
 use Rattle.osi_fair.proofs.a_called_end_is_fair as fair
 use Rattle.osi_fair.proofs.a_calling_end_is_fair_in_class_2.{all_joined}
 use Rattle.osi_blameless.proofs.steps_are_events.{IsFollowed}
 use Rattle.osi_blameless.proofs.sessions.a_right_dt_has_one_place.{AreUsedApart, named_apart}
-use Rattle.osi_blameless.proofs.sessions.units_written_alike_have_the_same_ccs.{AnswersTwo, AreAlike, first_not_zero}
+use Rattle.osi_blameless.proofs.sessions.ccs_among_units.{AnswersTwo, first_not_zero}
 
 -- ---- as long as both sides are judged
 
@@ -68,9 +67,7 @@ module _ (local : Local) (j : Joint) (f : IsFollowed Right (wholes.begin false l
       lines_by : HasLines local f.whole ⊎ Selecting local f.whole → HasLines local f.whole
       lines_by (inl has) = has
       lines_by (inr z) =
-          let alike : AreAlike f.whole.put j.put = record { same = f.put; can = f.can; can_too = can } in
-          first_not_zero z.x.source (acceptance Zero z.size z.x local z.r) z.more j.put
-          (subst (λ l. AreAlike l j.put) z.put alike) refl two
+          first_not_zero z.x.source (acceptance Zero z.size z.x local z.r) z.more j.put (sym z.put ∙ f.put) refl two
 
       pub has_lines : HasLines local f.whole
       has_lines = lines_by lines_or_selects

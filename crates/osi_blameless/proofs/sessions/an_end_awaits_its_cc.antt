@@ -2,22 +2,21 @@
 -- and is no break, or is passed over. The CC of class 0 opens the connection for which it comes, and no other one is left then. For the
 -- session of the connection of an end in class 0.
 use Rattle.osi_blameless.proofs.Vocabulary.{units_of, IsOctets, Ok, ◌≡◌, ◌≢◌, ◌∙◌, refl, sym, ap, subst, ℕ, ◌^◌, ◌<◌, ◌≤◌, Bool, true}
-use Rattle.osi_blameless.proofs.Vocabulary.{false, List, [], ◌∷◌, ◌++◌, length, map, Option, Some, None, is_some, arith, slice_get}
-use Rattle.osi_blameless.proofs.Vocabulary.{append-nil, append_assoc, ◌||◌, ◌⊎◌, inl, inr, AllByRecursion, Connect, HasFieldsInRange, Value}
-use Rattle.osi_blameless.proofs.Vocabulary.{acknowledge, confirm, data0, data2, disconnect, disconnected, error, request, written}
-use Rattle.osi_blameless.proofs.Vocabulary.{units_fit, units_found, Class, Two, Zero, Local, EndReason, Left, Right, Finding, TooMany}
-use Rattle.osi_blameless.proofs.Vocabulary.{Reach, is_applied, State, class_for, class_of, is_stopped, stops_by, takes, stops_are_said}
-use Rattle.osi_blameless.proofs.Vocabulary.{has_given, Whole, Holding, fresh_apart, no_item, left_class, Holds, holds_next, Deeds, no_deeds}
-use Rattle.osi_blameless.proofs.Vocabulary.{units_in, IsFresh, AllProper, amid, past, stage_at, stage_over, Joined, spoken, Course}
-use Rattle.osi_blameless.proofs.Vocabulary.{packet_begins, unit_passes, units_pass, heard, parts_of, Joint, Steps, begin, begins_other}
-use Rattle.osi_blameless.proofs.Vocabulary.{begins_own, passes_other, passes_own}
+use Rattle.osi_blameless.proofs.Vocabulary.{false, List, [], ◌∷◌, ◌++◌, length, Option, Some, None, is_some, arith, slice_get, append-nil}
+use Rattle.osi_blameless.proofs.Vocabulary.{append_assoc, ◌||◌, ◌⊎◌, inl, inr, AllByRecursion, Connect, HasFieldsInRange, Value}
+use Rattle.osi_blameless.proofs.Vocabulary.{acknowledge, confirm, data0, data2, disconnect, disconnected, error, request, units_fit}
+use Rattle.osi_blameless.proofs.Vocabulary.{units_found, Class, Two, Zero, Local, EndReason, Left, Right, Finding, TooMany, Reach}
+use Rattle.osi_blameless.proofs.Vocabulary.{is_applied, State, class_for, class_of, is_stopped, stops_by, takes, stops_are_said, has_given}
+use Rattle.osi_blameless.proofs.Vocabulary.{Whole, Holding, fresh_apart, no_item, left_class, Holds, holds_next, Deeds, no_deeds, units_in}
+use Rattle.osi_blameless.proofs.Vocabulary.{IsFresh, AllProper, amid, past, stage_at, stage_over, Joined, spoken, Course, packet_begins}
+use Rattle.osi_blameless.proofs.Vocabulary.{unit_passes, units_pass, heard, parts_of, Joint, Steps, begin, begins_other, begins_own}
+use Rattle.osi_blameless.proofs.Vocabulary.{passes_other, passes_own}
 use Rattle.osi_carrier.specs.State.{State as Carrier}
 use Rattle.osi_rules.specs.declared.directions.Direction.TheVariants as way
 use Rattle.osi_fair.specs.Wholes as wholes
 use Rattle.osi_blameless.proofs.a_carrier_does_events.{IsLike, none_of}
 use Rattle.osi_blameless.proofs.a_break_ends_no_judging_or_all.{reach_so}
 use Rattle.osi_blameless.proofs.small_facts_that_many_lemmas_use.{all_front, all_join, given_so, none_some, over_none, ranges_of}
-use Rattle.osi_blameless.proofs.steps_are_events.{own_first}
 use Rattle.osi_blameless.proofs.what_a_taker_passes_over.{IsMild, mild_reach}
 use Rattle.osi_blameless.proofs.sessions.a_cc_of_class_0_opens_one_connection.{awaits_this, cc_opens, effect, opens_within}
 use Rattle.osi_blameless.proofs.sessions.a_turn_does_what_its_deeds_say.{units_more}
@@ -47,10 +46,6 @@ use Rattle.osi_blameless.proofs.sessions.what_the_stage_of_a_whole_end_says.{own
 
 -- ---- small facts
 
-no_written : (put : List Value) → [] ≡ map written put → put ≡ []
-no_written [] e = refl
-no_written (v ∷ put) e = absurd (cc)
-
 same_number : (m n : ℕ) (x y : Connect) → confirm m x ≡ confirm n y → n ≡ m
 same_number m n x y e = cc
 
@@ -64,13 +59,13 @@ zero_of Two not = absurd (not refl)
 pub undone_higher : (b n : ℕ) (deeds : ℕ → Deeds) (c : Carrier) → b ≤ n → AreUndone b deeds c → AreUndone n deeds c
 undone_higher b n deeds c up u r less = u r (omega (arith, up, less))
 
--- a whole end with this judge and an end like this one, which has put units that are written as these
+-- a whole end with this judge and an end like this one, which has put these units
 pub record IsWith (local : Local) (end : Carrier) (put : List Value) (c : Course) : Type 0 where
   pub whole : Whole
   pub holds : Holds local whole
   pub judge : whole.judge ≡ c.traffic
   pub like : IsLike whole.end end
-  pub same : map written whole.put ≡ map written put
+  pub same : whole.put ≡ put
 
 -- ---- a unit of the other side
 
@@ -175,7 +170,7 @@ module _ (local : Local) (deeds : ℕ → Deeds) (end : Carrier) (put : List Val
         (ap (λ (s : State). (takes way.Right v s).state.course.left_stopped) w.judge ∙ then_left)
 
     none_put : put ≡ []
-    none_put = no_written put (ap (λ (l : List Value). map written l) (sym came.0) ∙ w.same)
+    none_put = sym w.same ∙ came.0
 
     -- every other reference is gone
     past_by : (q : ℕ) → end.ended ≡ None → q ≤ end.given → 0 < q → (q ≡ n → ⊥) → w.whole.end.ended ≡ None →
@@ -440,10 +435,10 @@ module _ (local : Local) where
     unanswered_own_passes at v old new (read, octets, put, begun, is) right h =
         let mid = own_passed at v old new.put in
         let f = h.ahead.followed in
-        let s = own_first Left first old mid v (read, octets, put) f in
+        let s : f.whole.put ≡ v ∷ new.put = f.put ∙ put in
         let zero_not : f.whole.judge.course.class ≡ Some Two → ⊥ =
         λ two. none_some old.course.traffic.course.class Two h.none.class (ap (λ (t : State). t.course.class) (sym f.judge) ∙ two) in
-        let kind = own_unit local f.whole v s.rest
-        ((runs_staged local old f).stage (ap (λ (t : State). t.course.left_stopped) f.judge ∙ right.goes)) s.is
+        let kind = own_unit local f.whole v new.put
+        ((runs_staged local old f).stage (ap (λ (t : State). t.course.left_stopped) f.judge ∙ right.goes)) s
         (f.begun ∙ begun) zero_not in
         subst Stands (sym is) (by_kind at v old new.put f.whole f.judge kind (read, octets, put, begun, refl) right h)

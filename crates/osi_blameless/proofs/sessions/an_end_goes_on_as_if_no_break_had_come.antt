@@ -2,13 +2,13 @@
 -- is over with the break; and the judge joins nothing more of the other side. For the law that no session of an end is to blame after such
 -- a break.
 use Rattle.osi_blameless.proofs.Vocabulary.{◌≡◌, ◌∙◌, ◌⊎◌, inl, inr, refl, sym, ap, subst, ℕ, ◌^◌, ◌<◌, Bool, true, false, List, [], ◌∷◌}
-use Rattle.osi_blameless.proofs.Vocabulary.{◌++◌, map, length, Option, Ok, Some, None, IsSome, arith, append_assoc, AllByRecursion, lt-ltb}
+use Rattle.osi_blameless.proofs.Vocabulary.{◌++◌, length, Option, Ok, Some, None, IsSome, arith, append_assoc, AllByRecursion, lt-ltb}
 use Rattle.osi_blameless.proofs.Vocabulary.{append-nil, empty_partial, ArePackets, units_of, Value, data0, written, Standing, Two, Zero}
 use Rattle.osi_blameless.proofs.Vocabulary.{Local, packets, EndReason, other, Direction, Kept, is_stopped, takes, stops_last, lasting_of}
 use Rattle.osi_blameless.proofs.Vocabulary.{TakesPackets, End, Holding, Deeds, all_units, Takes, Turn, over_acts, IsHardPacket, IsLast}
 use Rattle.osi_blameless.proofs.Vocabulary.{IsZeroAt, hard_ends, leads_to, Stopped, TakesFirst, none_held, prefix_or, stopped_there, TurnOf}
 use Rattle.osi_blameless.proofs.Vocabulary.{turn_continues, Known, packet_begins, unit_passes, units_pass, way_of, Joint, Steps, TakesTurn}
-use Rattle.osi_blameless.proofs.Vocabulary.{begins_other, begins_own, passes_own, turns, calls_from}
+use Rattle.osi_blameless.proofs.Vocabulary.{begins_other, begins_own, passes_own, turns, calls_from, packets_once, CanBeWritten}
 use Rattle.osi_fair.specs.Pieces.{units_in}
 use Rattle.osi_fair.specs.Wholes as wholes
 use Rattle.osi_stack.specs.Feeding.{stops}
@@ -19,7 +19,6 @@ use Rattle.osi_blameless.proofs.in_class_0_one_side_alone_is_judged.{IsAlone, al
 use Rattle.osi_blameless.proofs.steps_are_events.{IsFollowed, step_followed}
 use Rattle.osi_blameless.proofs.no_unit_of_a_whole_end_is_a_break.{IsNoBreak}
 use Rattle.osi_blameless.proofs.what_is_judged_beside_a_halted_side.{IsBeside, beside_own}
-use Rattle.osi_blameless.proofs.what_is_put_is_what_is_written.{none_written, same_written, starts_with, written_join}
 use Rattle.osi_blameless.proofs.what_passes_keeps_a_claim.{step_kept}
 use Rattle.osi_blameless.proofs.sessions.a_dt_that_is_too_long_stays_so.{IsTooLong, begins_too_long, only_of, passes_too_long}
 use Rattle.osi_blameless.proofs.sessions.what_the_stage_of_a_whole_end_says.{own_is_dt}
@@ -65,7 +64,7 @@ module _ (known : Known) (d : Direction) (local : Local)
   -- An end and a judge, and the same without the break.
   pub record Alone (ends : Bool) (deeds : ℕ → Deeds) (without j : Joint) : Type 0 where
     pub goes : Judged deeds without
-    pub put : map written without.put ≡ map written j.put
+    pub put : without.put ≡ j.put
     pub begun : without.begun ≡ j.begun
     pub beside : IsBeside d j.course without.course
     pub alone : IsAlone d j.course
@@ -131,7 +130,7 @@ module _ (known : Known) (d : Direction) (local : Local)
         without = w;
         is = record {
           goes = own_begins_goes known.proper Two d local Inv k v w
-              (none_written v.put old.put h.put some, h.begun ∙ none, refl)
+              ((λ nothing. some (sym h.put ∙ nothing)), h.begun ∙ none, refl)
               (grind arith) a.deeds h.goes;
           put = h.put;
           begun = refl;
@@ -182,10 +181,9 @@ module _ (known : Known) (d : Direction) (local : Local)
   own_alone_so ends at unit old new (read, octets, put, begun, is) a =
       let v = a.without in
       let h = a.is in
-      let s = starts_with v.put new.put unit (h.put ∙ ap (λ (l : List Value). map written l) put) h.goes.can read octets in
-      let w : Joint = record v { put = s.rest; begun = false; course = units_pass d at (unit ∷ []) v.course } in
+      let w : Joint = record v { put = new.put; begun = false; course = units_pass d at (unit ∷ []) v.course } in
       let mid : Joint = record old { put = new.put; begun = false; course = units_pass d at (unit ∷ []) old.course } in
-      let step : Steps d (passes_own at unit) v w = (read, octets, s.is, h.begun ∙ begun, refl) in
+      let step : Steps d (passes_own at unit) v w = (read, octets, h.put ∙ put, h.begun ∙ begun, refl) in
       let goes = goes_so d v.course h.goes.judged in
       let dt = own_is_dt local d at unit v w step h.goes.followed (firm_so v.course h.goes.judged)
       (zero_without old.course v.course h.beside h.alone) in
@@ -202,7 +200,7 @@ module _ (known : Known) (d : Direction) (local : Local)
           goes = own_goes known.proper Two d local Inv k a.deeds at unit v w step h.goes
               (zero_not old.course v.course h.beside h.alone)
               (zero_not (unit_passes d at unit old.course) (unit_passes d at unit v.course) b then_alone) none far;
-          put = s.same;
+          put = refl;
           begun = refl;
           beside = b;
           alone = then_alone;
@@ -260,6 +258,7 @@ module _ (known : Known) (d : Direction) (local : Local)
     units : List Value
     put : w.put ≡ v.put ++ units
     written_is : turn.put ≡ packets units
+    can : AllByRecursion CanBeWritten units
     begun : w.begun ≡ v.begun
     course : w.course ≡ v.course
 
@@ -290,16 +289,17 @@ module _ (known : Known) (d : Direction) (local : Local)
     not_two : v.course.traffic.course.class ≡ Some Two → ⊥
     not_two = zero_not old.course v.course h.beside h.alone
 
-    put_then : (w : Joint) (units : List Value) → w.put ≡ v.put ++ units → packets units ≡ turn.put →
-        map written w.put ≡ map written new.put
-    put_then w units put is = search (arith, written_join, same_written)
+    put_then : (w : Joint) (units : List Value) → w.put ≡ v.put ++ units → AllByRecursion CanBeWritten units →
+        packets units ≡ turn.put → w.put ≡ new.put
+    put_then w units put can is =
+        let same = packets_once units t.units can t.can (is ∙ t.written) in put ∙ (λ i. h.put i ++ same i) ∙ sym t.put
 
     -- without a turn
     idle : turn.put ≡ [] → IsSome new.holding.end.carrier.ended → IsAsWithout ends new
     idle none over = record {
       deeds = deeds;
       without = v;
-      is = grind (arith, then_followed, put_then v [] (sym (append-nil v.put)) (sym none), append-nil v.put);
+      is = grind (arith, then_followed, put_then v [] (sym (append-nil v.put)) tt (sym none), append-nil v.put);
     }
 
     -- with one
@@ -310,7 +310,7 @@ module _ (known : Known) (d : Direction) (local : Local)
       without = n.w;
       is = record {
         goes = n.goes;
-        put = put_then n.w n.units n.put (sym n.written_is ∙ same);
+        put = put_then n.w n.units n.put n.can (sym n.written_is ∙ same);
         begun = n.begun ∙ h.begun ∙ sym t.begun;
         beside = grind arith;
         alone = subst (IsAlone d) (sym t.course) h.alone;

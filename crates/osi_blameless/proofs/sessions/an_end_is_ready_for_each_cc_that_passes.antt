@@ -11,6 +11,7 @@ use Rattle.osi_blameless.proofs.Vocabulary.{units_in, units_taken, Marked, all_u
 use Rattle.osi_blameless.proofs.Vocabulary.{amid, early, past, stage_at, stage_by, stage_is, stage_over, all_units_more, taken_more}
 use Rattle.osi_blameless.proofs.Vocabulary.{CanBeWritten, Sessions, Course, Joint, Steps, TakesTurn, passes_own, parts_of, HaveSamePlaces}
 use Rattle.osi_blameless.proofs.Vocabulary.{differ, above_up, IsOngoing}
+use Rattle.osi_blameless.proofs.Vocabulary.{AreAbove}
 use Rattle.osi_carrier.specs.State.{Connection as Live, State as Carrier, asked}
 use Rattle.osi_fair.specs.Wholes as wholes
 use Rattle.osi_honest.proofs.courses.how_long_a_connection_is_open.{Stage}
@@ -18,8 +19,7 @@ use Rattle.osi_blameless.proofs.a_carrier_does_events.{none_of}
 use Rattle.osi_blameless.proofs.small_facts_that_many_lemmas_use.{amid_not, early_lasts, given_so, past_not}
 use Rattle.osi_blameless.proofs.steps_are_events.{IsFollowed}
 use Rattle.osi_blameless.proofs.sessions.a_whole_end_runs_along.{HasLines, has_lines}
-use Rattle.osi_blameless.proofs.sessions.a_called_end_of_class_2_puts_no_dt_of_class_0.{called_put_two}
-use Rattle.osi_blameless.proofs.sessions.what_a_turn_puts_is_written_alike.{turn_not_zero}
+use Rattle.osi_blameless.proofs.sessions.a_called_end_of_class_2_puts_no_dt_of_class_0.{called_turn_two}
 use Rattle.osi_blameless.proofs.sessions.an_end_of_class_2_goes_on.{OwnInTwo}
 use Rattle.osi_blameless.proofs.sessions.a_turn_does_what_its_deeds_say.{turn_leaves, turn_uses}
 use Rattle.osi_blameless.proofs.sessions.a_unit_is_joined_where_it_is_named.{joined_any}
@@ -33,10 +33,9 @@ use Rattle.osi_blameless.proofs.sessions.each_unit_of_a_turn_has_one_connection.
 use Rattle.osi_blameless.proofs.sessions.nothing_comes_before_a_cc_passes.{IsBelow, below_higher, none_waits}
 use Rattle.osi_blameless.proofs.sessions.nothing_is_done_before_a_cr_passes.{known_from, may_take}
 use Rattle.osi_blameless.proofs.sessions.references_of_an_end_are_distinct.{GivesNew, IsUnused}
-use Rattle.osi_blameless.proofs.sessions.units_written_alike_have_the_same_ccs.{AnswersTwo, AreAlike, AreOrdered, HasCc, IsCc, has_either}
-use Rattle.osi_blameless.proofs.sessions.units_written_alike_have_the_same_ccs.{has_above, has_alike}
-use Rattle.osi_blameless.proofs.sessions.units_written_alike_have_the_same_ccs.{has_back, has_front, none_before, not_twice_alike}
-use Rattle.osi_blameless.proofs.sessions.units_written_alike_have_the_same_ccs.{ordered_alike}
+use Rattle.osi_blameless.proofs.sessions.ccs_among_units.{AnswersTwo, AreOrdered, HasCc, IsCc, has_either}
+use Rattle.osi_blameless.proofs.sessions.ccs_among_units.{has_above}
+use Rattle.osi_blameless.proofs.sessions.ccs_among_units.{has_back, has_front, none_before, not_twice}
 use Rattle.osi_blameless.proofs.sessions.what_a_turn_puts_goes_to_its_peer.{all_back, same_units}
 use Rattle.osi_blameless.proofs.sessions.what_an_end_takes_at_a_connection.{apart_none, during_taken}
 use Rattle.osi_blameless.proofs.sessions.what_is_in_flight_to_an_end.{parts_taken}
@@ -112,7 +111,7 @@ module _ (local : Local) where
   -- a CC that waits is above all references at the judge
   pub waits_above : (j : Joint) (h : IsAhead Right first j) → AllByRecursion CanBeWritten j.put → (n r : ℕ) → HasCc n r j.put →
       h.bound < r
-  waits_above j h can n r has = grind (arith, has_above, has_alike)
+  waits_above j h can n r has = grind (arith, has_above, h.followed)
 
   -- ---- a unit that passes
 
@@ -198,12 +197,6 @@ module _ (local : Local) where
     after : HasLines local g.ahead.followed.whole
     after = has_lines local new g.ahead.followed (grind arith) can_new turn_two
 
-    alike_old : AreAlike f.whole.put old.put
-    alike_old = record { same = f.put; can = f.can; can_too = can }
-
-    alike_new : AreAlike g.ahead.followed.whole.put new.put
-    alike_new = record { same = g.ahead.followed.put; can = g.ahead.followed.can; can_too = can_new }
-
     -- the reference of a CC that waits now
     above_old : (n r : ℕ) → HasCc n r new.put → h.ahead.bound < r
     above_old n r has = grind (arith, g, waits_above new g.ahead can_new n r has)
@@ -229,20 +222,19 @@ module _ (local : Local) where
 
     turn_ordered : AreOrdered new.put
     turn_ordered =
-        ordered_alike g.ahead.followed.whole.put new.put alike_new
-        (put_ordered local g.ahead.followed.whole new.course.sessions after
-        (grind (arith, g)))
+        subst AreOrdered g.ahead.followed.put
+        (put_ordered local g.ahead.followed.whole new.course.sessions after (grind (arith, g)))
 
     put_more : (n r : ℕ) → HasCc n r new.put → (on.more r).put ≡ waiting_for (Some n) (all_units on.put)
-    put_more n r has = search (arith, puts_for, g, before, after, no_cc, alike_old, alike_new, home_low, above_old)
+    put_more n r has = search (arith, puts_for, g, before, after, no_cc, home_low, above_old)
 
     -- nothing was put there before the CC
     none_put_before : (n r : ℕ) → HasCc n r (all_units on.put) → h.ahead.bound < r →
         ((deeds r).put ≡ []) ⊎ ((m : ℕ) × HasCc m r old.put) → (deeds r).put ≡ []
     none_put_before n r has less (inl none) = none
     none_put_before n r has less (inr (m, waited)) =
-        not_twice_alike g.ahead.followed.whole.end.given g.ahead.bound m n r g.ahead.followed.whole.put old.put (all_units on.put)
-        (subst (AreAlike g.ahead.followed.whole.put) turn_put alike_new) g.ahead.above waited has
+        not_twice g.ahead.followed.whole.end.given g.ahead.bound m n r old.put (all_units on.put)
+        (subst (AreAbove g.ahead.followed.whole.end.given g.ahead.bound) (g.ahead.followed.put ∙ turn_put) g.ahead.above) waited has
 
     waits_by : (n r : ℕ) → HasCc n r new.put → HasCc n r old.put ⊎ HasCc n r (all_units on.put) →
         (deeds r).put ++ (on.more r).put ≡ waiting_for (Some n) (old.put ++ all_units on.put)
@@ -292,7 +284,7 @@ module _ (local : Local) where
       turn_spent : ((then_did (deeds r) (on.more r)).put ≡ []) ⊎ ((n : ℕ) × HasCc n r new.put)
       turn_spent =
           spent_by (h.holds.spent r less)
-          (search (arith, named, g, before, after, no_cc, alike_old, alike_new, some))
+          (search (arith, named, g, before, after, no_cc, some))
 
     -- ---- each unit of the turn has a home
 
@@ -313,8 +305,7 @@ module _ (local : Local) where
         by : (o : Option EndReason) → carrier.ended ≡ o → AllByRecursion (IsMarked Right old.course.traffic old.course.sessions) on.put
         by None lasts =
             called_marked local deeds turn old new t on f before places news
-            (turn_not_zero Right false first deeds turn old new t on g.ahead.followed
-            (called_put_two local g.ahead.followed.whole after.called)) no_cc
+            (called_turn_two local deeds turn old new t on g.ahead.followed units after.called) no_cc
         by (Some reason) gone =
             let done = over_acts turn old.holding new.holding (subst IsSome (sym gone) refl) t.takes in
             grind (arith, none_put)

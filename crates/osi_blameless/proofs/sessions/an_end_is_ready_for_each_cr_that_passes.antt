@@ -4,7 +4,7 @@
 use Rattle.osi_blameless.proofs.Vocabulary.{◌≡◌, refl, sym, subst, ℕ, ◌<◌, true, AllByRecursion, Value, acknowledge, confirm, data0, data2}
 use Rattle.osi_blameless.proofs.Vocabulary.{disconnect, disconnected, error, request, Local, Left, IsOngoing, Continues, Deeds, then_did}
 use Rattle.osi_blameless.proofs.Vocabulary.{units_in, Turn, AllProper, Life, stage_at, Joint, Steps, TakesTurn, passes_own, HaveSamePlaces}
-use Rattle.osi_blameless.proofs.steps_are_events.{own_first}
+use Rattle.osi_blameless.proofs.Vocabulary.{◌∙◌, ◌∷◌}
 use Rattle.osi_blameless.proofs.sessions.a_whole_end_runs_along.{first, whole_followed}
 use Rattle.osi_blameless.proofs.sessions.a_turn_does_what_its_deeds_say.{turn_leaves}
 use Rattle.osi_blameless.proofs.sessions.what_a_turn_puts_goes_to_its_peer.{all_back}
@@ -24,11 +24,11 @@ module _ (local : Local) (two : local.class2 ≡ true) where
       old.course.sessions
   is_ready deeds at (request x) old new (read, octets, put, begun, is) clear h =
       let f = h.ahead.followed in
-      let s = own_first Left (first local two) old new (request x) (read, octets, put) f in
-      let k = passes_asked h.ahead.bound x s.rest f.whole (record f.whole { put = s.rest }) s.is refl refl h.ahead.above in
+      let s : f.whole.put ≡ request x ∷ new.put = f.put ∙ put in
+      let k = passes_asked h.ahead.bound x new.put f.whole (record f.whole { put = new.put }) s refl refl h.ahead.above in
       cr_ready h.ahead.bound deeds old.holding.end.carrier x (units_in old.coming) new.put old.course.traffic old.course.sessions k.new_is
       h.holds.undone
-      (λ lasts. cr_calm local (first local two) old f (whole_followed local two old f clear) x s.rest s.is h.holds.zero lasts)
+      (λ lasts. cr_calm local (first local two) old f (whole_followed local two old f clear) x new.put s h.holds.zero lasts)
   is_ready deeds at (confirm n x) old new step clear h = tt
   is_ready deeds at (disconnect n source reason user) old new step clear h = tt
   is_ready deeds at (disconnected n source) old new step clear h = tt

@@ -1,10 +1,10 @@
 -- What holds of an end of class 2 alone beside a judge: of what it has put and not yet passed, and of what has come. So it is at the
 -- beginning, as packets begin, and as those of the other side pass.
 -- For all connections of an end and a judge.
-use Rattle.osi_blameless.proofs.Vocabulary.{◌≡◌, ◌⊎◌, inl, refl, sym, subst, ℕ, ◌<◌, ◌≤◌, List, [], ◌∷◌, ◌++◌, Some, arith}
-use Rattle.osi_blameless.proofs.Vocabulary.{AllByRecursion, Value, Local, Direction, Left, Right, other, Holding}
-use Rattle.osi_blameless.proofs.Vocabulary.{Deeds, no_deeds, units_in, units_taken, IsFresh, AllProper, stage_is, packet_begins}
-use Rattle.osi_blameless.proofs.Vocabulary.{units_pass, Joint, Steps, begin, begins_other, begins_own, passes_other, calls_from, true}
+use Rattle.osi_blameless.proofs.Vocabulary.{◌≡◌, ◌⊎◌, inl, refl, sym, subst, ℕ, ◌<◌, ◌≤◌, List, [], ◌∷◌, ◌++◌, Some, arith, AllByRecursion}
+use Rattle.osi_blameless.proofs.Vocabulary.{Value, Local, Direction, Left, Right, other, Holding, Deeds, no_deeds, units_in, units_taken}
+use Rattle.osi_blameless.proofs.Vocabulary.{IsFresh, AllProper, stage_is, packet_begins, units_pass, Joint, Steps, begin, begins_other}
+use Rattle.osi_blameless.proofs.Vocabulary.{begins_own, passes_other, calls_from, true}
 use Rattle.osi_carrier.specs.State.{State as Carrier}
 use Rattle.osi_fair.specs.Wholes as wholes
 use Rattle.osi_blameless.proofs.small_facts_that_many_lemmas_use.{all_join}
@@ -13,7 +13,7 @@ use Rattle.osi_blameless.proofs.sessions.each_reference_of_an_end_is_new.{AreUpT
 use Rattle.osi_blameless.proofs.sessions.each_reference_of_an_end_is_new.{first_ahead, passes_other_ahead}
 use Rattle.osi_blameless.proofs.sessions.nothing_comes_before_a_cc_passes.{IsBelow, below_higher}
 use Rattle.osi_blameless.proofs.sessions.nothing_is_done_before_a_cr_passes.{AreUndone, IsNoZero}
-use Rattle.osi_blameless.proofs.sessions.units_written_alike_have_the_same_ccs.{AnswersTwo, AreOrdered, HasCc}
+use Rattle.osi_blameless.proofs.sessions.ccs_among_units.{AnswersTwo, AreOrdered, HasCc}
 use Rattle.osi_blameless.proofs.sessions.what_stands_of_a_connection.{waiting_for}
 
 -- An end that calls: nothing is done at a connection whose CR has not passed, and no DT of class 0 has come.

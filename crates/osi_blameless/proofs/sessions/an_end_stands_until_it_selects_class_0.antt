@@ -1,13 +1,13 @@
 -- Until a called end selects class 0 all its connections stand at a judge, while it has selected no class and while its CC of class 2
 -- waits. For the session of the connection of an end in class 0.
 use Rattle.osi_blameless.proofs.Vocabulary.{arith, ◌≡◌, ◌∙◌, ◌⊎◌, inl, inr, refl, sym, ap, subst, ℕ, ◌^◌, ◌<◌, Bool, true, false}
-use Rattle.osi_blameless.proofs.Vocabulary.{if◌then◌else◌, List, [], ◌∷◌, ◌++◌, length, Some, None, slice_get, AllByRecursion}
-use Rattle.osi_blameless.proofs.Vocabulary.{Connect, Value, confirm, Two, Zero, Local, Left, Right, IsNoCc}
-use Rattle.osi_blameless.proofs.Vocabulary.{State, class_for, Holding, Selecting, left_class, IsClear, IsFirm, Deeds, no_deeds}
-use Rattle.osi_blameless.proofs.Vocabulary.{then_did, units_in, Marked, all_units, IsFresh, Turn, AllProper, amid, stage_at}
-use Rattle.osi_blameless.proofs.Vocabulary.{stage_is, stage_there, all_units_more, CanBeWritten, Joined, spoken, packet_begins, unit_passes}
-use Rattle.osi_blameless.proofs.Vocabulary.{units_pass, heard, Joint, Steps, TakesTurn, begin, begins_other, begins_own, passes_other}
-use Rattle.osi_blameless.proofs.Vocabulary.{passes_own, going_on, IsOngoing, takes, class_of, Class, ◌==◌}
+use Rattle.osi_blameless.proofs.Vocabulary.{if◌then◌else◌, List, [], ◌∷◌, ◌++◌, length, Some, None, slice_get, AllByRecursion, Connect}
+use Rattle.osi_blameless.proofs.Vocabulary.{Value, confirm, Two, Zero, Local, Left, Right, IsNoCc, State, class_for, Holding, Selecting}
+use Rattle.osi_blameless.proofs.Vocabulary.{left_class, IsClear, IsFirm, Deeds, no_deeds, then_did, units_in, Marked, all_units, IsFresh}
+use Rattle.osi_blameless.proofs.Vocabulary.{Turn, AllProper, amid, stage_at, stage_is, stage_there, all_units_more, CanBeWritten, Joined}
+use Rattle.osi_blameless.proofs.Vocabulary.{spoken, packet_begins, unit_passes, units_pass, heard, Joint, Steps, TakesTurn, begin}
+use Rattle.osi_blameless.proofs.Vocabulary.{begins_other, begins_own, passes_other, passes_own, going_on, IsOngoing, takes, class_of, Class}
+use Rattle.osi_blameless.proofs.Vocabulary.{◌==◌}
 use Rattle.osi_rules.specs.declared.directions.Direction.TheVariants as way
 use Rattle.osi_judge.specs.Courses.{Course as Passed}
 use Rattle.osi_blameless.proofs.what_a_taker_passes_over.{mild_of}
@@ -31,7 +31,7 @@ use Rattle.osi_blameless.proofs.sessions.steps_leave_all_standing.{IsProper}
 use Rattle.osi_blameless.proofs.sessions.steps_of_either_class_leave_all_standing.{IsRight}
 use Rattle.osi_blameless.proofs.sessions.the_turn_that_selects_class_0.{StandsUnselected, turns_selecting, unselected_so}
 use Rattle.osi_blameless.proofs.sessions.units_of_class_0_come_after_its_cc.{IsQuiet}
-use Rattle.osi_blameless.proofs.sessions.units_written_alike_have_the_same_ccs.{AnswersTwo, HasCc, has_back, has_front}
+use Rattle.osi_blameless.proofs.sessions.ccs_among_units.{AnswersTwo, HasCc, has_back, has_front}
 use Rattle.osi_blameless.proofs.sessions.what_a_turn_puts_at_the_connections_that_are_open.{WasOpen, open_before, puts_cc, takes_cc}
 use Rattle.osi_blameless.proofs.sessions.what_a_turn_puts_at_the_connections_that_are_open.{then_open}
 use Rattle.osi_blameless.proofs.sessions.what_a_turn_puts_goes_to_its_peer.{all_back}

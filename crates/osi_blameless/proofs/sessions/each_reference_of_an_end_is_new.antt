@@ -1,18 +1,18 @@
 -- At a judge each CR of a calling end that passes gives a new reference, and so does each CC of a called end; and this stays so with each
 -- step. For all connections of an end and a judge.
 use Rattle.osi_blameless.proofs.Vocabulary.{◌≡◌, ◌∙◌, ◌⊎◌, inl, inr, refl, sym, ap, subst, ℕ, ◌<◌, ◌≤◌, Bool, false, List, [], ◌∷◌, ◌++◌}
-use Rattle.osi_blameless.proofs.Vocabulary.{Holding, IsFresh, Local, begin, calls_from}
-use Rattle.osi_blameless.proofs.Vocabulary.{length, Option, Some, None, arith, slice_get, AllByRecursion, Connect, Value, confirm, request}
-use Rattle.osi_blameless.proofs.Vocabulary.{Direction, Left, Right, other, State, meaning_if, meant, takes, Event, HappenAlong, Whole}
-use Rattle.osi_blameless.proofs.Vocabulary.{after_add, after_set, Turn, AllProper, Room, Joined, Sessions, all_begin, asked, reference_of}
-use Rattle.osi_blameless.proofs.Vocabulary.{taken, Course, unit_passes, units_pass, way_of, Joint, Step, Steps, TakesTurn, begins_other}
-use Rattle.osi_blameless.proofs.Vocabulary.{begins_own, passes_other, passes_own, turns, HaveSamePlaces, AreAbove as RiseAbove}
+use Rattle.osi_blameless.proofs.Vocabulary.{Holding, IsFresh, Local, begin, calls_from, length, Option, Some, None, arith, slice_get}
+use Rattle.osi_blameless.proofs.Vocabulary.{AllByRecursion, Connect, Value, confirm, request, Direction, Left, Right, other, State}
+use Rattle.osi_blameless.proofs.Vocabulary.{meaning_if, meant, takes, Event, HappenAlong, Whole, after_add, after_set, Turn, AllProper}
+use Rattle.osi_blameless.proofs.Vocabulary.{Room, Joined, Sessions, all_begin, asked, reference_of, taken, Course, unit_passes, units_pass}
+use Rattle.osi_blameless.proofs.Vocabulary.{way_of, Joint, Step, Steps, TakesTurn, begins_other, begins_own, passes_other, passes_own}
+use Rattle.osi_blameless.proofs.Vocabulary.{turns, HaveSamePlaces, AreAbove as RiseAbove, CanBeWritten}
 use Rattle.osi_carrier.specs.State.{State as Carrier}
 use Rattle.osi_fair.specs.Wholes as wholes
 use Rattle.osi_judge.specs.Connections.{packet_begins}
 use Rattle.osi_judge.specs.Connections as joined
 use Rattle.osi_blameless.proofs.a_carrier_does_events.{happen_join}
-use Rattle.osi_blameless.proofs.steps_are_events.{IsFollowed, begin_followed, own_first, step_followed}
+use Rattle.osi_blameless.proofs.steps_are_events.{IsFollowed, begin_followed, step_followed}
 use Rattle.osi_blameless.proofs.sessions.all_connections_stand.{map_of}
 use Rattle.osi_blameless.proofs.sessions.connections_have_the_same_places.{unit_agrees, unit_joins, unit_knows}
 use Rattle.osi_blameless.proofs.small_facts_that_many_lemmas_use.{same_one}
@@ -268,8 +268,8 @@ module _ (d : Direction) (first : Whole) where
       (h : IsAhead d first old) → h.bound < r
   passes_above at v r given old new (read, octets, put, begun, is) h =
       let w = h.followed.whole in
-      let s = own_first d first old new v (read, octets, put) h.followed in
-      (above_passes d h.bound r v s.rest w (record w { put = s.rest }) given s.is refl refl h.above).0
+      let s : h.followed.whole.put ≡ v ∷ new.put = h.followed.put ∙ put in
+      (above_passes d h.bound r v new.put w (record w { put = new.put }) given s refl refl h.above).0
 
   pub gives_new : (at : ℕ) (v : Value) (old new : Joint) → Steps d (passes_own at v) old new → IsAhead d first old →
       GivesNew d v old.course.sessions
@@ -285,22 +285,22 @@ module _ (d : Direction) (first : Whole) where
       GivesHighest d first h.bound r new
   passes_highest at v r given old new (read, octets, put, begun, is) places h =
       let f = h.followed in
-      let s = own_first d first old new v (read, octets, put) f in
-      let next : Whole = record f.whole { put = s.rest; begun = false; judge = (takes (way_of d) v f.whole.judge).state } in
-      let (less, above) = above_passes d h.bound r v s.rest f.whole next given s.is refl refl h.above in
+      let s : f.whole.put ≡ v ∷ new.put = f.put ∙ put in
+      let next : Whole = record f.whole { put = new.put; begun = false; judge = (takes (way_of d) v f.whole.judge).state } in
+      let (less, above) = above_passes d h.bound r v new.put f.whole next given s refl refl h.above in
       let mid : Joint = record old { put = new.put; begun = false; course = units_pass d at (v ∷ []) old.course } in
       let ahead : IsAhead d first mid = record {
         followed = record {
           whole = next;
           events = f.events ++ wholes.passes_own ∷ [];
           along = happen_join (way_of d) f.events (wholes.passes_own ∷ []) first f.whole next f.along
-              (next, (v, s.is, f.begun ∙ begun, refl), refl);
-          put = s.same;
+              (next, (v, s, f.begun ∙ begun, refl), refl);
+          put = refl;
           begun = refl;
           judge = ap (λ (t : State). (takes (way_of d) v t).state) f.judge ∙ sym (unit_knows d at v old.course);
           coming = f.coming;
           like = f.like;
-          can = s.can;
+          can = (subst (AllByRecursion CanBeWritten) s f.can).1;
           links = f.links;
         };
         bound = r;

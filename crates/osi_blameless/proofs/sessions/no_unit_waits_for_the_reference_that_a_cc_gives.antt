@@ -1,10 +1,10 @@
 -- No unit of an end of class 2 waits for the reference that a CC of the other side gives, and that side gives none of the end. So all
 -- connections of the end stand after a packet of the other side. For all connections of an end that calls and a judge.
-use Rattle.osi_blameless.proofs.Vocabulary.{arith, ◌≡◌, ◌∙◌, refl, sym, ap, subst, ℕ, Bool, true, List, [], ◌∷◌, ◌++◌, map, Some}
-use Rattle.osi_blameless.proofs.Vocabulary.{append_assoc, AllByRecursion, append-nil, HasFieldsInRange, Value, acknowledge, confirm, data0}
-use Rattle.osi_blameless.proofs.Vocabulary.{data2, disconnect, disconnected, error, Connect, request, written, Local, Left, Right}
-use Rattle.osi_blameless.proofs.Vocabulary.{is_applied, State, takes, Whole, next_joined, IsOwned, IsOngoing, Deeds, CanBeWritten, Course}
-use Rattle.osi_blameless.proofs.Vocabulary.{unit_passes, units_pass, HaveSamePlaces}
+use Rattle.osi_blameless.proofs.Vocabulary.{arith, ◌≡◌, ◌∙◌, refl, sym, ap, subst, ℕ, Bool, true, List, [], ◌∷◌, ◌++◌, Some, append_assoc}
+use Rattle.osi_blameless.proofs.Vocabulary.{AllByRecursion, append-nil, HasFieldsInRange, Value, acknowledge, confirm, data0, data2}
+use Rattle.osi_blameless.proofs.Vocabulary.{disconnect, disconnected, error, Connect, request, Local, Left, Right, is_applied, State, takes}
+use Rattle.osi_blameless.proofs.Vocabulary.{Whole, next_joined, IsOwned, IsOngoing, Deeds, CanBeWritten, Course, unit_passes, units_pass}
+use Rattle.osi_blameless.proofs.Vocabulary.{HaveSamePlaces}
 use Rattle.osi_rules.specs.declared.directions.Direction.TheVariants as way
 use Rattle.osi_fair.specs.Wholes as wholes
 use Rattle.osi_fair.proofs.a_calling_end_is_fair_in_class_2.{Joined as Follows}
@@ -15,7 +15,6 @@ use Rattle.osi_blameless.proofs.sessions.a_cc_comes_before_what_is_put_for_it.{n
 use Rattle.osi_blameless.proofs.sessions.a_right_dt_has_one_place.{AreUsedApart, named_apart}
 use Rattle.osi_blameless.proofs.sessions.connections_have_the_same_places.{unit_knows}
 use Rattle.osi_blameless.proofs.sessions.references_of_an_end_are_distinct.{GivesNew}
-use Rattle.osi_blameless.proofs.sessions.units_written_alike_are_for_the_same.{none_written_so}
 use Rattle.osi_blameless.proofs.sessions.what_passes_leaves_all_standing.{no_request, no_zero}
 use Rattle.osi_blameless.proofs.sessions.what_stands_of_a_connection.{waiting_for}
 
@@ -36,13 +35,12 @@ fine_plain b at (v ∷ vs) c (fine, more) = (one_plain b v c fine, fine_plain b 
 gives_none : (v : Value) (c : Course) → IsHeardOn Left v c → GivesNew Left v c.sessions
 gives_none v c p = grind (arith, no_request)
 
--- a whole end with this judge, which has put units that are written as these
+-- a whole end with this judge, which has put these units
 pub record IsBehind (local : Local) (put : List Value) (c : Course) : Type 0 where
   pub whole : Whole
   pub follows : Follows local whole
   pub judge : whole.judge ≡ c.traffic
-  pub same : map written whole.put ≡ map written put
-  pub can : AllByRecursion CanBeWritten whole.put
+  pub same : whole.put ≡ put
 
 module _ (local : Local) (put : List Value) (can : AllByRecursion CanBeWritten put) where
   -- no unit waits for the reference that a CC gives
@@ -53,7 +51,7 @@ module _ (local : Local) (put : List Value) (can : AllByRecursion CanBeWritten p
       let lasts = subst (λ (s : State). IsOngoing s.course) (sym w.judge) p.lasts in
       let apart = subst (λ (s : State). AreUsedApart Left s.connections) w.judge
       (named_apart Left w.whole.judge.connections w.follows.kept.sane.apart (w.follows.peers lasts)) in
-      none_written_so (Some x.source) w.whole.put put w.same w.can can
+      subst (λ (l : List Value). waiting_for (Some x.source) l ≡ []) w.same
       (nothing_waits n x c.traffic c.sessions places apart applied w.whole.put
       (subst (λ (s : State). AllByRecursion (λ (u : Value). IsOwned s u) w.whole.put) w.judge (w.follows.followed lasts).owned))
 
@@ -77,7 +75,6 @@ module _ (local : Local) (put : List Value) (can : AllByRecursion CanBeWritten p
         follows = next_joined local (wholes.passes_other v) w.whole next (ranges, refl) w.follows;
         judge = ap (λ (s : State). (takes way.Right v s).state) w.judge ∙ sym (unit_knows Right at v c);
         same = w.same;
-        can = w.can;
       }
 
   module _ (deeds : ℕ → Deeds) (is_live : ℕ → Bool) (b : Bool) (at : ℕ) where

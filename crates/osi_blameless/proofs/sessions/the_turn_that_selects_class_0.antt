@@ -1,18 +1,16 @@
 -- The turn in which a called end selects class 0: it puts its CC first, and opens one connection with it. Before that nothing waits, and no
 -- connection is open. For the session of the connection of an end in class 0.
-use Rattle.osi_blameless.proofs.Vocabulary.{◌≡◌, ◌∙◌, refl, sym, ap, subst, ℕ, ◌<◌, Bool, true, false, List, [], ◌∷◌}
-use Rattle.osi_blameless.proofs.Vocabulary.{◌++◌, map, Some, None, arith, AllByRecursion, Connect, Value, confirm, written, Zero, Local}
-use Rattle.osi_blameless.proofs.Vocabulary.{acceptance, Right, State, Selecting, IsClear, IsFirm, Continues, Deeds, then_did, units_in}
-use Rattle.osi_blameless.proofs.Vocabulary.{all_units, Turn, AllProper, Life, amid, stage_at, all_units_more, CanBeWritten, Sessions, Joint}
-use Rattle.osi_blameless.proofs.Vocabulary.{TakesTurn, parts_of, going_on}
+use Rattle.osi_blameless.proofs.Vocabulary.{◌≡◌, ◌∙◌, refl, sym, ap, subst, ℕ, ◌<◌, Bool, true, false, List, [], ◌∷◌, ◌++◌, Some, None}
+use Rattle.osi_blameless.proofs.Vocabulary.{arith, AllByRecursion, Connect, Value, confirm, Zero, Local, acceptance, Right, State}
+use Rattle.osi_blameless.proofs.Vocabulary.{Selecting, IsClear, IsFirm, Continues, Deeds, then_did, units_in, all_units, Turn, AllProper}
+use Rattle.osi_blameless.proofs.Vocabulary.{Life, amid, stage_at, all_units_more, CanBeWritten, Sessions, Joint, TakesTurn, parts_of}
+use Rattle.osi_blameless.proofs.Vocabulary.{going_on}
 use Rattle.osi_carrier.specs.State.{State as Carrier}
 use Rattle.osi_blameless.proofs.steps_are_events.{IsFollowed}
 use Rattle.osi_blameless.proofs.small_facts_that_many_lemmas_use.{can_more as all_more, none_some}
-use Rattle.osi_blameless.proofs.what_is_put_is_what_is_written.{none_written}
 use Rattle.osi_blameless.proofs.sessions.an_end_is_ready_for_each_cc_that_passes.{waits_above}
 use Rattle.osi_blameless.proofs.sessions.a_whole_end_runs_along.{has_lines}
 use Rattle.osi_blameless.proofs.sessions.a_turn_after_which_a_cc_of_class_0_waits.{dts_after, no_cc_taken, turns_waiting}
-use Rattle.osi_blameless.proofs.sessions.a_turn_of_an_end_in_class_0.{cc_not_dt}
 use Rattle.osi_blameless.proofs.sessions.all_connections_stand.{AllStand}
 use Rattle.osi_blameless.proofs.sessions.an_end_answers_with_class_0.{StandsAnswering, first}
 use Rattle.osi_blameless.proofs.sessions.an_end_stands_as_units_pass.{StandsInTwo, known_at}
@@ -20,10 +18,9 @@ use Rattle.osi_blameless.proofs.sessions.an_end_stands_before_a_class_is_selecte
 use Rattle.osi_blameless.proofs.sessions.an_end_stands_in_class_0.{known_in}
 use Rattle.osi_blameless.proofs.sessions.each_reference_of_an_end_is_new.{GoesOn, turns_ahead}
 use Rattle.osi_blameless.proofs.sessions.each_step_leaves_class_0_one_connection.{Sure}
-use Rattle.osi_blameless.proofs.sessions.what_a_turn_puts_is_written_alike.{IsWrittenAs}
 use Rattle.osi_blameless.proofs.sessions.no_connection_is_opened_before_a_class_is_selected.{AreUncalled}
 use Rattle.osi_blameless.proofs.sessions.units_of_class_0_come_after_its_cc.{IsQuiet}
-use Rattle.osi_blameless.proofs.sessions.units_written_alike_have_the_same_ccs.{AnswersTwo, AreAlike, HasCc, first_not_zero, has_alike}
+use Rattle.osi_blameless.proofs.sessions.ccs_among_units.{AnswersTwo, HasCc}
 use Rattle.osi_blameless.proofs.sessions.what_a_turn_puts_at_the_connections_that_are_open.{WasOpen, open_before, puts_cc, takes_cc}
 use Rattle.osi_blameless.proofs.sessions.what_a_turn_puts_goes_to_its_peer.{all_so, one_of}
 use Rattle.osi_blameless.proofs.sessions.what_is_in_flight_to_an_end.{parts_taken}
@@ -68,15 +65,13 @@ record StartsWithCc (r : ℕ) (put : List Value) : Type 0 where
   source : x.source ≡ r
   not_two : x.class ≡ 2 → ⊥
 
-starts_with_cc : (m : ℕ) (y : Connect) (us put : List Value) → AreAlike (confirm m y ∷ us) put → y.class ≡ 0 → StartsWithCc y.source put
-starts_with_cc m y us [] a zero_is = absurd (let same = a.same in cc)
-starts_with_cc m y us (v ∷ put) a zero_is = grind (arith, has_alike)
-
 -- nothing waits before it
-none_two : (m : ℕ) (y : Connect) (us old more : List Value) → AreAlike (confirm m y ∷ us) (old ++ more) → y.class ≡ 0 →
+none_two : (m : ℕ) (y : Connect) (us old more : List Value) → confirm m y ∷ us ≡ old ++ more → y.class ≡ 0 →
     AllByRecursion AnswersTwo old → old ≡ []
-none_two m y us [] more a zero_is two = refl
-none_two m y us (v ∷ old) more a zero_is two = grind (arith, first_not_zero)
+none_two m y us [] more e zero_is two = refl
+none_two m y us (v ∷ old) more e zero_is two =
+    let first : confirm m y ≡ v = cc in
+    let is_two : y.class ≡ 2 = subst AnswersTwo (sym first) two.0 in absurd (omega (arith, is_two, zero_is))
 
 -- ---- the turn
 
@@ -109,41 +104,37 @@ module _ (local : Local) (proper : AllProper) (turn : Turn) (old new : Joint) (t
   clear = record { sure = sure; two = λ zero_is. none_some old.course.traffic.course.class Zero all.class zero_is }
 
   module _ (z : Selecting local f.whole) where
-    alike : AreAlike (confirm z.x.source (acceptance Zero z.size z.x local z.r) ∷ z.more) new.put
-    alike = record {
-      same = ap (λ (l : List Value). map written l) (sym z.put) ∙ f.put;
-      can = subst (AllByRecursion CanBeWritten) z.put f.can;
-      can_too = then_can;
-    }
-
     abbrev answer : Connect
     answer = acceptance Zero z.size z.x local z.r
 
+    put_is : confirm z.x.source answer ∷ z.more ≡ new.put
+    put_is = sym z.put ∙ f.put
+
     starts : StartsWithCc answer.source new.put
-    starts = starts_with_cc z.x.source answer z.more new.put alike refl
+    starts = record { n = z.x.source; x = answer; rest = z.more; is = sym put_is; source = refl; not_two = λ two. cc two }
 
     abbrev x : Connect
     x = starts.x
 
     empty : old.put ≡ []
     empty =
-        none_two z.x.source answer z.more old.put t.units (subst (AreAlike (confirm z.x.source answer ∷ z.more)) t.put alike) refl
+        none_two z.x.source answer z.more old.put t.units (put_is ∙ t.put) refl
         h.own.holds.two
 
     all_put : all_units on.put ≡ confirm starts.n x ∷ starts.rest
     all_put = sym units ∙ ap (λ (l : List Value). l ++ t.units) (sym empty) ∙ sym t.put ∙ starts.is
 
     less : h.own.ahead.bound < x.source
-    less = search (arith, waits_above, first, then_can, starts)
+    less = search (arith, waits_above, first, starts)
 
-    dts : AllByRecursion (IsWrittenAs IsDt0) starts.rest
+    dts : AllByRecursion IsDt0 starts.rest
     dts = dts_after local new f starts.n x starts.rest starts.is z
 
     all_for : AllByRecursion (IsFor x.source) (all_units on.put)
     all_for =
         subst (AllByRecursion (IsFor x.source)) (sym all_put) (
           (λ m y is. same_cc starts.n m x y is),
-          all_so (IsWrittenAs IsDt0) (IsFor x.source) (λ v w m y is. cc_not_dt m y (subst (IsWrittenAs IsDt0) is w)) starts.rest dts,
+          all_so IsDt0 (IsFor x.source) (λ v w m y is. absurd (subst IsDt0 is w)) starts.rest dts,
         )
 
     is_x : (q : ℕ) → 0 < q → WasOpen false q (stage_at q end) on.took on.put → q ≡ x.source
@@ -159,7 +150,7 @@ module _ (local : Local) (proper : AllProper) (turn : Turn) (old new : Joint) (t
     some begun =
         let g = h.own.ahead.followed in
         let lines = has_lines local old g (going_on old.course.traffic.course clear) h.can h.own.holds.two in
-        none_written old.put g.whole.put (sym g.put) (λ none. lines.called.some (g.begun ∙ begun) (sym lines.called.put ∙ none))
+        λ none. lines.called.some (g.begun ∙ begun) (sym lines.called.put ∙ g.put ∙ none)
 
     pub turns_selecting : StandsAnswering local (λ r. then_did (deeds r) (on.more r)) new
     turns_selecting =

@@ -2,12 +2,11 @@
 -- its one connection, and waits there.
 -- For the session of the connection of an end in class 0.
 use Rattle.osi_blameless.proofs.Vocabulary.{◌≡◌, ◌∙◌, refl, sym, ap, ℕ, zero, suc, ◌<◌, Bool, true, false, List, [], ◌∷◌, ◌++◌, Option}
-use Rattle.osi_blameless.proofs.Vocabulary.{arith, is_some, append_assoc, inl, inr, ◌⊎◌, ◌==◌, nat_lt, AllByRecursion, eq-eqb}
-use Rattle.osi_blameless.proofs.Vocabulary.{lt-ltb, Connect, Value, confirm, request, AreApart, Answers, Opens, Continues, Deeds, Marked}
-use Rattle.osi_blameless.proofs.Vocabulary.{all_units, is_of_link, Turn, Life, amid, early, opens_by, past, stage_at, stays}
-use Rattle.osi_blameless.proofs.Vocabulary.{none_mark, Joint, differ, Time}
+use Rattle.osi_blameless.proofs.Vocabulary.{arith, is_some, append_assoc, inl, inr, ◌⊎◌, ◌==◌, nat_lt, AllByRecursion, eq-eqb, lt-ltb}
+use Rattle.osi_blameless.proofs.Vocabulary.{Connect, Value, confirm, request, AreApart, Answers, Opens, Continues, Deeds, Marked, all_units}
+use Rattle.osi_blameless.proofs.Vocabulary.{is_of_link, Turn, Life, amid, early, opens_by, past, stage_at, stays, none_mark, Joint, differ}
+use Rattle.osi_blameless.proofs.Vocabulary.{Time}
 use Rattle.osi_blameless.proofs.small_facts_that_many_lemmas_use.{amid_not}
-use Rattle.osi_blameless.proofs.sessions.what_a_turn_puts_is_written_alike.{IsWrittenAs}
 use Rattle.osi_blameless.proofs.sessions.what_a_turn_puts_goes_to_its_peer.{none_for, one_of}
 use Rattle.osi_blameless.proofs.sessions.what_a_turn_puts_waits.{Agree}
 use Rattle.osi_blameless.proofs.sessions.what_stands_of_a_connection.{is_for}
@@ -107,9 +106,9 @@ unmarked m r o some is link = grind (arith, none_mark, none_for)
 
 -- a unit of a link is a DT of class 0
 abbrev pub IsPlainDt : Value → Type 0
-IsPlainDt v = is_of_link v ≡ true → IsWrittenAs IsDt0 v
+IsPlainDt v = is_of_link v ≡ true → IsDt0 v
 
-dt_so : (v : Value) → is_of_link v ≡ true → IsWrittenAs IsDt0 v → (o : Option ℕ) → is_for o v ≡ is_some o
+dt_so : (v : Value) → is_of_link v ≡ true → IsDt0 v → (o : Option ℕ) → is_for o v ≡ is_some o
 dt_so v link w o = grind (arith, is_for)
 
 -- those of the one connection are DTs

@@ -13,7 +13,7 @@ use Rattle.osi_honest.specs.Arriving as arriving
 use Rattle.osi_honest.specs.Courses as courses
 use Rattle.osi_blameless.proofs.a_carrier_does_events.{none_of, units_join}
 use Rattle.osi_blameless.proofs.steps_are_events.{IsFollowed}
-use Rattle.osi_blameless.proofs.what_is_put_is_what_is_written.{are_first}
+use Rattle.osi_blameless.proofs.the_packets_that_an_end_took_come_first.{are_first}
 use Rattle.osi_blameless.proofs.sessions.each_unit_of_a_turn_has_one_connection.{IsFor, IsHomed, IsMarked, of_none, of_one}
 use Rattle.osi_blameless.proofs.sessions.what_stands_of_a_connection.{is_for}
 use Rattle.osi_blameless.proofs.small_facts_that_many_lemmas_use.{all_front, all_join}

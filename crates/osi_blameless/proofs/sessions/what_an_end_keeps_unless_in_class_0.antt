@@ -5,9 +5,9 @@ use Rattle.osi_fair.specs.Wholes as wholes
 use Rattle.osi_blameless.proofs.Vocabulary.{AllByRecursion, AllProper, Bool, CanBeWritten, Connection, Deeds, Direction, Holding, IsFresh}
 use Rattle.osi_blameless.proofs.Vocabulary.{IsOngoing, Joint, Left, List, Local, None, Right, Selecting, Sessions, Some, State, Steps}
 use Rattle.osi_blameless.proofs.Vocabulary.{TakesTurn, Tracked, Turn, Two, Value, Zero, [], acceptance, all_units, ap, arith, begin}
-use Rattle.osi_blameless.proofs.Vocabulary.{begins_other, begins_own, calls_from, early, false, firm_unless_two, inl, inr, is_closing, map}
+use Rattle.osi_blameless.proofs.Vocabulary.{begins_other, begins_own, calls_from, early, false, firm_unless_two, inl, inr, is_closing}
 use Rattle.osi_blameless.proofs.Vocabulary.{no_deeds, other, passes_other, passes_own, refl, selecting_passes, slice_get, stage_at, subst}
-use Rattle.osi_blameless.proofs.Vocabulary.{sym, then_did, true, turns, unit_passes, units_in, written, ℕ, ◌++◌, ◌<◌, ◌∙◌, ◌∷◌, ◌≡◌, ◌⊎◌}
+use Rattle.osi_blameless.proofs.Vocabulary.{sym, then_did, true, turns, unit_passes, units_in, ℕ, ◌++◌, ◌<◌, ◌∙◌, ◌∷◌, ◌≡◌, ◌⊎◌}
 use Rattle.osi_judge.specs.Courses.{Course as Passed}
 use Rattle.osi_blameless.proofs.sessions.a_turn_of_an_end_of_class_2.{answers_turn, asks_turn}
 use Rattle.osi_blameless.proofs.sessions.what_stands_of_a_connection.{Known}
@@ -27,12 +27,12 @@ use Rattle.osi_blameless.proofs.sessions.nobody_of_a_side_is_to_blame.{IsMute}
 use Rattle.osi_blameless.proofs.sessions.nothing_is_done_before_a_cr_passes.{known_from, may_take}
 use Rattle.osi_blameless.proofs.sessions.steps_of_either_class_leave_all_standing.{all_stand}
 use Rattle.osi_blameless.proofs.sessions.a_session_that_is_shown_is_not_to_blame.{SessionLaws}
-use Rattle.osi_blameless.proofs.sessions.units_written_alike_have_the_same_ccs.{AnswersTwo, first_not_zero}
+use Rattle.osi_blameless.proofs.sessions.ccs_among_units.{AnswersTwo, first_not_zero}
 use Rattle.osi_blameless.proofs.sessions.what_has_come_before_a_cc.{AreQuiet, begin_quiet, begins_other_quiet, begins_own_quiet}
 use Rattle.osi_blameless.proofs.sessions.what_has_come_before_a_cc.{passes_other_quiet, passes_own_quiet, turns_quiet}
 use Rattle.osi_blameless.proofs.sessions.what_is_asked_of_what_holds_at_each_step.{ArePassed, Keeps, Leads, leads_either}
 use Rattle.osi_blameless.proofs.small_facts_that_many_lemmas_use.{all_front, can_more, none_some}
-use Rattle.osi_blameless.proofs.steps_are_events.{IsFollowed, begin_followed, own_first}
+use Rattle.osi_blameless.proofs.steps_are_events.{IsFollowed, begin_followed}
 use Rattle.osi_blameless.proofs.what_passes_keeps_a_claim.{step_kept}
 use Rattle.osi_blameless.proofs.what_the_turns_among_steps_do.{TurnDoes}
 use Rattle.osi_blameless.proofs.sessions.what_is_asked_of_what_holds_at_each_step.{leads_more}
@@ -108,10 +108,10 @@ module _ (local : Local) where
           let f = h.followed in
           let w = f.whole in
           let j = called_joined local old f in
-          let s = own_first Right (wholes.begin false local) old new v (read, octets, put) f in
+          let s : f.whole.put ≡ v ∷ new.put = f.put ∙ put in
           let firm = firm_unless_two w.judge.course j.two (λ two. none_some w.judge.course.class Two z.class two) in
           let right = ap (λ (t : State). t.course.right_stopped) f.judge ∙ clear.sure.right in
-          let p = selecting_passes local w j.apart (j.judged firm) right v s.rest (f.begun ∙ begun) s.is z in
+          let p = selecting_passes local w j.apart (j.judged firm) right v new.put (f.begun ∙ begun) s z in
           grind (arith, unit_knows)
 
   silent_so : (d : Direction) → KeepsSilent d local (Silent d local)
@@ -154,7 +154,7 @@ turn_beside Left local proper turn old new t deeds does f g clear h =
     inl (record {
       two = h.two;
       stands = asks_turn local h.two proper turn old new t deeds on does.of.life does.units on.can
-          (calling_marked local h.two deeds turn old new t on does.of.life does.of.first f g clear h.stands.standing.all.places)
+          (calling_marked local h.two deeds turn old new t on does.units does.of.life does.of.first f g clear h.stands.standing.all.places)
           (λ r some may. (h.besides clear).before r (some, may)) (closed_so h.besides) clear h.stands;
       besides = turns_quiet turn old new t deeds on does.of.life h.besides;
     })
@@ -197,11 +197,7 @@ turn_beside Right local proper turn old new t deeds does f g clear h =
               (h.besides no_class));
           why = (
             can,
-            λ two. first_not_zero z.x.source (acceptance Zero z.size z.x local z.r) z.more new.put (record {
-              same = ap (λ (l : List Value). map written l) (sym z.put) ∙ g.put;
-              can = subst (AllByRecursion CanBeWritten) z.put g.can;
-              can_too = can;
-            }) refl two,
+            λ two. first_not_zero z.x.source (acceptance Zero z.size z.x local z.r) z.more new.put (sym z.put ∙ g.put) refl two,
           );
         })
 

@@ -10,10 +10,10 @@ use Rattle.osi_blameless.proofs.Vocabulary.{connection_after, found, found_on, j
 use Rattle.osi_blameless.proofs.Vocabulary.{before_going, applied_judged, each_sound, Followed, IsAnswer, Tracked, all_so, is_tracked, both}
 use Rattle.osi_blameless.proofs.Vocabulary.{left_open, IsIdle, comes_for, HoldsOfEach, after_add, after_map, after_set, Sound, left_then}
 use Rattle.osi_blameless.proofs.Vocabulary.{own_stays, right_passes, IsOngoing, is_name, each_picked, names, picked_join, picked_other}
-use Rattle.osi_blameless.proofs.Vocabulary.{those}
-use Rattle.osi_blameless.proofs.Vocabulary.{those_join, Continues, Deeds, units_in, units_read, Turn, Life, early, past, stage_at, asked_so}
-use Rattle.osi_blameless.proofs.Vocabulary.{has_given, Holding, Joined, Sessions, Course, unit_passes, units_pass, Joint, Steps, TakesTurn}
-use Rattle.osi_blameless.proofs.Vocabulary.{begin, begins_other, begins_own, passes_other, passes_own, HaveSamePlaces, IsOneOf, named_by}
+use Rattle.osi_blameless.proofs.Vocabulary.{those, those_join, Continues, Deeds, units_in, units_read, Turn, Life, early, past, stage_at}
+use Rattle.osi_blameless.proofs.Vocabulary.{asked_so, has_given, Holding, Joined, Sessions, Course, unit_passes, units_pass, Joint, Steps}
+use Rattle.osi_blameless.proofs.Vocabulary.{TakesTurn, begin, begins_other, begins_own, passes_other, passes_own, HaveSamePlaces, IsOneOf}
+use Rattle.osi_blameless.proofs.Vocabulary.{named_by}
 use Rattle.osi_carrier.specs.State.{State as Carrier, asked}
 use Rattle.osi_rules.specs.declared.directions.Direction.{Direction as Way}
 use Rattle.osi_rules.specs.declared.directions.Direction.TheVariants as way
@@ -23,7 +23,7 @@ use Rattle.osi_fair.proofs.a_calling_end_is_fair_in_class_2.{Joined as Follows}
 use Rattle.osi_fair.proofs.no_two_open_connections_have_one_peer.{differ}
 use Rattle.osi_fair.proofs.what_becomes_of_a_connection.{Told}
 use Rattle.osi_blameless.proofs.a_carrier_does_events.{none_of}
-use Rattle.osi_blameless.proofs.steps_are_events.{IsFollowed, own_first}
+use Rattle.osi_blameless.proofs.steps_are_events.{IsFollowed}
 use Rattle.osi_blameless.proofs.sessions.no_unit_waits_for_the_reference_that_a_cc_gives.{one_plain}
 use Rattle.osi_blameless.proofs.sessions.an_end_hears_what_breaks_no_rule.{AreFine, IsHeardOn}
 use Rattle.osi_blameless.proofs.sessions.a_whole_end_runs_along.{first, whole_joined}
@@ -364,7 +364,7 @@ module _ (local : Local) (two : local.class2 ≡ true) where
       AreQuiet new
   passes_own_quiet deeds at unit old new (read, octets, put, begun, is) h places q =
       let f = h.ahead.followed in
-      let s = own_first Left (first local two) old new unit (read, octets, put) f in
+      let s : f.whole.put ≡ unit ∷ new.put = f.put ∙ put in
       let knows : (takes way.Left unit old.course.traffic).state ≡ (unit_passes Left at unit old.course).traffic =
       sym (unit_knows Left at unit old.course) in
       let judge : (takes way.Left unit f.whole.judge).state ≡ (unit_passes Left at unit old.course).traffic =
@@ -372,7 +372,7 @@ module _ (local : Local) (two : local.class2 ≡ true) where
       subst AreQuiet (sym is) (λ clear.
       quiet_as f.whole.end old.holding.end.carrier f.whole.coming (units_in old.coming) (takes way.Left unit f.whole.judge).state
       (unit_passes Left at unit old.course).traffic (sym judge) (λ r may. let (m, same) = joint_alike old f r may in (m, sym same))
-      (own_quiet local unit f.whole s.rest s.is (f.begun ∙ begun) old.course.sessions
+      (own_quiet local unit f.whole new.put s (f.begun ∙ begun) old.course.sessions
       (subst (λ (t : State). HaveSamePlaces t.connections old.course.sessions.live) (sym f.judge) places) (whole_joined local two old f)
       (subst (λ (t : State). IsOngoing t.course) (sym judge) clear)
       (to_whole old f (q (before_going (passing way.Left unit) old.course.traffic

@@ -15,7 +15,7 @@ use Rattle.osi_fair.specs.Wholes as wholes
 use Rattle.osi_honest.specs.Courses.{Course}
 use Rattle.osi_judge.specs.Courses.{Course as Passed, fresh}
 use Rattle.osi_judge.specs.States as states
-use Rattle.osi_blameless.proofs.steps_are_events.{IsFollowed, own_first}
+use Rattle.osi_blameless.proofs.steps_are_events.{IsFollowed}
 use Rattle.osi_blameless.proofs.no_unit_of_a_whole_end_is_a_break.{IsNoBreak, is_fair}
 use Rattle.osi_blameless.proofs.a_break_ends_no_judging_or_all.{IsGoing, begins_going, nothing_ends, nothing_goes}
 use Rattle.osi_blameless.proofs.all_is_judged_or_nothing.{IsJudged}
@@ -258,9 +258,9 @@ pub own_mild : (d : Direction) (local : Local) (at : ℕ) (v : Value) (old new :
     IsFollowed d (wholes.begin (calls_from d) local) old → IsGoing old.course →
     IsNoBreak (takes (way_of d) v old.course.traffic).told.finding
 own_mild d local at v old new (read, octets, put, begun, is) f j =
-    let s = own_first d (wholes.begin (calls_from d) local) old new v (read, octets, put) f in
+    let s : f.whole.put ≡ v ∷ new.put = f.put ∙ put in
     subst (λ (t : Traffic). IsNoBreak (takes (way_of d) v t).told.finding) f.judge
-    (is_fair d local f.events f.whole v s.rest f.along (f.begun ∙ begun) s.is
+    (is_fair d local f.events f.whole v new.put f.along (f.begun ∙ begun) s
     (ap (λ (t : Traffic). is_stopped (sides.other (way_of d)) t.course) f.judge ∙ (grind arith)))
 
 pub own_is : (barred : Class) (d : Direction) (v : Value) (c : Passed) → IsStillJudged barred c → Sure c →

@@ -16,7 +16,7 @@ use Rattle.osi_fair.specs.Wholes as wholes
 use Rattle.osi_fair.proofs.how_requests_go_on.{Stage, asks, zero}
 use Rattle.osi_blameless.proofs.small_facts_that_many_lemmas_use.{early_lasts, given_so, none_some}
 use Rattle.osi_blameless.proofs.small_facts_that_many_lemmas_use as small
-use Rattle.osi_blameless.proofs.steps_are_events.{IsFollowed, own_first}
+use Rattle.osi_blameless.proofs.steps_are_events.{IsFollowed}
 use Rattle.osi_blameless.proofs.sessions.a_whole_end_runs_along.{called_joined}
 use Rattle.osi_blameless.proofs.sessions.each_reference_of_an_end_is_new.{IsAhead, IsWithin, WaitAbove}
 use Rattle.osi_blameless.proofs.sessions.nothing_is_done_before_a_cr_passes.{same_units}
@@ -181,8 +181,8 @@ pub own_is_dt : (local : Local) (d : Direction) (at : ℕ) (v : Value) (old new 
     IsFollowed d (wholes.begin (calls_from d) local) old → IsFirm old.course.traffic.course → old.course.traffic.course.class ≡ Some Zero →
     IsDt0 v
 own_is_dt local d at v old new step f firm class =
-    let s = own_first d (wholes.begin (calls_from d) local) old new v (step.0, step.1, step.2) f in
-    (subst (AllByRecursion IsDt0) s.is
+    let s : f.whole.put ≡ v ∷ new.put = f.put ∙ step.2 in
+    (subst (AllByRecursion IsDt0) s
     (zero_put d local f.whole (ap (λ (t : State). t.course.class) f.judge ∙ class) (stage_of d local old f firm))).0
 
 up_to_last : (d : Direction) (b : ℕ) (w : Whole) → AllByRecursion IsDt0 w.put → WaitAbove d b w → b ≤ w.end.given

@@ -12,14 +12,13 @@ use Rattle.osi_honest.specs.Arriving.{is_open as opened}
 use Rattle.osi_blameless.proofs.small_facts_that_many_lemmas_use.{same_bool}
 use Rattle.osi_blameless.proofs.steps_are_events.{IsFollowed}
 use Rattle.osi_blameless.proofs.sessions.a_whole_end_runs_along.{HasLines}
-use Rattle.osi_blameless.proofs.sessions.a_called_end_of_class_2_puts_no_dt_of_class_0.{called_put_two}
-use Rattle.osi_blameless.proofs.sessions.what_a_turn_puts_is_written_alike.{turn_not_zero}
+use Rattle.osi_blameless.proofs.sessions.a_called_end_of_class_2_puts_no_dt_of_class_0.{called_turn_two}
 use Rattle.osi_blameless.proofs.sessions.all_connections_stand.{one_at}
 use Rattle.osi_blameless.proofs.sessions.each_cc_of_a_called_end_opens_another_connection.{none_open_for, open_there, same_destination}
 use Rattle.osi_blameless.proofs.sessions.each_cc_of_a_called_end_opens_another_connection.{same_source}
 use Rattle.osi_blameless.proofs.sessions.each_unit_of_a_called_end_has_a_home.{OpensByNoCc}
 use Rattle.osi_blameless.proofs.sessions.each_unit_of_a_turn_has_one_connection.{HasHome, IsFor}
-use Rattle.osi_blameless.proofs.sessions.units_written_alike_have_the_same_ccs.{AreAlike, HasCc, has_alike, has_back, has_front}
+use Rattle.osi_blameless.proofs.sessions.ccs_among_units.{HasCc, has_back, has_front}
 use Rattle.osi_blameless.proofs.sessions.what_a_turn_puts_goes_to_its_peer.{GoesTo, IsNotZero, Lived, by_units, came, for_so, goes_to}
 use Rattle.osi_blameless.proofs.sessions.what_a_turn_puts_goes_to_its_peer.{linked_so, none_for, none_shut, one_of, whole_lasts}
 use Rattle.osi_blameless.proofs.sessions.what_a_turn_puts_waits.{Agree, marks_wait}
@@ -47,7 +46,7 @@ module _ (local : Local) (deeds : ℕ → Deeds) (turn : Turn) (old new : Joint)
     (g : IsFollowed Right (begin false local) new) (before : HasLines local f.whole) (after : HasLines local g.whole)
     (no_cc : OpensByNoCc local deeds turn old new step on f)
     (places : HaveSamePlaces old.course.traffic.connections old.course.sessions.live)
-    (units : step.units ≡ all_units on.put) (like_old : AreAlike f.whole.put old.put) (like_new : AreAlike g.whole.put new.put) where
+    (units : step.units ≡ all_units on.put) where
   abbrev s : State
   s = old.course.traffic
 
@@ -70,7 +69,7 @@ module _ (local : Local) (deeds : ℕ → Deeds) (turn : Turn) (old new : Joint)
   places_g = subst (λ (x : State). HaveSamePlaces x.connections t.live) (sym judge_g) places
 
   has_whole : (n r : ℕ) → HasCc n r new.put → HasCc n r g.whole.put
-  has_whole n r h = has_alike n r new.put g.whole.put (grind arith) h
+  has_whole n r h = subst (HasCc n r) (sym g.put) h
 
   -- ---- a connection at which units were put: its CC waits, or the judge knows it
 
@@ -85,7 +84,7 @@ module _ (local : Local) (deeds : ℕ → Deeds) (turn : Turn) (old new : Joint)
       (linked_so Right false (begin false local) deeds turn old new step on f lasts q l.peer link there))
     where
       by : HasCc l.peer q f.whole.put ⊎ HasHome Right q l.peer f.whole.judge t → AreApart q on.put ⊎ IsNamed q l.peer
-      by (inl h) = inr (inl (grind (arith, put_is, has_front, has_alike)))
+      by (inl h) = inr (inl (grind (arith, put_is, has_front, f)))
       by (inr h) = inr (inr (subst (λ (x : State). HasHome Right q l.peer x t) f.judge h))
   open_named lasts q positive l (opens shut unit opening front is others answer gives put) = by unit opening gives is
     where
@@ -115,7 +114,7 @@ module _ (local : Local) (deeds : ℕ → Deeds) (turn : Turn) (old new : Joint)
 
   module _ (b : ℕ) (known : (i j : ℕ) → HasHome Right i j s t → i ≤ b) (n r : ℕ) (has : HasCc n r new.put) (above : b < r) where
     class_2 : AllByRecursion IsNotZero (all_units on.put)
-    class_2 = turn_not_zero Right false (begin false local) deeds turn old new step on g (called_put_two local g.whole after.called)
+    class_2 = called_turn_two local deeds turn old new step on g units after.called
 
     module _ (front rest : List Marked) (m : Marked) (is : on.put ≡ front ++ m ∷ rest) where
       at : (P : Marked → Type 0) → AllByRecursion P on.put → P m
