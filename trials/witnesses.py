@@ -185,14 +185,23 @@ class Connections:
         return [connection for connection in self.found if connection["left"]]
 
 
-# A TSDU that an end sends by itself, or that goes on with the data of a call: a CN, an AA, and a part of data that is not the first.
-UNCALLED = re.compile(rb"\x0d|\x1a|\x01\x00\x01\x03\x19\x01[\x00\x02]", re.S)
+# What an end sends by itself, as it takes something: a CN, an AA; and a part of data that is not the first, which leaves by the call of
+# the first one.
+ITSELF = re.compile(rb"\x0d|\x1a", re.S)
+LATER_PART = re.compile(rb"\x01\x00\x01\x03\x19\x01[\x00\x02]", re.S)
 
 
 def as_called(tsdus, calls):
     """TSDUs with how many of the other side's had passed when their call was made: they may have waited for credit since."""
-    calls = iter(calls)
-    return [(before if UNCALLED.match(octets) else min(before, next(calls, before)), octets) for before, octets in tsdus]
+    calls, found, called = iter(calls), [], None
+    for before, octets in tsdus:
+        if ITSELF.match(octets):
+            found.append((before, octets))
+            continue
+        if not LATER_PART.match(octets):
+            called = next(calls, before)
+        found.append((min(before, called), octets))
+    return found
 
 
 def played_on(script, side):

@@ -1,8 +1,11 @@
+pub mod Captures
 pub mod Conversations
 pub mod Halts
 pub mod Lines
 pub mod Places
+pub mod Requests
 pub mod Streams
 pub mod Told
 pub mod Trails
 pub mod Units
+pub mod Whole

@@ -1,5 +1,17 @@
 //! The call that makes a session send a message.
 
+ghost use Rattle.std.specs.Prelude.{◌≡◌, IfSome, None, Some, if◌then◌else◌, option_map};
+ghost use Rattle.std.specs.Int.RustNames.{bit_and};
+ghost use Rattle.osi_message.specs.Meanings.{meant_by};
+ghost use Rattle.osi_message.specs.Reading.{names};
+ghost use Rattle.osi_session.specs.Calls.{Abort, called_by, refusal_with};
+ghost use Rattle.osi_session.specs.Sides.{named_side};
+ghost use Rattle.osi_spdu.specs.Fields.{unit_bits};
+ghost use Rattle.osi_spdu.specs.Sizes.{are_sizes, named_by};
+ghost use Rattle.osi_explain.specs.Requests.{accept_of, agreed_number, are_known, asks_by, call_of, connect_of, first_number};
+ghost use Rattle.osi_explain.specs.Requests.{is_duplex};
+ghost use Rattle.osi_explain.specs.Requests.{IsOffered, named_by_both, named_sides, number_of, offered_units, refuse_of, units_named_by};
+
 use bitflags::Flags;
 use osi_message::Message;
 use osi_session::{Refusal, Request, Sides, is_profile};
@@ -11,18 +23,14 @@ use osi_spdu::{
 const KNOWN: u16 = 0x00BB;
 
 /// The functional units that go together with half-duplex.
-const HALF_DUPLEX: u16 = 0x00B9;
+const WITH_HALF_DUPLEX: u16 = 0x00B9;
 
-/// Duplex.
+const HALF_DUPLEX: u16 = 0x0001;
+
 const DUPLEX: u16 = 0x0002;
 
 /// The bit of an AB of a user.
 const BY_USER: u8 = 0x02;
-
-/// The reasons of an RF that a call of a script has: none, and one with user data.
-const UNSPECIFIED: u8 = 0;
-
-const WITH_DATA: u8 = 2;
 
 /// What a CN offers that matters to the answer: its functional units and the number of the first point.
 #[derive(Clone, Copy)]
@@ -42,19 +50,37 @@ pub struct Asking<'a> {
 }
 
 /// The number, or 0 if there is none.
-fn serial_of(serial: Option<Serial>) -> Serial {
+fn serial_of(serial: Option<Serial>) -> Serial
+    ensures { result.number ≡ first_number (number_of serial) }
+{
     serial.unwrap_or(Serial { number: 0 })
 }
 
+/// The number of an answer, or that of the CN if the answer has none.
+fn agreed(answered: Option<Serial>, asked: Option<Serial>) -> Serial
+    ensures { result.number ≡ agreed_number (number_of answered) (number_of asked) }
+{
+    match answered {
+        Some(serial) => serial,
+        None => serial_of(asked),
+    }
+}
+
 /// Sizes that a user may give; none for others.
-fn sizes_of(sizes: TsduMaximumSize) -> Option<TsduSizes> {
+fn sizes_of(sizes: TsduMaximumSize) -> Option<TsduSizes>
+    ensures { option_map named_by result ≡ if are_sizes sizes then Some sizes else None }
+{
+    let from_asker = TsduSize::new(sizes.from_asker)?;
+    let from_answerer = TsduSize::new(sizes.from_answerer)?;
     Some(TsduSizes {
-        from_asker: TsduSize::new(sizes.from_asker)?,
-        from_answerer: TsduSize::new(sizes.from_answerer)?,
+        from_asker,
+        from_answerer,
     })
 }
 
-fn side_of(wish: Wish) -> Side {
+fn side_of(wish: Wish) -> Side
+    ensures { result ≡ named_side wish }
+{
     match wish {
         Wish::Answerer => Side::Answerer,
         Wish::Asker | Wish::Choice => Side::Asker,
@@ -62,7 +88,9 @@ fn side_of(wish: Wish) -> Side {
 }
 
 /// The sides that an answer names.
-fn sides_of(setting: TokenSetting) -> Sides {
+fn sides_of(setting: TokenSetting) -> Sides
+    ensures { result ≡ named_sides setting }
+{
     Sides {
         data_token: side_of(setting.data_token),
         minor: side_of(setting.minor),
@@ -71,37 +99,61 @@ fn sides_of(setting: TokenSetting) -> Sides {
     }
 }
 
-/// The functional units that a connect offers in place of those of a CN, of which the AC selects these: a script offers half-duplex or
+/// Whether a connection is duplex whose CN has these functional units, if these are selected; if there is no answer, whether the CN
+/// leaves half-duplex out.
+fn is_duplex(bits: u16, selected: Option<u16>) -> bool
+    ensures { result ≡ is_duplex bits selected }
+{
+    match selected {
+        Some(both) => both & DUPLEX == DUPLEX,
+        None => bits & HALF_DUPLEX != HALF_DUPLEX,
+    }
+}
+
+/// The functional units that a connect offers in place of those of a CN, of which these are selected: a script offers half-duplex or
 /// duplex, and not both.
-fn offered(requirements: Requirements, selected: Option<u16>) -> Requirements {
+fn offered(requirements: Requirements, selected: Option<u16>) -> Requirements
+    ensures { unit_bits result ≡ offered_units (unit_bits requirements) selected }
+{
     if is_profile(requirements) {
         return requirements;
     }
     let bits = requirements.bits();
-    let is_duplex = match selected {
-        Some(selected) => selected & DUPLEX == DUPLEX,
-        None => bits & 1 == 0,
-    };
-    Requirements::from_bits_retain(if is_duplex {
-        DUPLEX
-    } else {
-        bits & HALF_DUPLEX
-    })
+    if is_duplex(bits, selected) {
+        return Requirements::from_bits_retain(DUPLEX);
+    }
+    Requirements::from_bits_retain(bits & WITH_HALF_DUPLEX)
 }
 
 /// The functional units that an AC names, if the message is one.
-pub fn selected_by(message: &Message<'_>) -> Option<u16> {
+pub fn selected_by(message: &Message<'_>) -> Option<u16>
+    ensures { result ≡ units_named_by (meant_by message.now) }
+{
     match message {
         Message::Accept { requirements, .. } => Some(requirements.bits()),
         _ => None,
     }
 }
 
-/// The connect that sends a CN, of which the AC selects these functional units. None if a script can't say it.
-pub fn asked_by<'a>(message: &Message<'a>, selected: Option<u16>) -> Option<(Asking<'a>, Offer)> {
+/// Of the functional units of a CN those that its AC names, if there is one.
+fn both_of(bits: u16, selected: Option<u16>) -> Option<u16>
+    ensures { result ≡ named_by_both bits selected }
+{
+    match selected {
+        Some(named) => Some(named & bits),
+        None => None,
+    }
+}
+
+/// The connect that sends a CN, of which the AC names these functional units, and what the CN offers. None if a script can't say it: the
+/// message is no CN of version 2, or has sizes that no user may give.
+pub fn asked_by<'a>(message: &Message<'a>, selected: Option<u16>) -> Option<(Asking<'a>, Offer)>
+    ensures asking { option_map (λ asked. asks_by asked.0) result ≡ connect_of selected (meant_by message.now) }
+    ensures offer { IfSome result (λ asked. IsOffered asked.1 (meant_by message.now)) }
+{
     match *message {
         Message::Connect {
-            version_2: true,
+            version_2,
             requirements,
             serial,
             wishes,
@@ -109,23 +161,24 @@ pub fn asked_by<'a>(message: &Message<'a>, selected: Option<u16>) -> Option<(Ask
             user_data,
             ..
         } => {
-            let offer = Offer {
-                requirements: requirements.bits(),
-                serial,
-            };
-            let selected = match selected {
-                Some(selected) => Some(selected & offer.requirements),
-                None => None,
+            if !version_2 {
+                return None;
+            }
+            let sizes = sizes_of(sizes)?;
+            let bits = requirements.bits();
+            let asking = Asking {
+                requirements: offered(requirements, both_of(bits, selected)),
+                serial: serial_of(serial),
+                wishes,
+                sizes,
+                user_data,
             };
             Some((
-                Asking {
-                    requirements: offered(requirements, selected),
-                    serial: serial_of(serial),
-                    wishes,
-                    sizes: sizes_of(sizes)?,
-                    user_data,
+                asking,
+                Offer {
+                    requirements: bits,
+                    serial,
                 },
-                offer,
             ))
         }
         _ => None,
@@ -133,40 +186,64 @@ pub fn asked_by<'a>(message: &Message<'a>, selected: Option<u16>) -> Option<(Ask
 }
 
 /// The call that sends an RF. A script has one for two reasons.
-fn refusing(reason: u8, user_data: &[u8]) -> Option<Request<'_>> {
-    let wanted = if user_data.is_empty() {
-        UNSPECIFIED
-    } else {
-        WITH_DATA
-    };
-    if reason != wanted {
+fn refusing(reason: u8, user_data: &[u8]) -> Option<Request<'_>>
+    ensures { option_map called_by result ≡ refuse_of reason (refusal_with user_data.now) }
+{
+    let refusal = Refusal::with(user_data);
+    if reason != refusal.reason() {
         return None;
     }
-    Some(Request::Refuse {
-        refusal: Refusal::with(user_data),
-    })
+    Some(Request::Refuse { refusal })
 }
 
 /// The call that sends an AB. A provider's has none.
-fn aborting(transport_disconnect: u8, user_data: &[u8]) -> Option<Request<'_>> {
+fn aborting(transport_disconnect: u8, user_data: &[u8]) -> Option<Request<'_>>
+    ensures { option_map called_by result ≡ if names transport_disconnect 2 then Some (Abort user_data.now) else None }
+{
     if transport_disconnect & BY_USER != BY_USER {
         return None;
     }
     Some(Request::Abort { user_data })
 }
 
-/// The functional units that an AC selects, if all of them have a meaning here.
-fn selection(requirements: Requirements, offer: Offer) -> Option<Requirements> {
-    let bits = requirements.bits() & offer.requirements;
+/// These functional units, if all of them have a meaning here.
+fn known(bits: u16) -> Option<Requirements>
+    ensures { option_map unit_bits result ≡ if are_known bits then Some bits else None }
+{
     if bits & KNOWN != bits {
         return None;
     }
     Some(Requirements::from_bits_retain(bits))
 }
 
-/// The call that answers a CN with an AC. None if the AC selects what no script can.
-fn accepting<'a>(message: &Message<'a>, offer: Offer) -> Option<Request<'a>> {
+/// The call that answers a CN with an AC of these functional units and this number. None if no script can select them.
+fn accepting<'a>(
+    bits: u16,
+    serial: Serial,
+    sides: TokenSetting,
+    sizes: TsduMaximumSize,
+    user_data: &'a [u8],
+) -> Option<Request<'a>>
+    ensures { option_map called_by result ≡ accept_of bits serial.number sides sizes user_data.now }
+{
+    let requirements = known(bits)?;
+    let sizes = sizes_of(sizes)?;
+    Some(Request::Accept {
+        requirements,
+        serial,
+        sides: sides_of(sides),
+        sizes,
+        user_data,
+    })
+}
+
+/// The call that sends a message of a connection whose CN offers this. None if no call does: it is a CN, which a connect sends
+/// ([`asked_by`]), an AA, an AB of a provider, an RF with a reason that no script gives, or an AC that selects what no script can.
+pub fn request_of<'a>(message: &Message<'a>, offer: Offer) -> Option<Request<'a>>
+    ensures { option_map called_by result ≡ call_of offer (meant_by message.now) }
+{
     match *message {
+        Message::Connect { .. } | Message::AbortAccept => None,
         Message::Accept {
             requirements,
             serial,
@@ -174,22 +251,13 @@ fn accepting<'a>(message: &Message<'a>, offer: Offer) -> Option<Request<'a>> {
             sizes,
             user_data,
             ..
-        } => Some(Request::Accept {
-            requirements: selection(requirements, offer)?,
-            serial: serial_of(serial.or(offer.serial)),
-            sides: sides_of(sides),
-            sizes: sizes_of(sizes)?,
+        } => accepting(
+            requirements.bits() & offer.requirements,
+            agreed(serial, offer.serial),
+            sides,
+            sizes,
             user_data,
-        }),
-        _ => None,
-    }
-}
-
-/// The call that sends a message of a connection with this CN. None if no call does.
-pub fn request_of<'a>(message: &Message<'a>, offer: Offer) -> Option<Request<'a>> {
-    match *message {
-        Message::Connect { .. } | Message::AbortAccept => None,
-        Message::Accept { .. } => accepting(message, offer),
+        ),
         Message::Refuse { reason, user_data } => refusing(reason, user_data),
         Message::Data { user_data } => Some(Request::Data { user_data }),
         Message::Give { tokens } => Some(Request::Give {

@@ -1,8 +1,11 @@
 //! One connection of a capture.
 
-ghost use Rattle.std.specs.Prelude.{◌≡◌, OnOk};
-ghost use Rattle.osi_explain.specs.Conversations.{stream_of, class_by, is_refused_by, limit_of};
+ghost use Rattle.std.specs.Prelude.{◌≡◌, IfOk, OnOk};
+ghost use Rattle.osi_explain.specs.Conversations.{stream_of, answered_by, class_by, is_refused_by, limit_of, Begins};
+ghost use Rattle.osi_explain.specs.Places.{other_side};
+ghost use Rattle.osi_explain.specs.Streams.{tsdus_of, Adds, Keeps};
 ghost use Rattle.osi_explain.specs.Told.{IsTraced};
+ghost use Rattle.osi_explain.specs.Whole.{IsUntold, IsUntoldOn, IsWhole, IsWholeOn};
 ghost use Rattle.osi_session.specs.Standing.{seen_calling, seen_called};
 
 use crate::places::{Place, Stop, earlier};
@@ -93,7 +96,12 @@ fn pass(
     end: bool,
     user: &[u8],
     place: Place,
-) -> Result<(), AllocError> {
+) -> Result<(), AllocError>
+    ensures adds { OnOk result (IsWhole own.old → Adds end user.now own.old own.new) }
+    ensures own { OnOk result (IsUntold own.old → IsUntold own.new) }
+    ensures keeps { OnOk result (Keeps heard.old heard.new) }
+    ensures heard { OnOk result (IsUntold heard.old → IsUntold heard.new) }
+{
     if own.add(alloc, heard, end, user, place)? {
         return heard.hear(own);
     }
@@ -102,7 +110,10 @@ fn pass(
 
 impl Conversation {
     /// A connection that a CR requests.
-    pub(crate) fn new(alloc: Global, request: Opening) -> Result<Conversation, AllocError> {
+    pub(crate) fn new(alloc: Global, request: Opening) -> Result<Conversation, AllocError>
+        ensures begins { IfOk result (Begins request) }
+        ensures untold { IfOk result IsUntoldOn }
+    {
         let left = Stream::new(
             alloc,
             Side::Left,
@@ -154,7 +165,9 @@ impl Conversation {
     }
 
     /// The CR is answered, if it was not answered before.
-    pub(crate) fn answer(&mut self, answer: Opening) {
+    pub(crate) fn answer(&mut self, answer: Opening)
+        ensures { self.new ≡ record self.old { answer = answered_by self.old.answer answer } }
+    {
         if self.answer.is_none() {
             self.answer = Some(answer);
         }
@@ -168,7 +181,13 @@ impl Conversation {
         end: bool,
         user: &[u8],
         place: Place,
-    ) -> Result<(), AllocError> {
+    ) -> Result<(), AllocError>
+        ensures adds { OnOk result (IsUntoldOn self.old → Adds end user.now (stream_of self.old side) (stream_of self.new side)) }
+        ensures other { OnOk result (Keeps (stream_of self.old (other_side side)) (stream_of self.new (other_side side))) }
+        ensures request { self.new.request ≡ self.old.request }
+        ensures answer { self.new.answer ≡ self.old.answer }
+        ensures untold { OnOk result (IsUntoldOn self.old → IsUntoldOn self.new) }
+    {
         match side {
             Side::Left => pass(alloc, &mut self.left, &mut self.right, end, user, place),
             Side::Right => pass(alloc, &mut self.right, &mut self.left, end, user, place),
@@ -180,6 +199,7 @@ impl Conversation {
     pub(crate) fn trace(&mut self, alloc: Global) -> Result<(), AllocError>
         ensures left { OnOk result (IsTraced self.old.left self.new.left self.new.right seen_calling) }
         ensures right { OnOk result (IsTraced self.old.right self.new.right self.new.left seen_called) }
+        ensures whole { OnOk result (IsWholeOn self.old → IsWholeOn self.new) }
     {
         // In class 2 each end acknowledges what it takes, so the runs take what they can before they send.
         let is_late = self.class() == Some(2);

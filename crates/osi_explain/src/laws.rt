@@ -1,11 +1,15 @@
-//! Laws of runs. The function does nothing: its contract is the law.
+//! Laws of runs. The functions do nothing: their contracts are the laws.
 
 ghost use Rattle.std.specs.Prelude.{ℕ, List, map};
 ghost use Rattle.osi_session.specs.Standing.{Seen};
-ghost use Rattle.osi_side.specs.Explaining.{Explains};
+ghost use Rattle.osi_side.specs.Explaining.{Explains, IsExplained};
 ghost use Rattle.osi_explain.specs.declared.streams.Kept.{Kept};
 ghost use Rattle.osi_explain.specs.declared.streams.Said.{Said};
+ghost use Rattle.osi_explain.specs.declared.streams.Stream.{Stream};
+ghost use Rattle.osi_explain.specs.Streams.{tsdus_of};
+ghost use Rattle.osi_explain.specs.Told.{IsTold};
 ghost use Rattle.osi_explain.specs.Trails.{Runs, remark_of};
+ghost use Rattle.osi_explain.specs.Whole.{IsWhole};
 
 /// A run that is told of a side explains the units that the side sent, as `osi_side` means it: a session that begins there, and takes
 /// TSDUs of the other side only after they had passed, sends them all.
@@ -13,4 +17,12 @@ ghost use Rattle.osi_explain.specs.Trails.{Runs, remark_of};
 pub fn a_run_explains_what_its_side_sent()
     ensures { (own us : List (List ℕ)) (kept : List Kept) (said : List Said) (taken : ℕ) (begin : Seen) →
         Runs own us kept said taken begin → Explains us (map (remark_of own) kept) taken begin }
+{}
+
+/// So if a run is told of a side of a capture, a session explains all TSDUs of the side: those before its limit, or all if it has none.
+/// Each of them it sends after TSDUs of the other side that had passed before it.
+#[tactic(auto, using(crate::proofs::a_run_is_told_of_each_side::explains_all))]
+pub fn a_run_that_is_told_explains_its_side()
+    ensures { (own heard : Stream) (begin : Seen) (whole : IsWhole own) → IsTold own heard begin
+        → IsExplained begin (tsdus_of heard) whole.told }
 {}

@@ -1,7 +1,11 @@
 //! One side of a connection: its TSDUs as they passed, and the sessions that the judge kept after each of their units.
 
-ghost use Rattle.std.specs.Prelude.{◌≡◌, get_or, [], IfSome, IfNone};
-ghost use Rattle.osi_explain.specs.Streams.{tsdus_of, Keeps};
+ghost use Rattle.std.specs.Prelude.{◌≡◌, ◌≢◌, ◌<◌, ◌+◌, ◌++◌, ◌∷◌, [], false, None, get_or, length, IfOk, IfSome, IfNone, OnOk};
+ghost use Rattle.osi_side.specs.Judging.{Observes};
+ghost use Rattle.osi_side.specs.Sides.{observed};
+ghost use Rattle.osi_side.specs.declared.findings.Finding.{Finding as Found};
+ghost use Rattle.osi_explain.specs.Streams.{tsdus_of, unfinished, Adds, IsEmpty, Keeps};
+ghost use Rattle.osi_explain.specs.Whole.{AreUnitsOf, IsWhole, IsWholeBut, TellsLast};
 
 use crate::halts::Halt;
 use crate::places::{Place, Stop};
@@ -103,12 +107,12 @@ fn kept_after(
     tsdu: &[u8],
     number: usize,
     before: usize,
-) -> Result<Vec<Kept>, AllocError> {
+) -> Result<Vec<Kept>, AllocError>
+    ensures { IfOk result (λ kept. AreUnitsOf tsdu.now number before kept.items) }
+{
     let mut kept: Vec<Kept> = Vec::new(alloc);
-    'units: for place in 0..tsdu.len() {
-        let Some(unit) = acting_unit(tsdu, place) else {
-            break;
-        };
+    'units: while let Some(unit) = acting_unit(tsdu, kept.len()) {
+        let place = kept.len();
         let from = match kept.last() {
             Some(last) => last.members.as_slice(),
             None => side.members(),
@@ -131,7 +135,13 @@ impl Stream {
         name: Side,
         side: Judged,
         begin: Standing,
-    ) -> Result<Stream, AllocError> {
+    ) -> Result<Stream, AllocError>
+        requires observes { Observes (observed side) [] }
+        requires finding { (observed side).finding ≡ Found.Kept }
+        ensures side { IfOk result (λ s. observed s.side ≡ observed side) }
+        ensures empty { IfOk result IsEmpty }
+        ensures whole { IfOk result IsWhole }
+    {
         let mut members = Vec::new(alloc);
         members.push(Member {
             taken: 0,
@@ -179,7 +189,11 @@ impl Stream {
     }
 
     /// There is no run with the TSDU at this place.
-    pub(crate) fn stop_at(&mut self, place: Place, halt: Halt) {
+    fn stop_at(&mut self, place: Place, halt: Halt)
+        ensures keeps { Keeps self.old self.new }
+        ensures limit { self.new.limit ≢ None }
+        ensures said { self.new.said ≡ self.old.said }
+    {
         if self.limit.is_none() {
             self.limit = Some(Stop {
                 side: self.name,
@@ -192,6 +206,7 @@ impl Stream {
     /// The run is this one. If none was found there is none at all.
     pub(crate) fn has_run(&mut self, run: Option<Vec<Said>>)
         ensures keeps { Keeps self.old self.new }
+        ensures whole { IsWhole self.old → IsWhole self.new }
         ensures some { IfSome run (λ said. self.new.said.items ≡ said.items) }
         ensures none { IfNone run (self.new.said ≡ self.old.said) }
     {
@@ -203,6 +218,7 @@ impl Stream {
 
     fn stop_at_first(&mut self)
         ensures keeps { Keeps self.old self.new }
+        ensures whole { IsWhole self.old → IsWhole self.new }
         ensures said { self.new.said ≡ self.old.said }
     {
         if let Some(tsdu) = self.tsdus.first() {
@@ -222,8 +238,13 @@ impl Stream {
         end: bool,
         user: &[u8],
         place: Place,
-    ) -> Result<bool, AllocError> {
-        self.octets.extend_from_slice(user)?;
+    ) -> Result<bool, AllocError>
+        ensures end { IfOk result (λ is_last. is_last ≡ end) }
+        ensures adds { OnOk result (IsWhole self.old → Adds end user.now self.old self.new) }
+        ensures whole { OnOk result (IsWhole self.old → IsWhole self.new) }
+        ensures said { self.new.said ≡ self.old.said }
+    {
+        self.gather(user)?;
         let first = self.begun.unwrap_or(place.first);
         if !end {
             self.begun = Some(first);
@@ -234,22 +255,52 @@ impl Stream {
         Ok(true)
     }
 
+    /// Octets of a TSDU pass.
+    fn gather(&mut self, octets: &[u8]) -> Result<(), AllocError>
+        ensures adds { OnOk result (IsWhole self.old → Adds false octets.now self.old self.new) }
+        ensures said { self.new.said ≡ self.old.said }
+        ensures whole { OnOk result (IsWhole self.old → IsWhole self.new) }
+    {
+        self.octets.extend_from_slice(octets)?;
+        Ok(())
+    }
+
     /// The TSDU ends whose octets have passed.
-    fn end_tsdu(&mut self, alloc: Global, place: Place) -> Result<(), AllocError> {
+    fn end_tsdu(&mut self, alloc: Global, place: Place) -> Result<(), AllocError>
+        ensures tsdus { OnOk result (IsWhole self.old → tsdus_of self.new ≡ tsdus_of self.old ++ unfinished self.old ∷ []) }
+        ensures said { self.new.said ≡ self.old.said }
+        ensures unfinished { OnOk result (unfinished self.new ≡ []) }
+        ensures whole { OnOk result (IsWhole self.old → IsWhole self.new) }
+    {
         let number = self.tsdus.len();
-        let start = self.start;
-        self.tsdus.push(Tsdu {
-            start,
-            end: self.octets.len(),
-            place,
-        })?;
-        self.start = self.octets.len();
-        self.begun = None;
+        self.push_tsdu(place)?;
         self.judge(alloc, number, place)
     }
 
-    /// The judge is told of the TSDU with this number. The sessions are kept that it keeps after each of its units.
-    fn judge(&mut self, alloc: Global, number: usize, place: Place) -> Result<(), AllocError> {
+    /// The octets that have passed since the last TSDU are one.
+    fn push_tsdu(&mut self, place: Place) -> Result<(), AllocError>
+        ensures tsdus { OnOk result (IsWhole self.old → tsdus_of self.new ≡ tsdus_of self.old ++ unfinished self.old ∷ []) }
+        ensures said { self.new.said ≡ self.old.said }
+        ensures count { OnOk result (length self.new.tsdus.items ≡ length self.old.tsdus.items + 1) }
+        ensures unfinished { OnOk result (unfinished self.new ≡ []) }
+        ensures whole { OnOk result (IsWhole self.old → IsWholeBut 1 self.new) }
+    {
+        let start = self.start;
+        let end = self.octets.len();
+        self.tsdus.push(Tsdu { start, end, place })?;
+        self.start = end;
+        self.begun = None;
+        Ok(())
+    }
+
+    /// The judge is told of the TSDU with this number, the last one. The sessions are kept that it keeps after each of its units.
+    fn judge(&mut self, alloc: Global, number: usize, place: Place) -> Result<(), AllocError>
+        requires { number + 1 ≡ length self.old.tsdus.items }
+        ensures tsdus { OnOk result (tsdus_of self.new ≡ tsdus_of self.old) }
+        ensures said { self.new.said ≡ self.old.said }
+        ensures unfinished { OnOk result (unfinished self.new ≡ unfinished self.old) }
+        ensures whole { OnOk result (IsWholeBut 1 self.old → IsWhole self.new) }
+    {
         if self.limit.is_some() {
             return Ok(());
         }
@@ -266,10 +317,12 @@ impl Stream {
         Ok(())
     }
 
-    fn tell(&mut self, number: usize) -> Result<(), AllocError> {
-        let Some(tsdu) = self.tsdus.get(number) else {
-            return Ok(());
-        };
+    fn tell(&mut self, number: usize) -> Result<(), AllocError>
+        requires { number < length self.old.tsdus.items }
+        ensures tells { OnOk result (TellsLast number self.old self.new) }
+        ensures said { self.new.said ≡ self.old.said }
+    {
+        let tsdu = self.tsdus[number];
         let octets = self.octets.get(tsdu.start..tsdu.end).unwrap_or_default();
         match self.side.tell(octets, self.before) {
             Ok(()) => Ok(()),
@@ -278,7 +331,11 @@ impl Stream {
     }
 
     /// The last TSDU of the other side has passed.
-    pub(crate) fn hear(&mut self, other: &Stream) -> Result<(), AllocError> {
+    pub(crate) fn hear(&mut self, other: &Stream) -> Result<(), AllocError>
+        ensures keeps { OnOk result (Keeps self.old self.new) }
+        ensures said { self.new.said ≡ self.old.said }
+        ensures whole { OnOk result (IsWhole self.old → IsWhole self.new) }
+    {
         let last = other.tsdus.len().saturating_sub(1);
         self.side.hear(other.tsdu(last))
     }
