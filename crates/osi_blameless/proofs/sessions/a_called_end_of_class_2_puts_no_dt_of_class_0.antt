@@ -1,21 +1,19 @@
 -- What a called end of class 2 has put and what has not passed has no DT of class 0.
+-- What holds of the units at each place holds of all that is to pass.
 -- For the units that a called end puts.
-use Rattle.osi_blameless.proofs.Vocabulary.{[], ap, append_assoc, false, List, None, Ok, Option, refl, Some, subst, sym, ℕ, ◌&&◌, ◌++◌, ◌∙◌}
-use Rattle.osi_blameless.proofs.Vocabulary.{◌∷◌, ◌≡◌, AllByRecursion, slice_get, acknowledge, data0, data2, disconnected, Value, Flow, ack}
-use Rattle.osi_blameless.proofs.Vocabulary.{part0, part2, Standing, give_out, hand_in, hand_out, Move, Moves, take_in, Local, Connection}
-use Rattle.osi_blameless.proofs.Vocabulary.{Way as Direction, Continues, Deeds, all_units, Turn, answering, AreStrays, Called, refuses}
-use Rattle.osi_blameless.proofs.Vocabulary.{runs, Stand, StrayIf, at_first, at_join, first_at, Placed, values, gives_so, takes_so, Act}
-use Rattle.osi_blameless.proofs.Vocabulary.{Acts, ActsAlong, begins_elsewhere, ignores, Line, moves, units_put, Whole, Joint, TakesTurn}
+use Rattle.osi_blameless.proofs.Vocabulary.{[], ap, append_assoc, List, None, Ok, Option, refl, Some, subst, sym, ℕ, ◌&&◌, ◌++◌}
+use Rattle.osi_blameless.proofs.Vocabulary.{◌∙◌, ◌∷◌, ◌≡◌, AllByRecursion, slice_get, acknowledge, data0, data2, disconnected, Value}
+use Rattle.osi_blameless.proofs.Vocabulary.{Flow, ack, part0, part2, Standing, give_out, hand_in, hand_out, Move, Moves, take_in}
+use Rattle.osi_blameless.proofs.Vocabulary.{Local, Connection, Way as Direction, answering, AreStrays}
+use Rattle.osi_blameless.proofs.Vocabulary.{Called, refuses, runs, Stand, StrayIf, at_first, at_join, first_at, Placed, values, gives_so}
+use Rattle.osi_blameless.proofs.Vocabulary.{takes_so, Act, Acts, ActsAlong, begins_elsewhere, ignores, Line, moves, units_put, Whole}
 use Rattle.osi_blameless.proofs.Vocabulary.{comes, arith}
 use Rattle.osi_class.specs.Link.{taken}
 use Rattle.osi_rules.specs.declared.directions.Direction.TheVariants.{Right}
 use Rattle.osi_fair.specs.Lines.{answers, begins_other, begins_own, closes, passes_other, passes_own}
 use Rattle.osi_fair.proofs.units_by_their_place.{units_at}
-use Rattle.osi_side.specs.declared.directions.Direction.TheVariants as side
-use Rattle.osi_fair.specs.Wholes.{begin}
 use Rattle.osi_blameless.proofs.small_facts_that_many_lemmas_use.{all_join as all_of_both}
-use Rattle.osi_blameless.proofs.steps_are_events.{IsFollowed}
-use Rattle.osi_blameless.proofs.sessions.what_a_turn_puts_goes_to_its_peer.{IsNotZero, all_back, all_so, one_of}
+use Rattle.osi_blameless.proofs.sessions.what_a_turn_puts_goes_to_its_peer.{IsNotZero, one_of}
 use Rattle.osi_fair.proofs.each_connection_of_a_called_end.{past}
 
 -- ---- a line of class 2
@@ -64,11 +62,48 @@ acts_two d r peer [] old new e h = subst IsOfTwo (sym e) h
 acts_two d r peer (act ∷ acts) old new (mid, one, more) h =
     acts_two d r peer acts mid new more (act_two d r peer act old mid one h)
 
+-- ---- what holds at each place holds of all that is to pass
+
+abbrev pub StandsAt : (local : Local) (w : Whole) → Called local w → ℕ → Connection → Type 0
+StandsAt local w f p c =
+    Stand local f.shut w.end w.coming (units_at p f.tagged) (units_at p f.came) (w.begun && first_at p f.tagged) (f.refs p) c
+
+-- where a unit stands among those of its place
+pub place_parts : (units : List Placed) (p : ℕ) (front rest : List Placed) (v : Value) → units ≡ front ++ (Some p, v) ∷ rest →
+    units_at p units ≡ units_at p front ++ v ∷ units_at p rest
+place_parts units p front rest v is =
+    ap (units_at p) is ∙ at_join p front ((Some p, v) ∷ rest) ∙ ap (λ (l : List Value). units_at p front ++ l) (at_first p v rest)
+
+module _ (P : Value → Type 0) (local : Local) (w : Whole) (f : Called local w) (stray : (m n : ℕ) → P (disconnected m n))
+    (at : (p : ℕ) (c : Connection) → StandsAt local w f p c → AllByRecursion P (units_at p f.tagged)) where
+  one_so : (front rest : List Placed) (o : Option ℕ) (v : Value) → f.tagged ≡ front ++ (o, v) ∷ rest →
+      StrayIf f.shut w.end f.refs f.home w.judge.course.disconnects.strays o v rest → P v
+  one_so front rest None v is s = subst P (sym s.is) (stray s.m s.n)
+  one_so front rest (Some p) v is s = by (slice_get w.judge.connections p) refl
+    where
+      among : AllByRecursion P (units_at p f.tagged) → P v
+      among all =
+          one_of P (units_at p front) (units_at p rest) v (subst (AllByRecursion P) (place_parts f.tagged p front rest v is) all)
+
+      by : (o : Option Connection) → slice_get w.judge.connections p ≡ o → P v
+      by None e = among (subst (AllByRecursion P) (sym (f.beyond p e).0) tt)
+      by (Some c) e = among (at p c (f.stands p c e))
+
+  each_so : (front rest : List Placed) → f.tagged ≡ front ++ rest →
+      AreStrays f.shut w.end f.refs f.home w.judge.course.disconnects.strays rest → AllByRecursion P (values rest)
+  each_so front [] is strays = tt
+  each_so front (m ∷ rest) is strays = (
+    one_so front rest m.0 m.1 is strays.0,
+    each_so (front ++ m ∷ []) rest (is ∙ sym (append_assoc front (m ∷ []) rest)) strays.1,
+  )
+
+  pub put_so : AllByRecursion P w.put
+  put_so = subst (AllByRecursion P) (sym f.put) (each_so [] f.tagged refl f.strays)
+
 -- ---- all that is to pass
 
 module _ (local : Local) (w : Whole) (f : Called local w) where
-  stand_two : (p : ℕ) (c : Connection) → Stand local f.shut w.end w.coming (units_at p f.tagged) (units_at p f.came)
-      (w.begun && first_at p f.tagged) (f.refs p) c → AllByRecursion IsNotZero (units_at p f.tagged)
+  stand_two : (p : ℕ) (c : Connection) → StandsAt local w f p c → AllByRecursion IsNotZero (units_at p f.tagged)
   stand_two p c (comes x a none ask index) = subst (AllByRecursion IsNotZero) (sym none) tt
   stand_two p c (refuses x a reason put none index seen) = subst (AllByRecursion IsNotZero) (sym put) (λ last user same. cc same, tt)
   stand_two p c (answering h none) =
@@ -84,41 +119,5 @@ module _ (local : Local) (w : Whole) (f : Called local w) where
       subst (AllByRecursion IsNotZero) h.put after.put
   stand_two p c (past silent up none asks un off) = subst (AllByRecursion IsNotZero) (sym none) tt
 
-  one_two : (front rest : List Placed) (o : Option ℕ) (v : Value) → f.tagged ≡ front ++ (o, v) ∷ rest →
-      StrayIf f.shut w.end f.refs f.home w.judge.course.disconnects.strays o v rest → IsNotZero v
-  one_two front rest None v is stray = λ end user e. let no : disconnected stray.m stray.n ≡ data0 end user = sym stray.is ∙ e in cc
-  one_two front rest (Some p) v is stray = by (slice_get w.judge.connections p) refl
-    where
-      here : units_at p f.tagged ≡ units_at p front ++ v ∷ units_at p rest
-      here =
-          ap (units_at p) is ∙ at_join p front ((Some p, v) ∷ rest)
-          ∙ ap (λ (l : List Value). units_at p front ++ l) (at_first p v rest)
-
-      among : AllByRecursion IsNotZero (units_at p f.tagged) → IsNotZero v
-      among all = one_of IsNotZero (units_at p front) (units_at p rest) v (subst (AllByRecursion IsNotZero) here all)
-
-      by : (o : Option Connection) → slice_get w.judge.connections p ≡ o → IsNotZero v
-      by None e = among (subst (AllByRecursion IsNotZero) (sym (f.beyond p e).0) tt)
-      by (Some c) e = among (stand_two p c (f.stands p c e))
-
-  all_two : (front rest : List Placed) → f.tagged ≡ front ++ rest → AreStrays f.shut w.end f.refs f.home w.judge.course.disconnects.strays
-      rest →
-      AllByRecursion IsNotZero (values rest)
-  all_two front [] is strays = tt
-  all_two front (m ∷ rest) is strays = (
-    one_two front rest m.0 m.1 is strays.0,
-    all_two (front ++ m ∷ []) rest (is ∙ sym (append_assoc front (m ∷ []) rest)) strays.1,
-  )
-
   pub called_put_two : AllByRecursion IsNotZero w.put
-  called_put_two = subst (AllByRecursion IsNotZero) (sym f.put) (all_two [] f.tagged refl f.strays)
-
--- ---- what it puts in a turn, if it has its lines after it
-
-pub called_turn_two : (local : Local) (deeds : ℕ → Deeds) (turn : Turn) (old new : Joint) (step : TakesTurn turn old new)
-    (on : Continues false deeds old.holding turn new.holding) (g : IsFollowed side.Right (begin false local) new) →
-    step.units ≡ all_units on.put → Called local g.whole → AllByRecursion IsNotZero (all_units on.put)
-called_turn_two local deeds turn old new step on g units lines =
-    let put : g.whole.put ≡ old.put ++ all_units on.put =
-    g.put ∙ step.put ∙ ap (λ (l : List Value). old.put ++ l) units in
-    grind (arith, all_back, called_put_two local g.whole lines)
+  called_put_two = put_so IsNotZero local w f (λ m n end user e. let no : disconnected m n ≡ data0 end user = e in cc) stand_two

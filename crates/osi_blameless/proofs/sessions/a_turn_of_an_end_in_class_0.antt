@@ -25,7 +25,7 @@ use Rattle.osi_blameless.proofs.sessions.units_of_class_0_come_after_its_cc.{InO
 use Rattle.osi_blameless.proofs.sessions.what_a_turn_puts_at_the_connections_that_are_open.{WasOpen, agree_apart, agree_one, all_marked}
 use Rattle.osi_blameless.proofs.sessions.what_a_turn_puts_at_the_connections_that_are_open.{open_before, past_apart, puts_cc}
 use Rattle.osi_blameless.proofs.sessions.what_a_turn_puts_at_the_connections_that_are_open.{still_past, takes_cc, then_open}
-use Rattle.osi_blameless.proofs.sessions.what_a_turn_puts_goes_to_its_peer.{all_back, all_so, one_of}
+use Rattle.osi_blameless.proofs.sessions.what_a_turn_puts_goes_to_its_peer.{all_back, all_so, one_of, turn_puts}
 use Rattle.osi_blameless.proofs.sessions.what_a_turn_puts_waits.{Agree, marks_wait}
 use Rattle.osi_blameless.proofs.sessions.what_an_end_takes_at_each_stage.{AreCalm, turn_takes}
 use Rattle.osi_blameless.proofs.sessions.what_stands_of_a_connection.{waiting_for}
@@ -83,8 +83,7 @@ module _ (d : Direction) (local : Local) (proper : AllProper) (turn : Turn) (old
   dts =
       let all = zero_put d local whole (ap (λ (x : State). x.course.class) g.ahead.followed.judge ∙ class_then ∙ z.class)
       (stage_of d local new g.ahead.followed then_firm) in
-      let put = g.ahead.followed.put in
-      grind (arith, all, put, all_back)
+      turn_puts d (wholes.begin (calls_from d) local) turn old new t (all_units on.put) units g.ahead.followed IsDt0 all
 
   -- what holds of all that had come holds of a CC that was taken
   cc_came : (P : Value → Type 0) (q : ℕ) (x : Connect) (some later : List Marked) → stage_at q end ≡ early →

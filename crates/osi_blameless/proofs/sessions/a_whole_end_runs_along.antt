@@ -1,9 +1,10 @@
 -- At every step of an end and of a judge a whole end runs along, and references are apart at the judge. A calling end that offers class 2
 -- has its lines; a called end has them, also when it is over, unless the CC that waits first selects class 0.
 -- For the units that an end puts.
-use Rattle.osi_blameless.proofs.Vocabulary.{Direction, Followed, Follows, IsOngoing, Joint, Left, Right, Local, State, Whole, first_joined, subst, sym}
-use Rattle.osi_blameless.proofs.Vocabulary.{true, false, ◌≡◌, ◌∙◌, refl, inl, inr, ◌⊎◌, AllByRecursion, Zero, acceptance, CanBeWritten}
-use Rattle.osi_blameless.proofs.Vocabulary.{lines, selected, selecting, Selecting, Called, IsCalled, NamesApart, Stage, AreNamedApart}
+use Rattle.osi_blameless.proofs.Vocabulary.{Direction, Followed, Follows, IsOngoing, Joint, Left, Right, Local, State, Whole, first_joined}
+use Rattle.osi_blameless.proofs.Vocabulary.{subst, sym, true, false, ◌≡◌, ◌∙◌, refl, inl, inr, ◌⊎◌, AllByRecursion, Zero, acceptance}
+use Rattle.osi_blameless.proofs.Vocabulary.{CanBeWritten, lines, selected, selecting, Selecting, Called, IsCalled, NamesApart, Stage}
+use Rattle.osi_blameless.proofs.Vocabulary.{AreNamedApart}
 use Rattle.osi_rules.specs.declared.directions.Direction.TheVariants as way
 use Rattle.osi_fair.specs.Wholes as wholes
 use Rattle.osi_fair.proofs.a_called_end_is_fair as fair

@@ -19,7 +19,7 @@ use Rattle.osi_blameless.proofs.a_carrier_does_events.{none_of}
 use Rattle.osi_blameless.proofs.small_facts_that_many_lemmas_use.{amid_not, early_lasts, given_so, past_not}
 use Rattle.osi_blameless.proofs.steps_are_events.{IsFollowed}
 use Rattle.osi_blameless.proofs.sessions.a_whole_end_runs_along.{HasLines, has_lines}
-use Rattle.osi_blameless.proofs.sessions.a_called_end_of_class_2_puts_no_dt_of_class_0.{called_turn_two}
+use Rattle.osi_blameless.proofs.sessions.a_called_end_of_class_2_puts_no_dt_of_class_0.{called_put_two}
 use Rattle.osi_blameless.proofs.sessions.an_end_of_class_2_goes_on.{OwnInTwo}
 use Rattle.osi_blameless.proofs.sessions.a_turn_does_what_its_deeds_say.{turn_leaves, turn_uses}
 use Rattle.osi_blameless.proofs.sessions.a_unit_is_joined_where_it_is_named.{joined_any}
@@ -36,7 +36,7 @@ use Rattle.osi_blameless.proofs.sessions.references_of_an_end_are_distinct.{Give
 use Rattle.osi_blameless.proofs.sessions.ccs_among_units.{AnswersTwo, AreOrdered, HasCc, IsCc, has_either}
 use Rattle.osi_blameless.proofs.sessions.ccs_among_units.{has_above}
 use Rattle.osi_blameless.proofs.sessions.ccs_among_units.{has_back, has_front, none_before, not_twice}
-use Rattle.osi_blameless.proofs.sessions.what_a_turn_puts_goes_to_its_peer.{all_back, same_units}
+use Rattle.osi_blameless.proofs.sessions.what_a_turn_puts_goes_to_its_peer.{IsNotZero, all_back, same_units, turn_puts}
 use Rattle.osi_blameless.proofs.sessions.what_an_end_takes_at_a_connection.{apart_none, during_taken}
 use Rattle.osi_blameless.proofs.sessions.what_is_in_flight_to_an_end.{parts_taken}
 use Rattle.osi_blameless.proofs.sessions.what_is_left_for_an_end.{left_empty}
@@ -305,7 +305,8 @@ module _ (local : Local) where
         by : (o : Option EndReason) → carrier.ended ≡ o → AllByRecursion (IsMarked Right old.course.traffic old.course.sessions) on.put
         by None lasts =
             called_marked local deeds turn old new t on f before places news
-            (called_turn_two local deeds turn old new t on g.ahead.followed units after.called) no_cc
+            (turn_puts Right first turn old new t (all_units on.put) units g.ahead.followed IsNotZero
+            (called_put_two local g.ahead.followed.whole after.called)) no_cc
         by (Some reason) gone =
             let done = over_acts turn old.holding new.holding (subst IsSome (sym gone) refl) t.takes in
             grind (arith, none_put)

@@ -5,7 +5,7 @@ use Rattle.osi_blameless.proofs.Vocabulary.{[], ap, append_assoc, Bool, false, i
 use Rattle.osi_blameless.proofs.Vocabulary.{ℕ, ◌&&◌, ◌++◌, ◌∙◌, ◌∷◌, ◌≡◌, ◌⊎◌, eqb-true, AllByRecursion, slice_get, acknowledge, confirm}
 use Rattle.osi_blameless.proofs.Vocabulary.{Connect, data2, disconnect, Value, Standing, Move, Two, Local, acceptance, opened_link}
 use Rattle.osi_blameless.proofs.Vocabulary.{value_at, linked, is_open, uses, Connection, Way as Direction, Sessions, Answering, answering}
-use Rattle.osi_blameless.proofs.Vocabulary.{AreStrays, Asked, Called, comes, line_of, refuses, runs, Stand, StrayIf, at_first, at_join}
+use Rattle.osi_blameless.proofs.Vocabulary.{AreStrays, Asked, Called, comes, line_of, refuses, runs, StrayIf, at_first}
 use Rattle.osi_blameless.proofs.Vocabulary.{first_at, is_at, Placed, values, keep, Act, ActsAlong, Line}
 use Rattle.osi_blameless.proofs.Vocabulary.{opened_line, units_put, Whole, HaveSamePlaces, arith, each_sound, differ}
 use Rattle.osi_side.specs.declared.directions.Direction.TheVariants as side
@@ -13,7 +13,7 @@ use Rattle.osi_rules.specs.declared.directions.Direction.TheVariants.{Left, Righ
 use Rattle.osi_fair.proofs.each_connection_of_a_called_end.{past}
 use Rattle.osi_fair.proofs.units_by_their_place.{units_at}
 use Rattle.osi_blameless.proofs.small_facts_that_many_lemmas_use.{all_join as all_of_both}
-use Rattle.osi_blameless.proofs.sessions.a_called_end_of_class_2_puts_no_dt_of_class_0.{called_put_two}
+use Rattle.osi_blameless.proofs.sessions.a_called_end_of_class_2_puts_no_dt_of_class_0.{StandsAt, called_put_two, place_parts, put_so}
 use Rattle.osi_blameless.proofs.sessions.a_right_dt_has_one_place.{still_used}
 use Rattle.osi_blameless.proofs.sessions.a_whole_end_runs_along.{HasLines}
 use Rattle.osi_blameless.proofs.sessions.connections_have_the_same_places.{at_same}
@@ -89,9 +89,6 @@ module _ (local : Local) (w : Whole) (t : Sessions) (lined : HasLines local w) (
   abbrev f : Called local w
   f = lined.called
 
-  abbrev StandsAt : ℕ → Connection → Type 0
-  StandsAt p c = Stand local f.shut w.end w.coming (units_at p f.tagged) (units_at p f.came) (w.begun && first_at p f.tagged) (f.refs p) c
-
   -- a CC, and the connection that waits for it; it is among these units
   record CcAt (n r : ℕ) (among : List Placed) : Type 0 where
     place : ℕ
@@ -112,25 +109,17 @@ module _ (local : Local) (w : Whole) (t : Sessions) (lined : HasLines local w) (
       (f.refs p) c → Value
   cc_of p c h = confirm h.x.source (acceptance Two h.size h.x local h.r)
 
-  -- units of one place
-  abbrev at_place : ℕ → (front rest : List Placed) → Value → List Value
-  at_place p front rest v = units_at p front ++ v ∷ units_at p rest
-
-  place_parts : (p : ℕ) (front rest : List Placed) (v : Value) → f.tagged ≡ front ++ (Some p, v) ∷ rest →
-      units_at p f.tagged ≡ at_place p front rest v
-  place_parts p front rest v is = grind (arith, units_at, at_join, at_first)
-
   cc_by : (n r p : ℕ) (c : Connection) (front rest : List Placed) (v : Value) → slice_get w.judge.connections p ≡ Some c →
-      f.tagged ≡ front ++ (Some p, v) ∷ rest → IsCc n r v → StandsAt p c → CcAt n r ((Some p, v) ∷ rest)
+      f.tagged ≡ front ++ (Some p, v) ∷ rest → IsCc n r v → StandsAt local w f p c → CcAt n r ((Some p, v) ∷ rest)
   cc_by n r p c front rest v at is mine (comes x a none ask index) =
-      not_empty (units_at p front) (units_at p rest) v (sym (place_parts p front rest v is) ∙ none)
+      not_empty (units_at p front) (units_at p rest) v (sym (place_parts f.tagged p front rest v is) ∙ none)
   cc_by n r p c front rest v at is mine (refuses x a reason put none index seen) =
       let one = only_one (units_at p front) (units_at p rest) (disconnect x.source 0 reason []) v
-      (sym (place_parts p front rest v is) ∙ put) in
+      (sym (place_parts f.tagged p front rest v is) ∙ put) in
       absurd (subst (IsCc n r) one mine)
   cc_by n r p c front rest v at is mine (answering h none) =
       by (first_or (units_at p front) (units_at p rest) h.more (cc_of p c h) v
-      (sym (place_parts p front rest v is) ∙ h.mine_is))
+      (sym (place_parts f.tagged p front rest v is) ∙ h.mine_is))
     where
       later : AllByRecursion (IsTo h.x.source) h.more
       later = acts_to Right h.r h.x.source h.acts (opened_line (opened_link Two h.size local h.x.credit) c)
@@ -161,9 +150,9 @@ module _ (local : Local) (w : Whole) (t : Sessions) (lined : HasLines local w) (
   cc_by n r p c front rest v at is mine (runs h none) =
       cc_not_to n r h.peer v mine
       (one_of (IsTo h.peer) (units_at p front) (units_at p rest) v
-      (subst (AllByRecursion (IsTo h.peer)) (place_parts p front rest v is) (grind (arith, acts_to))))
+      (subst (AllByRecursion (IsTo h.peer)) (place_parts f.tagged p front rest v is) (grind (arith, acts_to))))
   cc_by n r p c front rest v at is mine (past silent up none asks un off) =
-      not_empty (units_at p front) (units_at p rest) v (sym (place_parts p front rest v is) ∙ none)
+      not_empty (units_at p front) (units_at p rest) v (sym (place_parts f.tagged p front rest v is) ∙ none)
 
   cc_one : (n r : ℕ) (front rest : List Placed) (o : Option ℕ) (v : Value) → f.tagged ≡ front ++ (o, v) ∷ rest →
       StrayIf f.shut w.end f.refs f.home w.judge.course.disconnects.strays o v rest → IsCc n r v → CcAt n r ((o, v) ∷ rest)
@@ -171,7 +160,7 @@ module _ (local : Local) (w : Whole) (t : Sessions) (lined : HasLines local w) (
   cc_one n r front rest (Some p) v is stray mine = by (slice_get w.judge.connections p) refl
     where
       by : (o : Option Connection) → slice_get w.judge.connections p ≡ o → CcAt n r ((Some p, v) ∷ rest)
-      by None e = not_empty (units_at p front) (units_at p rest) v (sym (place_parts p front rest v is) ∙ (f.beyond p e).0)
+      by None e = not_empty (units_at p front) (units_at p rest) v (sym (place_parts f.tagged p front rest v is) ∙ (f.beyond p e).0)
       by (Some c) e = cc_by n r p c front rest v e is mine (f.stands p c e)
 
   cc_among : (n r : ℕ) (front rest : List Placed) → f.tagged ≡ front ++ rest →
@@ -188,7 +177,8 @@ module _ (local : Local) (w : Whole) (t : Sessions) (lined : HasLines local w) (
 
   same_place : (n r q : ℕ) (ts us : List Placed) (k : CcAt n r ts) (l : CcAt n q us) → k.place ≡ l.place
   same_place n r q ts us k l =
-      lined.named.used n k.place l.place k.c l.c k.at l.at (grind (arith, used_asked k.x k.c k.asked)) (grind (arith, used_asked l.x l.c l.asked))
+      lined.named.used n k.place l.place k.c l.c k.at l.at (grind (arith, used_asked k.x k.c k.asked))
+      (grind (arith, used_asked l.x l.c l.asked))
 
   pub same_destination : (n r q : ℕ) → HasCc n r w.put → HasCc n q w.put → r ≡ q
   same_destination n r q h i =
@@ -225,7 +215,7 @@ module _ (local : Local) (w : Whole) (t : Sessions) (lined : HasLines local w) (
       is_for (Some n) v ≡ true → (k : CcAt n r rest) → p ≡ k.place → A
   ordered_here n r p front rest v is mine k same =
       by (first_or (units_at p front) (units_at p rest) k.more (confirm k.x.source k.cc_is) v
-      (sym (place_parts p front rest v is) ∙ ap (λ (i : ℕ). units_at i f.tagged) same ∙ k.here))
+      (sym (place_parts f.tagged p front rest v is) ∙ ap (λ (i : ℕ). units_at i f.tagged) same ∙ k.here))
     where
       by : {A : Type 0} → ((units_at p front ≡ []) × (v ≡ confirm k.x.source k.cc_is))
           ⊎ ((zs : List Value) × (units_at p front ≡ confirm k.x.source k.cc_is ∷ zs) × (zs ++ v ∷ units_at p rest ≡ k.more)) → A
@@ -235,14 +225,15 @@ module _ (local : Local) (w : Whole) (t : Sessions) (lined : HasLines local w) (
           (grind (arith, has_back, units_at)) k.to
 
   ordered_by : (n r p : ℕ) (c : Connection) (front rest : List Placed) (v : Value) → slice_get w.judge.connections p ≡ Some c →
-      f.tagged ≡ front ++ (Some p, v) ∷ rest → IsNotZero v → is_for (Some n) v ≡ true → CcAt n r rest → StandsAt p c → ⊥
+      f.tagged ≡ front ++ (Some p, v) ∷ rest → IsNotZero v → is_for (Some n) v ≡ true → CcAt n r rest → StandsAt local w f p c → ⊥
   ordered_by n r p c front rest v at is zero mine k (comes x a none ask index) =
-      not_empty (units_at p front) (units_at p rest) v (sym (place_parts p front rest v is) ∙ none)
+      not_empty (units_at p front) (units_at p rest) v (sym (place_parts f.tagged p front rest v is) ∙ none)
   ordered_by n r p c front rest v at is zero mine k (refuses x a reason put none index seen) =
-      search (arith, only_one, differ, units_at p front, units_at p rest, place_parts p front rest v is, is_for (Some n) v, is_for (Some n))
+      let parts = place_parts f.tagged p front rest v is in
+      search (arith, only_one, differ, units_at p front, units_at p rest, parts, is_for (Some n) v, is_for (Some n))
   ordered_by n r p c front rest v at is zero mine k (answering h none) =
       by (first_or (units_at p front) (units_at p rest) h.more (cc_of p c h) v
-      (sym (place_parts p front rest v is) ∙ h.mine_is))
+      (sym (place_parts f.tagged p front rest v is) ∙ h.mine_is))
     where
       later : AllByRecursion (IsTo h.x.source) h.more
       later = acts_to Right h.r h.x.source h.acts (opened_line (opened_link Two h.size local h.x.credit) c)
@@ -261,10 +252,10 @@ module _ (local : Local) (w : Whole) (t : Sessions) (lined : HasLines local w) (
   ordered_by n r p c front rest v at is zero mine k (runs h none) =
       let peer : n ≡ h.peer = to_peer n h.peer v mine zero
       (one_of (IsTo h.peer) (units_at p front) (units_at p rest) v
-      (subst (AllByRecursion (IsTo h.peer)) (place_parts p front rest v is) (grind (arith, acts_to)))) in
+      (subst (AllByRecursion (IsTo h.peer)) (place_parts f.tagged p front rest v is) (grind (arith, acts_to)))) in
       open_not n r rest k p c at h.there (h.left ∙ sym peer)
   ordered_by n r p c front rest v at is zero mine k (past silent up none asks un off) =
-      not_empty (units_at p front) (units_at p rest) v (sym (place_parts p front rest v is) ∙ none)
+      not_empty (units_at p front) (units_at p rest) v (sym (place_parts f.tagged p front rest v is) ∙ none)
 
   ordered_one : (n r : ℕ) (front rest : List Placed) (o : Option ℕ) (v : Value) → f.tagged ≡ front ++ (o, v) ∷ rest →
       StrayIf f.shut w.end f.refs f.home w.judge.course.disconnects.strays o v rest → IsNotZero v → is_for (Some n) v ≡ true →
@@ -274,7 +265,7 @@ module _ (local : Local) (w : Whole) (t : Sessions) (lined : HasLines local w) (
   ordered_one n r front rest (Some p) v is stray zero mine k = by (slice_get w.judge.connections p) refl
     where
       by : (o : Option Connection) → slice_get w.judge.connections p ≡ o → ⊥
-      by None e = not_empty (units_at p front) (units_at p rest) v (sym (place_parts p front rest v is) ∙ (f.beyond p e).0)
+      by None e = not_empty (units_at p front) (units_at p rest) v (sym (place_parts f.tagged p front rest v is) ∙ (f.beyond p e).0)
       by (Some c) e = ordered_by n r p c front rest v e is zero mine k (f.stands p c e)
 
   all_ordered : (front rest : List Placed) → f.tagged ≡ front ++ rest →
@@ -306,7 +297,7 @@ module _ (local : Local) (w : Whole) (t : Sessions) (lined : HasLines local w) (
       none_given : {A : Type 0} → f.refs (f.home q) ≡ None → A
       none_given none = absurd (let no : Some q ≡ None = sym index ∙ none in cc)
 
-      by_stand : (c : Connection) → slice_get w.judge.connections (f.home q) ≡ Some c → StandsAt (f.home q) c →
+      by_stand : (c : Connection) → slice_get w.judge.connections (f.home q) ≡ Some c → StandsAt local w f (f.home q) c →
           HasCc peer q w.put ⊎ HasHome side.Right q peer w.judge t
       by_stand c at (comes x a none ask ref) = none_given ref
       by_stand c at (refuses x a reason put none ref seen) = none_given ref
@@ -327,7 +318,7 @@ module _ (local : Local) (w : Whole) (t : Sessions) (lined : HasLines local w) (
 
   -- ---- each CC selects class 2
 
-  two_at : (p : ℕ) (c : Connection) → StandsAt p c → AllByRecursion AnswersTwo (units_at p f.tagged)
+  two_at : (p : ℕ) (c : Connection) → StandsAt local w f p c → AllByRecursion AnswersTwo (units_at p f.tagged)
   two_at p c (comes x a none ask index) = subst (AllByRecursion AnswersTwo) (sym none) tt
   two_at p c (refuses x a reason put none index seen) = subst (AllByRecursion AnswersTwo) (sym put) (tt, tt)
   two_at p c (answering h none) =
@@ -338,24 +329,5 @@ module _ (local : Local) (w : Whole) (t : Sessions) (lined : HasLines local w) (
   two_at p c (runs h none) = all_so (IsTo h.peer) AnswersTwo (to_two h.peer) (units_at p f.tagged) (grind (arith, acts_to))
   two_at p c (past silent up none asks un off) = subst (AllByRecursion AnswersTwo) (sym none) tt
 
-  two_one : (front rest : List Placed) (o : Option ℕ) (v : Value) → f.tagged ≡ front ++ (o, v) ∷ rest →
-      StrayIf f.shut w.end f.refs f.home w.judge.course.disconnects.strays o v rest → AnswersTwo v
-  two_one front rest None v is stray = subst AnswersTwo (sym stray.is) tt
-  two_one front rest (Some p) v is stray = by (slice_get w.judge.connections p) refl
-    where
-      by : (o : Option Connection) → slice_get w.judge.connections p ≡ o → AnswersTwo v
-      by None e = not_empty (units_at p front) (units_at p rest) v (sym (place_parts p front rest v is) ∙ (f.beyond p e).0)
-      by (Some c) e =
-          one_of AnswersTwo (units_at p front) (units_at p rest) v
-          (subst (AllByRecursion AnswersTwo) (place_parts p front rest v is) (two_at p c (f.stands p c e)))
-
-  all_two : (front rest : List Placed) → f.tagged ≡ front ++ rest →
-      AreStrays f.shut w.end f.refs f.home w.judge.course.disconnects.strays rest → AllByRecursion AnswersTwo (values rest)
-  all_two front [] is strays = tt
-  all_two front (m ∷ rest) is strays = (
-    two_one front rest m.0 m.1 is strays.0,
-    all_two (front ++ m ∷ []) rest (is ∙ sym (append_assoc front (m ∷ []) rest)) strays.1,
-  )
-
   pub put_answers_two : AllByRecursion AnswersTwo w.put
-  put_answers_two = subst (AllByRecursion AnswersTwo) (sym f.put) (all_two [] f.tagged refl f.strays)
+  put_answers_two = put_so AnswersTwo local w f (λ m n. tt) two_at

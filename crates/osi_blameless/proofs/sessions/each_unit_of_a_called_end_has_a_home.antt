@@ -1,12 +1,12 @@
 -- Each DT and each AK that a called end of class 2 puts in a turn is for a connection that the judge knows by its references and that this
 -- end has not closed there, or for one whose CC has not passed; each other unit is for none.
 -- For all connections of an end and a judge.
-use Rattle.osi_blameless.proofs.Vocabulary.{[], ap, append_assoc, false, List, None, Option, refl, Some, subst, sym, true, ℕ, ◌&&◌, ◌++◌}
+use Rattle.osi_blameless.proofs.Vocabulary.{[], ap, append_assoc, false, List, None, Option, refl, Some, subst, sym, true, ℕ, ◌++◌}
 use Rattle.osi_blameless.proofs.Vocabulary.{◌∙◌, ◌∷◌, ◌≡◌, AllByRecursion, slice_get, confirm, Connect, disconnect, request, Value}
 use Rattle.osi_blameless.proofs.Vocabulary.{Standing, Local, value_at, linked, Carrier, is_open, is_refused, uses, silent_half}
 use Rattle.osi_blameless.proofs.Vocabulary.{Traffic as State, Connection, Phase, Left, Right, Answers, Begins, is_shut, Opens, opens}
 use Rattle.osi_blameless.proofs.Vocabulary.{Continues, Deeds, all_units, Marked, Turn, Joined, reference_of, Sessions, answering as answers}
-use Rattle.osi_blameless.proofs.Vocabulary.{Asked, Called, comes, refuses, runs, Stand, Untagged, at_first, at_join, first_at, Placed}
+use Rattle.osi_blameless.proofs.Vocabulary.{Asked, Called, comes, refuses, runs, Untagged, Placed}
 use Rattle.osi_blameless.proofs.Vocabulary.{values, open_link, ◌<◌, Whole, Joint, TakesTurn, HaveSamePlaces, named_by}
 use Rattle.osi_blameless.proofs.Vocabulary.{arith, each_sound, AreApart, differ}
 use Rattle.osi_rules.specs.declared.directions.Direction.TheVariants as way
@@ -17,6 +17,7 @@ use Rattle.osi_honest.specs.Arriving.{is_open as opened}
 use Rattle.osi_blameless.proofs.small_facts_that_many_lemmas_use.{all_front, over_not, not_some}
 use Rattle.osi_blameless.proofs.steps_are_events.{IsFollowed}
 use Rattle.osi_blameless.proofs.sessions.a_whole_end_runs_along.{HasLines}
+use Rattle.osi_blameless.proofs.sessions.a_called_end_of_class_2_puts_no_dt_of_class_0.{StandsAt, place_parts}
 use Rattle.osi_blameless.proofs.sessions.a_right_dt_has_one_place.{still_used}
 use Rattle.osi_blameless.proofs.sessions.all_connections_stand.{one_at, there_too}
 use Rattle.osi_blameless.proofs.sessions.connections_have_the_same_places.{at_same}
@@ -68,9 +69,6 @@ module _ (local : Local) (w : Whole) (t : Sessions) (lined : HasLines local w) (
   abbrev f : Called local w
   f = lined.called
 
-  abbrev StandsAt : ℕ → Connection → Type 0
-  StandsAt p c = Stand local f.shut w.end w.coming (units_at p f.tagged) (units_at p f.came) (w.begun && first_at p f.tagged) (f.refs p) c
-
   -- no other connection that right has open has this reference of left
   none_open : (x : Connect) (p : ℕ) (c : Connection) → slice_get w.judge.connections p ≡ Some c → Asked x c →
       (i : ℕ) (e : Connection) (j : Joined) → slice_get w.judge.connections i ≡ Some e → slice_get t.live i ≡ Some j →
@@ -82,7 +80,7 @@ module _ (local : Local) (w : Whole) (t : Sessions) (lined : HasLines local w) (
       grind (arith, differ)
 
   -- a connection that right has answered has the reference that the end gave it
-  given_by : (q i : ℕ) (c : Connection) → named_by c.right.phase c.right.reference ≡ Some q → StandsAt i c → f.refs i ≡ Some q
+  given_by : (q i : ℕ) (c : Connection) → named_by c.right.phase c.right.reference ≡ Some q → StandsAt local w f i c → f.refs i ≡ Some q
   given_by q i c is h = grind (arith, silent_none, named_is, refused_none)
 
   -- the CC with its reference has not passed
@@ -102,7 +100,7 @@ module _ (local : Local) (w : Whole) (t : Sessions) (lined : HasLines local w) (
   row_peer r peer link come m l h e = grind (arith, same_peer, over_not)
 
   at_home : (q peer : ℕ) (link : Standing) → value_at q w.end.live ≡ Some (linked peer link) → (p : ℕ) (c : Connection) →
-      slice_get w.judge.connections p ≡ Some c → f.refs p ≡ Some q → StandsAt p c → IsHomed Right q peer w.judge t
+      slice_get w.judge.connections p ≡ Some c → f.refs p ≡ Some q → StandsAt local w f p c → IsHomed Right q peer w.judge t
   at_home q peer link is p c at index (comes x a none ask none_given) = not_some (f.refs p) q index none_given
   at_home q peer link is p c at index (refuses x a reason put none none_given seen) = not_some (f.refs p) q index none_given
   at_home q peer link is p c at index (answers h none) =
@@ -146,7 +144,7 @@ module _ (local : Local) (w : Whole) (t : Sessions) (lined : HasLines local w) (
   IsAskedFor v = (x : Connect) → v ≡ request x → AskedAt x
 
   asked_by : (v : Value) (p : ℕ) (c : Connection) (xs ys : List Value) → slice_get w.judge.connections p ≡ Some c →
-      units_at p f.came ≡ xs ++ v ∷ ys → StandsAt p c → IsAskedFor v
+      units_at p f.came ≡ xs ++ v ∷ ys → StandsAt local w f p c → IsAskedFor v
   asked_by v p c xs ys at e (comes y a none ask index) x is =
       grind (arith, sym is ∙ only_one xs ys (request y) v (sym e ∙ ask lasts))
   asked_by v p c xs ys at e (refuses y a reason put none index seen) x is = not_empty xs ys v (sym e ∙ none)
@@ -160,9 +158,7 @@ module _ (local : Local) (w : Whole) (t : Sessions) (lined : HasLines local w) (
   one_asked front rest (Some p) v is = by (slice_get w.judge.connections p) refl
     where
       here : units_at p f.came ≡ units_at p front ++ v ∷ units_at p rest
-      here =
-          ap (units_at p) is ∙ at_join p front ((Some p, v) ∷ rest)
-          ∙ ap (λ (l : List Value). units_at p front ++ l) (at_first p v rest)
+      here = place_parts f.came p front rest v is
 
       by : (o : Option Connection) → slice_get w.judge.connections p ≡ o → IsAskedFor v
       by None e = λ x same. not_empty (units_at p front) (units_at p rest) v (sym here ∙ (f.beyond p e).1)

@@ -1,15 +1,15 @@
 -- Each DT and each AK that a calling end puts in a turn is for a connection that the judge knows by its references and that this end has
 -- not closed there; each other unit is for none.
 -- For all connections of an end and a judge.
-use Rattle.osi_blameless.proofs.Vocabulary.{[], ap, append_assoc, arith, Bool, false, is_some, List, None, Option, refl, Some, subst, sym}
-use Rattle.osi_blameless.proofs.Vocabulary.{true, ℕ, ◌++◌, ◌<◌, ◌==◌, ◌∙◌, ◌∷◌, ◌≡◌, eq-eqb, AllByRecursion, slice_get, confirm, Connect}
-use Rattle.osi_blameless.proofs.Vocabulary.{data0, disconnect, request, Value, Standing, Local, value_at, closing, Live, linked, Carrier}
-use Rattle.osi_blameless.proofs.Vocabulary.{has_given, Traffic as State, Connection, Left, amid, early, Life, opens_by, past, Time as Stage}
-use Rattle.osi_blameless.proofs.Vocabulary.{stage_at, stays, all_units_more, Opens, Continues, Deeds, all_units, Marked, Turn, Sessions}
-use Rattle.osi_blameless.proofs.Vocabulary.{Followed, is_tracked, IsOwned, Row, Tracked, each_picked, first_kept, is_dc, IsDc, IsOngoing}
-use Rattle.osi_blameless.proofs.Vocabulary.{names, those, those_join, Line, Whole, Joint, TakesTurn, HaveSamePlaces, AreGiven, AreApart}
-use Rattle.osi_blameless.proofs.Vocabulary.{BeforeOpen, WhileOpen, stage_by, Awaiting, FirstOf, HasNoCc, asked_so, goes, le-leb, lt-ltb}
-use Rattle.osi_blameless.proofs.Vocabulary.{awaits}
+use Rattle.osi_blameless.proofs.Vocabulary.{[], ap, append_assoc, arith, Bool, false, is_some, List, None, Option, refl, Some, subst}
+use Rattle.osi_blameless.proofs.Vocabulary.{sym, true, ℕ, ◌++◌, ◌<◌, ◌==◌, ◌∙◌, ◌∷◌, ◌≡◌, eq-eqb, AllByRecursion, slice_get, confirm}
+use Rattle.osi_blameless.proofs.Vocabulary.{Connect, disconnect, request, Value, Standing, Local, value_at, closing, Live}
+use Rattle.osi_blameless.proofs.Vocabulary.{linked, Carrier, has_given, Traffic as State, Connection, Left, amid, early, Life, opens_by}
+use Rattle.osi_blameless.proofs.Vocabulary.{past, Time as Stage, stage_at, stays, all_units_more, Opens, Continues, Deeds, all_units}
+use Rattle.osi_blameless.proofs.Vocabulary.{Marked, Turn, Sessions, Followed, is_tracked, IsOwned, Row, Tracked, each_picked, first_kept}
+use Rattle.osi_blameless.proofs.Vocabulary.{is_dc, IsDc, IsOngoing, names, those, those_join, Line, Whole, Joint, TakesTurn, HaveSamePlaces}
+use Rattle.osi_blameless.proofs.Vocabulary.{AreGiven, AreApart, BeforeOpen, WhileOpen, stage_by, Awaiting, FirstOf, HasNoCc, asked_so, goes}
+use Rattle.osi_blameless.proofs.Vocabulary.{le-leb, lt-ltb, awaits}
 use Rattle.osi_carrier.specs.State.{asked}
 use Rattle.osi_fair.specs.Wholes.{begin}
 use Rattle.osi_honest.proofs.courses.the_first_cc_opens_a_connection.{opens_so}
@@ -21,8 +21,8 @@ use Rattle.osi_blameless.proofs.sessions.a_whole_end_runs_along.{whole_followed}
 use Rattle.osi_blameless.proofs.sessions.connections_have_the_same_places.{at_same}
 use Rattle.osi_blameless.proofs.sessions.each_unit_of_a_turn_has_one_connection.{HasHome, IsMarked, known}
 use Rattle.osi_blameless.proofs.sessions.nothing_is_done_before_a_cr_passes.{IsNotCc, same_units}
-use Rattle.osi_blameless.proofs.sessions.what_a_turn_puts_goes_to_its_peer.{GoesTo, IsPutFor, all_back, all_so, goes_to, one_of}
-use Rattle.osi_blameless.proofs.sessions.what_a_turn_puts_goes_to_its_peer.{turn_marked, whole_lasts}
+use Rattle.osi_blameless.proofs.sessions.what_a_turn_puts_goes_to_its_peer.{GoesTo, IsPutFor, all_so, goes_to, one_of, turn_puts}
+use Rattle.osi_blameless.proofs.sessions.what_a_turn_puts_goes_to_its_peer.{IsNotZero, turn_marked, whole_lasts}
 
 -- ---- a connection that is open at the judge has a home there
 
@@ -90,9 +90,10 @@ module _ (local : Local) (w : Whole) (t : Sessions) (f : Followed local w) (plac
       let same : x ≡ h.x = grind (arith, first_cc, those, those_first, all_so, dc_not_cc) in
       grind (arith, home_of w.judge t places p c at so)
 
--- no DT of class 0 is owned
-not_data0 : (s : State) (u : Value) → IsOwned s u → (end : Bool) (user : List ℕ) → u ≡ data0 end user → ⊥
-not_data0 s u h end user e = grind arith
+-- ---- no DT of class 0 is put
+
+owned_two : (s : State) (u : Value) → IsOwned s u → IsNotZero u
+owned_two s u h end user e = grind arith
 
 -- ---- a turn
 
@@ -134,13 +135,11 @@ module _ (local : Local) (two : local.class2 ≡ true) (deeds : ℕ → Deeds) (
   places_so : HaveSamePlaces f.whole.judge.connections t.live
   places_so = subst (λ (x : State). HaveSamePlaces x.connections t.live) (sym f.judge) places
 
-  -- each unit is owned
-  owned_units : AllByRecursion (IsOwned g.whole.judge) (all_units on.put)
-  owned_units =
+  no_zero : AllByRecursion IsNotZero (all_units on.put)
+  no_zero =
       let all = (whole_followed local two new g (subst (λ (c : Passed). IsOngoing c.traffic.course) (sym step.course) clear)).owned in
-      let put : g.whole.put ≡ old.put ++ all_units on.put =
-      g.put ∙ step.put ∙ ap (λ (l : List Value). old.put ++ l) units in
-      grind (arith, all_back)
+      turn_puts Left (begin true local) turn old new step (all_units on.put) units g IsNotZero
+      (all_so (IsOwned g.whole.judge) IsNotZero (owned_two g.whole.judge) g.whole.put all)
 
   -- ---- the connection that a unit is put for
 
@@ -234,5 +233,4 @@ module _ (local : Local) (two : local.class2 ≡ true) (deeds : ℕ → Deeds) (
 
   pub calling_marked : AllByRecursion (IsMarked Left s t) on.put
   calling_marked =
-      turn_marked Left true (begin true local) deeds turn old new step on f s t (grind (arith, all_so, not_data0, owned_units))
-      (grind (arith, is_put, goes))
+      turn_marked Left true (begin true local) deeds turn old new step on f s t no_zero (grind (arith, is_put, goes))

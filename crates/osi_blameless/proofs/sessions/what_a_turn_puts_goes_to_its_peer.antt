@@ -32,6 +32,14 @@ pub all_so : {X : Type 0} (P Q : X → Type 0) → ((x : X) → P x → Q x) →
 all_so P Q f [] h = tt
 all_so P Q f (x ∷ xs) h = (f x h.0, all_so P Q f xs h.1)
 
+-- ---- what holds of all that a whole end has put holds of what it puts in a turn
+
+pub turn_puts : (d : Direction) (start : Whole) (turn : Turn) (old new : Joint) (step : TakesTurn turn old new) (units : List Value) →
+    step.units ≡ units → (g : IsFollowed d start new) (P : Value → Type 0) → AllByRecursion P g.whole.put → AllByRecursion P units
+turn_puts d start turn old new step units is g P all =
+    let put : g.whole.put ≡ old.put ++ units = g.put ∙ step.put ∙ ap (λ (l : List Value). old.put ++ l) is in
+    all_back P old.put units (subst (AllByRecursion P) put all)
+
 -- ---- what the end has done in the turn
 
 -- a unit has come

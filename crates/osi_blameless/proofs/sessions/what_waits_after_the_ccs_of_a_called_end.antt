@@ -12,14 +12,14 @@ use Rattle.osi_honest.specs.Arriving.{is_open as opened}
 use Rattle.osi_blameless.proofs.small_facts_that_many_lemmas_use.{same_bool}
 use Rattle.osi_blameless.proofs.steps_are_events.{IsFollowed}
 use Rattle.osi_blameless.proofs.sessions.a_whole_end_runs_along.{HasLines}
-use Rattle.osi_blameless.proofs.sessions.a_called_end_of_class_2_puts_no_dt_of_class_0.{called_turn_two}
+use Rattle.osi_blameless.proofs.sessions.a_called_end_of_class_2_puts_no_dt_of_class_0.{called_put_two}
 use Rattle.osi_blameless.proofs.sessions.all_connections_stand.{one_at}
 use Rattle.osi_blameless.proofs.sessions.each_cc_of_a_called_end_opens_another_connection.{none_open_for, open_there, same_destination}
 use Rattle.osi_blameless.proofs.sessions.each_cc_of_a_called_end_opens_another_connection.{same_source}
 use Rattle.osi_blameless.proofs.sessions.each_unit_of_a_called_end_has_a_home.{OpensByNoCc}
 use Rattle.osi_blameless.proofs.sessions.each_unit_of_a_turn_has_one_connection.{HasHome, IsFor}
 use Rattle.osi_blameless.proofs.sessions.ccs_among_units.{HasCc, has_back, has_front}
-use Rattle.osi_blameless.proofs.sessions.what_a_turn_puts_goes_to_its_peer.{GoesTo, IsNotZero, Lived, by_units, came, for_so, goes_to}
+use Rattle.osi_blameless.proofs.sessions.what_a_turn_puts_goes_to_its_peer.{GoesTo, IsNotZero, Lived, by_units, came, for_so, goes_to, turn_puts}
 use Rattle.osi_blameless.proofs.sessions.what_a_turn_puts_goes_to_its_peer.{linked_so, none_for, none_shut, one_of, whole_lasts}
 use Rattle.osi_blameless.proofs.sessions.what_a_turn_puts_waits.{Agree, marks_wait}
 use Rattle.osi_blameless.proofs.sessions.what_stands_of_a_connection.{is_for, waiting_for}
@@ -114,7 +114,9 @@ module _ (local : Local) (deeds : ℕ → Deeds) (turn : Turn) (old new : Joint)
 
   module _ (b : ℕ) (known : (i j : ℕ) → HasHome Right i j s t → i ≤ b) (n r : ℕ) (has : HasCc n r new.put) (above : b < r) where
     class_2 : AllByRecursion IsNotZero (all_units on.put)
-    class_2 = called_turn_two local deeds turn old new step on g units after.called
+    class_2 =
+        turn_puts Right (begin false local) turn old new step (all_units on.put) units g IsNotZero
+        (called_put_two local g.whole after.called)
 
     module _ (front rest : List Marked) (m : Marked) (is : on.put ≡ front ++ m ∷ rest) where
       at : (P : Marked → Type 0) → AllByRecursion P on.put → P m
