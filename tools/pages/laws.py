@@ -13,7 +13,7 @@ MODULES = ("laws", "bounded")
 LAW = re.compile(r"((?:^///.*\n)+)(?:^#\[.*\]\n)*^pub fn (\w+)\([^)]*\)\n((?:^    .*\n)*)\{", re.M)
 HEAD = """# Laws
 
-This page is for whoever needs the exact statement behind a sentence of [PROVED.md](PROVED.md). A contract speaks of one call. A law speaks of what follows from contracts: over lists of calls, over pieces, between two values. It is a public function that does nothing but cite other laws; its clauses are the law, and `rt check` proves them. This page is drawn by `scripts/pages --write` from the comments above them.
+Read this page if you need the exact statement behind a sentence of [PROVED.md](PROVED.md). A contract is about one call. A law is about what follows from contracts: over lists of calls, over pieces, or between two values. A law is a public function that does nothing but cite other laws. Its clauses are the law, and `rt check` proves them. `scripts/pages --write` makes this page from the comments above the laws.
 """
 
 
