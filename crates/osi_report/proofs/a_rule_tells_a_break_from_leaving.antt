@@ -17,7 +17,7 @@ one_element (t ∷ said) (suc i) x y l e f = one_element said i x y (omega arith
 -- how a side left the profile
 abbrev pub Leaves : Direction → List (List ℕ) → List Told → (i : ℕ) → Told → (members at : List Member) → Break → Type 0
 Leaves d us said i x m at b =
-    (BreaksWith us x.octets x.before m at b × (leaves x.octets b ≡ true) × (IsExplained (begin_of d) us (take (i + 1) said) → ⊥))
+    (BreaksWith us x.octets x.before m at b × (leaves us x.octets x.before b ≡ true) × (IsExplained (begin_of d) us (take (i + 1) said) → ⊥))
     ⊎ ((b ≡ selection_of x.before m) × IsExplained (begin_of d) us (take (i + 1) said))
 
 pub left_same : (d : Direction) (us vs : List (List ℕ)) (said others : List Told) (i : ℕ) (x y : Told) (m n at o : List Member)
@@ -28,6 +28,6 @@ left_same d us vs said others i x y m n at o b e s u t p h h2 = grind (arith, on
 -- a side that broke the protocol did not leave the profile there
 pub left_broken : (d : Direction) (us vs : List (List ℕ)) (said others : List Told) (i : ℕ) (x y : Told) (m n at o : List Member)
     (b e : Break)
-    → said ≡ others → us ≡ vs → x ≡ y → m ≡ n → BreaksWith us x.octets x.before m at b → leaves x.octets b ≡ false
+    → said ≡ others → us ≡ vs → x ≡ y → m ≡ n → BreaksWith us x.octets x.before m at b → leaves us x.octets x.before b ≡ false
     → (IsExplained (begin_of d) us (take (i + 1) said) → ⊥) → Leaves d vs others i y n o e → ⊥
 left_broken d us vs said others i x y m n at o b e s u t p h l z h2 = grind (arith, one_break, not_both)

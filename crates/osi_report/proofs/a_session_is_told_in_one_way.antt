@@ -30,7 +30,7 @@ pub record StraysAt (begin : Seen) (us : List (List ℕ)) (said : List Told) (i 
 -- and how it strayed
 abbrev Breaks : Seen → List (List ℕ) → List Told → ℕ → List Member → Break → Told → Type 0
 Breaks begin us said i members by x =
-    BreaksAt us x.octets x.before members by × (leaves x.octets by ≡ false) × Unexplained begin us said i
+    BreaksAt us x.octets x.before members by × (leaves us x.octets x.before by ≡ false) × Unexplained begin us said i
 
 abbrev KnownBy : Finding → Direction → List (List ℕ) → List Told → List Member → Break → Type 0
 KnownBy Kept d us said members by = IsKept (begin_of d) us said × IsFew (begin_of d) us said × (members ≡ kept (begin_of d) us said)

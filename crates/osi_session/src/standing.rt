@@ -141,6 +141,13 @@ impl Standing {
         self.state.phase
     }
 
+    /// Whether it is the calling side, which sent the CN or is to send it.
+    pub fn is_caller(&self) -> bool
+        ensures { result ≡ self.now.state.is_caller }
+    {
+        self.state.is_caller
+    }
+
     /// The tokens that it holds.
     pub fn held(&self) -> TokenSet
         ensures { bits_of result ≡ token_octet self.now.state.held }

@@ -94,12 +94,12 @@ pub record StandsBefore (w : Observed) (told : List Told) (i : ℕ) (tsdu : Told
 -- The rule by which the side broke the protocol is that of the one of these sessions that came nearest.
 abbrev pub BrokeBy : Observed → List Told → ℕ → Type 0
 BrokeBy w told i = (tsdu : Told) × StandsBefore w told i tsdu × BreaksAt w.heard tsdu.octets tsdu.before w.members w.by
-    × (leaves tsdu.octets w.by ≡ false)
+    × (leaves w.heard tsdu.octets tsdu.before w.by ≡ false)
 
 -- It is outside of the profile; or the side selects what the profile leaves out.
 abbrev pub LeftBy : Observed → List Told → ℕ → Type 0
 LeftBy w told i = (tsdu : Told) × StandsBefore w told i tsdu
-    × ((BreaksAt w.heard tsdu.octets tsdu.before w.members w.by × (leaves tsdu.octets w.by ≡ true) × BrokeFor w.begin w.heard told i)
+    × ((BreaksAt w.heard tsdu.octets tsdu.before w.members w.by × (leaves w.heard tsdu.octets tsdu.before w.by ≡ true) × BrokeFor w.begin w.heard told i)
     ⊎ ((w.by ≡ selection_of tsdu.before w.members) × ExplainedFor w.begin w.heard told i))
 
 -- This is what is known of a side that sent this, by what was found.

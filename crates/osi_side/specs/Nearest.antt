@@ -9,7 +9,7 @@ use Rattle.osi_spdu.specs.declared.kinds.Kind.{Kind}
 use Rattle.osi_spdu.specs.Known.{Contents}
 use Rattle.osi_spdu.specs.Units.{said_by}
 use Rattle.osi_message.specs.Reading.{word, said_at}
-use Rattle.osi_message.specs.Meanings.{Meaning, RS}
+use Rattle.osi_message.specs.Meanings.{Meaning, CN, RS}
 use Rattle.osi_message.specs.Words.{as_message}
 use Rattle.osi_session.specs.Respond.{is_restart}
 use Rattle.osi_session.specs.declared.breaches.Breach.{Breach}
@@ -18,6 +18,7 @@ use Rattle.osi_session.specs.declared.faults.CallError.{CallError}
 use Rattle.osi_session.specs.declared.faults.CallError.TheVariants as error
 use Rattle.osi_session.specs.Breaches.{breach_of}
 use Rattle.osi_session.specs.Joining.{respond_came}
+use Rattle.osi_session.specs.Phases.{is_ended}
 use Rattle.osi_session.specs.Standing.{Seen, Count, counted, listens, after_count}
 use Rattle.osi_side.specs.declared.members.Member.{Member}
 use Rattle.osi_side.specs.declared.rules.Break.{Break}
@@ -76,17 +77,26 @@ abbrev pub is_other_resync : Meaning → Bool
 is_other_resync (RS kind number wishes octets) = not (is_restart kind)
 is_other_resync m = false
 
--- The numbers that X.225 allows such a resynchronization are not those of a restart, so it leaves the profile whatever its
--- number.
-abbrev pub profiled : (is_other : Bool) → Breach → Breach
-profiled true (breach.Call error.BadNumber) = breach.Outside
-profiled is_other b = b
+-- a CN of a calling side whose session is over
+abbrev pub opens_again : Seen → Meaning → Bool
+opens_again s (CN version_2 requirements serial wishes calling called sizes octets) = s.state.is_caller && is_ended s.state.phase
+opens_again s m = false
 
-abbrev pub told_of : Contents → Breach → Breach
-told_of unit b = profiled (is_other_resync (as_message (word unit))) b
+-- The numbers that X.225 allows such a resynchronization are not those of a restart, so it leaves the profile whatever its
+-- number. And X.225 lets another session follow on the transport connection of one that is over (section 6.2).
+abbrev pub profiled : (is_again is_other : Bool) → Breach → Breach
+profiled true is_other b = breach.Outside
+profiled false true (breach.Call error.BadNumber) = breach.Outside
+profiled false is_other b = b
+
+abbrev pub told_as : Seen → Meaning → Breach → Breach
+told_as s m b = profiled (opens_again s m) (is_other_resync m) b
+
+abbrev pub told_of : Seen → Contents → Breach → Breach
+told_of s unit b = told_as s (as_message (word unit)) b
 
 abbrev pub rule_for : Unsaid → Seen → Option Rule
-rule_for (a_unit unit octets) s = option_map (λ b. by_breach (told_of unit b)) (breach_of s (word unit) octets)
+rule_for (a_unit unit octets) s = option_map (λ b. by_breach (told_of s unit b)) (breach_of s (word unit) octets)
 rule_for (unread fault) s = Some (Fault fault)
 
 abbrev pub nearer_of : Near → Near → Near

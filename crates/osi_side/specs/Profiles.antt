@@ -1,4 +1,5 @@
--- An AC that selects functional units together that the profile leaves out.
+-- What X.225 allows and the profile leaves out: functional units that an AC selects together, version 1, and units that no
+-- session sends.
 use Rattle.std.specs.Prelude.{ℕ, ◌==◌, ◌||◌, Bool, true, false, not, ◌&&◌, nat_lt, List, [], ◌∷◌, get_or, Option, Some, None, Result, Ok}
 use Rattle.std.specs.Prelude.{Err}
 use Rattle.std.specs.List.{slice_get}
@@ -8,8 +9,11 @@ use Rattle.osi_spdu.specs.declared.faults.SpduFault.TheVariants.{UnknownSi}
 use Rattle.osi_message.specs.Meanings.{Meaning, CN, AC}
 use Rattle.osi_message.specs.Reading.{said_at}
 use Rattle.osi_message.specs.Words.{Words, as_message}
+use Rattle.osi_session.specs.Phases.{is_wait_cn}
+use Rattle.osi_session.specs.Standing.{Seen}
 use Rattle.osi_session.specs.Units.{is_profile}
-use Rattle.osi_session.specs.declared.breaches.Breach.TheVariants.{Outside}
+use Rattle.osi_session.specs.declared.breaches.Breach.TheVariants.{Call, Outside}
+use Rattle.osi_session.specs.declared.faults.CallError.TheVariants.{BadState}
 use Rattle.osi_side.specs.declared.rules.Break.{Break}
 use Rattle.osi_side.specs.declared.rules.Rule.{Rule}
 use Rattle.osi_side.specs.declared.rules.Rule.TheVariants.{Breach, Fault}
@@ -43,6 +47,30 @@ selects_outside us [] = false
 selects_outside us (t ∷ told) =
     nat_lt 0 t.before && is_outside (in_first offered_in (said_at (get_or us 0 []))) (in_first accepted_in (said_at t.octets))
 
+-- ---- version 1
+
+-- a CN that offers no version 2
+abbrev pub offers_1 : Meaning → Bool
+offers_1 (CN version_2 requirements serial wishes calling called sizes octets) = not version_2
+offers_1 _ = false
+
+-- an AC that selects none
+abbrev pub selects_1 : Meaning → Bool
+selects_1 (AC version_2 requirements serial sides sizes octets) = not version_2
+selects_1 _ = false
+
+-- the first unit of a TSDU
+abbrev pub first_is : (Meaning → Bool) → Result Words SpduFault → Bool
+first_is f (Ok (w ∷ words)) = f (as_message w)
+first_is f (Ok []) = false
+first_is f (Err fault) = false
+
+-- A called side that still waits for a CN of version 2 answers one without it, the first TSDU of the other side, by an AC of
+-- version 1.
+abbrev pub answers_in_1 : (us : List (List ℕ)) (tsdu : List ℕ) (before : ℕ) → Seen → Bool
+answers_in_1 us tsdu before s =
+    is_wait_cn s.state.phase && (nat_lt 0 before && (first_is offers_1 (said_at (get_or us 0 [])) && first_is selects_1 (said_at tsdu)))
+
 -- ---- a TSDU that no session sends, and that is outside of the profile rather than a break
 
 -- a unit with this SI: PREPARE, or connect data that continues
@@ -50,10 +78,12 @@ abbrev pub is_left_out : Option ℕ → Bool
 is_left_out None = false
 is_left_out (Some si) = (si == 7) || ((si == 15) || (si == 16))
 
-abbrev pub leaves_by : (tsdu : List ℕ) → Rule → Bool
-leaves_by tsdu (Breach Outside) = true
-leaves_by tsdu (Fault (UnknownSi at)) = is_left_out (slice_get tsdu at)
-leaves_by tsdu rule = false
+abbrev pub leaves_by : (of_version_1 : Bool) → (tsdu : List ℕ) → Rule → Bool
+leaves_by of_version_1 tsdu (Breach Outside) = true
+leaves_by of_version_1 tsdu (Breach (Call BadState)) = of_version_1
+leaves_by of_version_1 tsdu (Fault (UnknownSi at)) = is_left_out (slice_get tsdu at)
+leaves_by of_version_1 tsdu rule = false
 
-abbrev pub leaves : (tsdu : List ℕ) → Break → Bool
-leaves tsdu by = leaves_by tsdu by.rule
+-- of a side that heard this, by a TSDU before which so many had passed
+unfoldable pub leaves : (us : List (List ℕ)) (tsdu : List ℕ) (before : ℕ) → Break → Bool
+leaves us tsdu before by = leaves_by (answers_in_1 us tsdu before by.standing) tsdu by.rule

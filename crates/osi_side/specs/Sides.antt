@@ -43,4 +43,4 @@ pub record Tells (tsdu : List ℕ) (before : ℕ) (old new : Observed) : Type 0 
 -- The side broke the protocol at this TSDU, or left the profile: by the break of the sessions that explain it.
 pub record EndsAt (tsdu : List ℕ) (before : ℕ) (w n : Observed) : Type 0 where
   pub by : BreaksAt w.heard tsdu before w.members n.by
-  pub is : n ≡ record w { finding = ended_at (leaves tsdu n.by) w.told; by = n.by }
+  pub is : n ≡ record w { finding = ended_at (leaves w.heard tsdu before n.by) w.told; by = n.by }

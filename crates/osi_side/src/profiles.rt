@@ -8,13 +8,14 @@ ghost use Rattle.osi_message.specs.Words.{as_message};
 ghost use Rattle.osi_spdu.specs.Fields.{unit_bits};
 ghost use Rattle.osi_spdu.specs.Units.{said_by};
 ghost use Rattle.osi_side.specs.Profiles.{offered_in, accepted_in, in_first, is_outside, selects_outside, is_left_out, leaves};
+ghost use Rattle.osi_side.specs.Profiles.{offers_1, selects_1, first_is, answers_in_1};
 
 use crate::first_places::tsdu_at;
 use crate::heard::Heard;
 use crate::rules::{Break, Rule};
 use bitflags::Flags;
 use osi_message::Message;
-use osi_session::{Breach, is_profile};
+use osi_session::{Breach, CallError, Phase, Standing, is_profile};
 use osi_spdu::{Requirements, Spdu, SpduFault, read_group};
 
 /// The functional units that a CN offers.
@@ -113,12 +114,79 @@ fn is_left_out(tsdu: &[u8], at: usize) -> bool
     }
 }
 
-/// Whether something that no session sends is outside of the profile rather than a break.
-pub(crate) fn leaves(tsdu: &[u8], by: &Break) -> bool
-    ensures { result ≡ leaves tsdu.now by.now }
+/// Whether a message is a CN that offers no version 2.
+fn offers_1(message: &Message) -> bool
+    ensures { result ≡ offers_1 (meant_by message.now) }
+{
+    match message {
+        Message::Connect { version_2, .. } => !*version_2,
+        _ => false,
+    }
+}
+
+/// Whether a message is an AC that does not select version 2.
+fn selects_1(message: &Message) -> bool
+    ensures { result ≡ selects_1 (meant_by message.now) }
+{
+    match message {
+        Message::Accept { version_2, .. } => !*version_2,
+        _ => false,
+    }
+}
+
+/// Whether the first unit of a TSDU is a CN that offers no version 2.
+#[tactic(auto, using(crate::proofs::honest::a_selection_is_read::offers_word), unfolding(osi_message::specs::Reading::said_at))]
+fn begins_with_offer_of_1(tsdu: &[u8]) -> bool
+    ensures { result ≡ first_is offers_1 (said_at tsdu.now) }
+{
+    let read = read_group(tsdu);
+    match &read {
+        Ok(group) => offers_1(&Message::of(group.first())),
+        Err(_) => false,
+    }
+}
+
+/// Whether the first unit of a TSDU is an AC that does not select version 2.
+#[tactic(auto, using(crate::proofs::honest::a_selection_is_read::selects_word), unfolding(osi_message::specs::Reading::said_at))]
+fn begins_with_selection_of_1(tsdu: &[u8]) -> bool
+    ensures { result ≡ first_is selects_1 (said_at tsdu.now) }
+{
+    let read = read_group(tsdu);
+    match &read {
+        Ok(group) => selects_1(&Message::of(group.first())),
+        Err(_) => false,
+    }
+}
+
+/// Whether a called side in this state, which still waits for a CN of version 2, answers one without it by an AC of version 1.
+fn answers_in_1(heard: &Heard, tsdu: &[u8], before: usize, standing: &Standing) -> bool
+    requires { before ≤ length heard.now }
+    ensures { result ≡ answers_in_1 heard.now tsdu.now before standing.now }
+{
+    if !matches!(standing.phase(), Phase::WaitCn) || before == 0 {
+        return false;
+    }
+    if !begins_with_offer_of_1(tsdu_at(heard, 0)) {
+        return false;
+    }
+    begins_with_selection_of_1(tsdu)
+}
+
+/// Whether something that no session sends is outside of the profile rather than a break, of a side that heard this; `before`
+/// TSDUs of the other side had passed before it.
+#[tactic(auto, unfolding(crate::specs::Profiles::leaves))]
+pub(crate) fn leaves(heard: &Heard, tsdu: &[u8], before: usize, by: &Break) -> bool
+    requires { before ≤ length heard.now }
+    ensures { result ≡ leaves heard.now tsdu.now before by.now }
 {
     match by.rule {
         Rule::Breach(Breach::Outside) => true,
+        Rule::Breach(Breach::Call(CallError::BadState)) => answers_in_1(
+            heard,
+            tsdu,
+            before,
+            &by.standing,
+        ),
         Rule::Fault(SpduFault::UnknownSi(at)) => is_left_out(tsdu, at),
         _ => false,
     }

@@ -227,7 +227,7 @@ impl Side {
         ensures err { OnErr result (observed self.new ≡ observed self.old) }
     {
         let by = break_at(self.alloc, &self.heard, tsdu, before, &self.members)?;
-        if leaves(tsdu, &by) {
+        if leaves(&self.heard, tsdu, before, &by) {
             self.finding = Finding::Left(self.told);
             self.by = by;
             return Ok(());

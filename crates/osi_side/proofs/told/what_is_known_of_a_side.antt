@@ -4,10 +4,11 @@ use Rattle.osi_side.proofs.Vocabulary.{false, inl, inr, List, [], ◌∷◌, ◌
 use Rattle.osi_side.proofs.Vocabulary.{append-nil, append_assoc, length-append, said_at, Words, Seen, Member, Finding, Kept, Broke}
 use Rattle.osi_side.proofs.Vocabulary.{TooMany, Remark, remark, Told, remarks_of, remarks, Explains, done, IsExplained, SomeExplains}
 use Rattle.osi_side.proofs.Vocabulary.{Extends, IsBehind, Ever, Break, BreaksAt, selection_of, ended_at, EndsAt, offered_in, accepted_in}
-use Rattle.osi_side.proofs.Vocabulary.{in_first, is_outside, selects_outside, leaves, Observed, is_empty, StandsBefore, BrokeBy, LeftBy}
+use Rattle.osi_side.proofs.Vocabulary.{in_first, is_outside, selects_outside, Observed, is_empty, StandsBefore, BrokeBy, LeftBy}
 use Rattle.osi_side.proofs.Vocabulary.{IsKept, IsAstray, BrokeFor, LeftFor, CrowdedFor, AreAll, Keeps, ObservesBy, Observes, IsFound}
 use Rattle.osi_side.proofs.Vocabulary.{HasRoom, after_tsdu}
 use Rattle.osi_side.specs.declared.findings.Finding.TheVariants.{Left}
+use Rattle.osi_side.specs.Profiles.{leaves}
 use Rattle.osi_side.proofs.told.a_break_stays_the_break.{extends_front, breaks_heard}
 use Rattle.osi_side.proofs.kept.what_is_kept_follows_what_is_told.{take_front, take_whole, kept_more, kept_begins, few_begins, few_more}
 use Rattle.osi_side.proofs.kept.what_is_kept_follows_what_is_told.{crowd_more, few_members}
@@ -27,6 +28,23 @@ stands_heard w x told i t k =
       few = λ us e. k.few us (extends_front us w.heard x e);
     }
 
+-- what the other side says later does not change whether a TSDU leaves the profile
+leaves_heard : (us : List (List ℕ)) (x tsdu : List ℕ) (before : ℕ) (by : Break) → before ≤ length us
+    → leaves (us ++ x ∷ []) tsdu before by ≡ leaves us tsdu before by
+unfolding leaves
+leaves_heard us x tsdu zero by l = refl
+leaves_heard [] x tsdu (suc n) by l = absurd (omega arith)
+leaves_heard (u ∷ us) x tsdu (suc n) by l = refl
+
+broke_heard : (w : Observed) (x : List ℕ) (told : List Told) (i : ℕ) → BrokeBy w told i
+    → BrokeBy (record w { heard = w.heard ++ x ∷ [] }) told i
+broke_heard w x told i (t, s, b, l) = (
+  t,
+  stands_heard w x told i t s,
+  breaks_heard w.heard x t.octets t.before w.members w.by s.passed b,
+  leaves_heard w.heard x t.octets t.before w.by s.passed ∙ l,
+)
+
 left_heard : (w : Observed) (x : List ℕ) (told : List Told) (i : ℕ) → LeftBy w told i
     → LeftBy (record w { heard = w.heard ++ x ∷ [] }) told i
 left_heard w x told i (t, s, inl (b, l, k)) = (
@@ -34,7 +52,7 @@ left_heard w x told i (t, s, inl (b, l, k)) = (
   stands_heard w x told i t s,
   inl (
     breaks_heard w.heard x t.octets t.before w.members w.by s.passed b,
-    l,
+    leaves_heard w.heard x t.octets t.before w.by s.passed ∙ l,
     (k.0, λ us e. k.1 us (extends_front us w.heard x e)),
   ),
 )
@@ -50,7 +68,7 @@ heard_by Kept w x told k = record {
   few = λ us e. k.few us (extends_front us w.heard x e);
   inside = λ us e. k.inside us (extends_front us w.heard x e);
 }
-heard_by (Broke i) w x told k = ((k.0.0, λ us e. k.0.1 us (extends_front us w.heard x e)), search (arith, stands_heard, breaks_heard))
+heard_by (Broke i) w x told k = ((k.0.0, λ us e. k.0.1 us (extends_front us w.heard x e)), broke_heard w x told i k.1)
 heard_by (Left i) w x told k = ((k.0.0, λ us e. k.0.1 us (extends_front us w.heard x e)), left_heard w x told i k.1)
 heard_by TooMany w x told k = (k.0, λ us e. k.1 us (extends_front us w.heard x e))
 
@@ -260,7 +278,7 @@ leaves_as w n told x new b l g s e p o z k =
     )
 
 -- it is outside of the profile, or breaks the protocol
-ends_by : (b : Bool) (w : Observed) (by : Break) (told : List Told) (x : Told) (new : List Member) → leaves x.octets by ≡ b
+ends_by : (b : Bool) (w : Observed) (by : Break) (told : List Told) (x : Told) (new : List Member) → leaves w.heard x.octets x.before by ≡ b
     → BreaksAt w.heard x.octets x.before w.members by → x.before ≤ length w.heard → w.before ≤ x.before → Gives w x new → new ≡ []
     → Keeps w told
     → ObservesBy (ended_at b w.told) (record w { finding = ended_at b w.told; by = by }) (told ++ x ∷ [])
