@@ -4,6 +4,7 @@ pub mod Transport
 pub mod Moving
 pub mod Needs
 pub mod Parted
+pub mod Pending
 pub mod Events
 pub mod Hearing
 pub mod Feeding

@@ -1,6 +1,7 @@
 //! The octets of the stream.
 
 ghost use Rattle.std.specs.Prelude.{◌≡◌, ◌<◌, ◌≤◌, [], false, length, OnOk, OnErr};
+ghost use Rattle.osi_carrier.specs.Packets.{waits};
 ghost use Rattle.osi_stack.specs.Attending.{FeedsToEvent, LeftOff};
 ghost use Rattle.osi_stack.specs.Feeding.{Goes, stops};
 ghost use Rattle.osi_stack.specs.Hearing.{hears_all};
@@ -13,7 +14,9 @@ use osi_carrier::Carrier;
 use osi_tpkt::laws::a_prefix_of_a_packet;
 use std::alloc::{AllocError, Global};
 
-/// The sessions handle all events of the carrier, the oldest first. If memory runs out for one, those after it stay.
+/// The sessions handle all events of the carrier, the oldest first. If memory runs out for one, those after it stay. The
+/// function is kept out of line: a TSDU that is lent causes no event, and an AK none either.
+#[inline(never)]
 fn hear_events(alloc: Global, carrier: &mut Carrier, lines: &mut Lines) -> Result<(), AllocError>
     ensures ok { OnOk result ((holding carrier.new lines.new).end ≡ hears_all (holding carrier.old lines.old).end) }
     ensures none { OnOk result (carrier.new.state.events ≡ []) }
@@ -26,6 +29,26 @@ fn hear_events(alloc: Global, carrier: &mut Carrier, lines: &mut Lines) -> Resul
     Ok(())
 }
 
+/// The sessions handle the events of the carrier, if there are any.
+#[inline(always)]
+fn hear_waiting(
+    alloc: Global,
+    carrier: &mut Carrier,
+    lines: &mut Lines,
+    some: bool,
+) -> Result<(), AllocError>
+    requires { some ≡ waits carrier.old.state }
+    ensures ok { OnOk result ((holding carrier.new lines.new).end ≡ hears_all (holding carrier.old lines.old).end) }
+    ensures none { OnOk result (carrier.new.state.events ≡ []) }
+    ensures held { carrier.new.held ≡ carrier.old.held }
+    ensures err { OnErr result (LeftOff (holding carrier.old lines.old).end (holding carrier.new lines.new).end) }
+{
+    if !some {
+        return Ok(());
+    }
+    hear_events(alloc, carrier, lines)
+}
+
 /// Feeds octets up to those that caused an event of the carrier, and the sessions handle it, the oldest event first. A
 /// TSDU that lies within the octets goes to its session straight from them. If the carrier has ended by then, all sessions
 /// are lost. Returns how many octets were used.
@@ -34,7 +57,7 @@ fn feed_to_event(alloc: Global, carrier: &mut Carrier, lines: &mut Lines, octets
 {
     let told = carrier.feed_lent(octets);
     let heard = match told.lent {
-        None => hear_events(alloc, carrier, lines),
+        None => hear_waiting(alloc, carrier, lines, told.fed.whole),
         Some(lent) => lines.tell(
             alloc,
             lent.reference.0,

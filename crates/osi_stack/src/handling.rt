@@ -2,7 +2,6 @@
 
 ghost use Rattle.std.specs.Prelude.{◌≡◌, [], ◌∷◌, None, Some, true, false, ◌<◌, ◌≤◌, ◌+◌, ◌++◌, map, length, IfOk, OnOk, OnErr};
 ghost use Rattle.std.specs.Vec.{vec_len};
-ghost use Rattle.std.specs.VecDeque.{deque_len, deque_capacity};
 ghost use Rattle.osi_session.specs.Listening.{came, react};
 ghost use Rattle.osi_session.specs.Sessions.{Takes};
 ghost use Rattle.osi_session.specs.Shown.{shown_by};
@@ -12,11 +11,11 @@ ghost use Rattle.osi_stack.specs.Needs.{session_needs};
 ghost use Rattle.osi_stack.specs.Selectors.{is_connect, shows_connect};
 
 use crate::events::SessionEvent;
+use crate::pending::Pending;
 use crate::transport::answer;
 use osi_carrier::Carrier;
 use osi_session::{Expected, Indication, Session, Taken};
 use std::alloc::{AllocError, Global};
-use std::collections::VecDeque;
 
 /// The effect of an event for which a session has at most one indication, sends nothing and closes nothing.
 fn quiet_effect(alloc: Global, shown: Option<Indication>) -> Taken
@@ -54,19 +53,6 @@ fn take_event(
     }
 }
 
-/// Adds pending indications; there is room for them, and for one more.
-fn push_indications(waiting: &mut VecDeque<Indication>, first: Indication, more: Vec<Indication>)
-    requires { deque_len waiting.old + vec_len more + 1 < deque_capacity waiting.old }
-    ensures items { map shown_by waiting.new.items ≡ map shown_by waiting.old.items ++ shown_by first ∷ map shown_by more.items }
-    ensures room { deque_len waiting.new < deque_capacity waiting.new }
-{
-    waiting.push_back_reserved(first);
-    let mut more = VecDeque::from_vec(more);
-    let Ok(()) = waiting.append(&mut more) else {
-        unreachable!()
-    };
-}
-
 /// Whether this indicates that a connection is requested.
 fn is_connect(shown: &Indication) -> bool
     ensures { result ≡ is_connect (shown_by shown.now) }
@@ -82,25 +68,24 @@ fn is_connect(shown: &Indication) -> bool
 pub fn handle_event(
     alloc: Global,
     session: &mut Session,
-    waiting: &mut VecDeque<Indication>,
+    waiting: &mut Pending<Indication>,
     event: &SessionEvent<'_>,
     carrier: &mut Carrier,
     reference: u16,
 ) -> Result<bool, AllocError>
-    requires { deque_len waiting.old < deque_capacity waiting.old }
+    requires { 0 < waiting.old.room }
     ensures connects { IfOk result (λ b. b ≡ shows_connect (react session.old (event_input event.now)).shown) }
     ensures session { OnOk result (session.new ≡ (react session.old (event_input event.now)).next) }
     ensures shown { OnOk result (map shown_by waiting.new.items ≡ map shown_by waiting.old.items
         ++ (react session.old (event_input event.now)).shown) }
-    ensures room { OnOk result (deque_len waiting.new < deque_capacity waiting.new) }
+    ensures room { OnOk result (0 < waiting.new.room) }
     ensures carrier { OnOk result (carrier.new
         ≡ record carrier.old {
           state = answers reference (limit_for session.old (event_input event.now))
               (react session.old (event_input event.now)) carrier.old.state;
         }) }
     ensures kept { OnErr result (waiting.new.items ≡ waiting.old.items) }
-    ensures len { OnErr result (deque_len waiting.new ≡ deque_len waiting.old) }
-    ensures capacity { OnErr result (deque_capacity waiting.old ≤ deque_capacity waiting.new) }
+    ensures spare { OnErr result (waiting.old.room ≤ waiting.new.room) }
     ensures err { OnErr result (carrier.new ≡ carrier.old) }
     ensures needed { OnErr result (session_needs reference (Some session.old) (event_input event.now) carrier.old.state ≡ true) }
 {
@@ -123,7 +108,7 @@ pub fn handle_event(
         return Err(AllocError);
     };
     let connects = is_connect(&first);
-    push_indications(waiting, first, more);
+    waiting.push_all(first, more);
     Ok(connects)
 }
 
@@ -135,25 +120,24 @@ pub fn handle_event(
 pub fn handle_tsdu(
     alloc: Global,
     session: &mut Session,
-    waiting: &mut VecDeque<Indication>,
+    waiting: &mut Pending<Indication>,
     tsdu: &[u8],
     carrier: &mut Carrier,
     reference: u16,
 ) -> Result<bool, AllocError>
-    requires { deque_len waiting.old < deque_capacity waiting.old }
+    requires { 0 < waiting.old.room }
     ensures connects { IfOk result (λ b. b ≡ shows_connect (react session.old (came tsdu.now)).shown) }
     ensures session { OnOk result (session.new ≡ (react session.old (came tsdu.now)).next) }
     ensures shown { OnOk result (map shown_by waiting.new.items ≡ map shown_by waiting.old.items
         ++ (react session.old (came tsdu.now)).shown) }
-    ensures room { OnOk result (deque_len waiting.new < deque_capacity waiting.new) }
+    ensures room { OnOk result (0 < waiting.new.room) }
     ensures carrier { OnOk result (carrier.new
         ≡ record carrier.old {
           state = answers reference (limit_for session.old (came tsdu.now))
               (react session.old (came tsdu.now)) carrier.old.state;
         }) }
     ensures kept { OnErr result (waiting.new.items ≡ waiting.old.items) }
-    ensures len { OnErr result (deque_len waiting.new ≡ deque_len waiting.old) }
-    ensures capacity { OnErr result (deque_capacity waiting.old ≤ deque_capacity waiting.new) }
+    ensures spare { OnErr result (waiting.old.room ≤ waiting.new.room) }
     ensures err { OnErr result (carrier.new ≡ carrier.old) }
     ensures needed { OnErr result (session_needs reference (Some session.old) (came tsdu.now) carrier.old.state ≡ true) }
 {
@@ -164,7 +148,7 @@ pub fn handle_tsdu(
                 drop(indication);
                 return Err(AllocError);
             };
-            waiting.push_back_reserved(indication);
+            waiting.push(indication);
             return Ok(connects);
         }
         Expected::Joined => return Ok(false),

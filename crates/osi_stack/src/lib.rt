@@ -48,6 +48,7 @@ mod feeding;
 mod handling;
 pub mod laws;
 mod lines;
+mod pending;
 mod selectors;
 mod stacks;
 mod transport;

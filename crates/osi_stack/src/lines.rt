@@ -2,7 +2,6 @@
 
 ghost use Rattle.std.specs.Prelude.{◌≡◌, ◌+◌, ◌*◌, ◌<◌, ◌≤◌, ◌++◌, ◌∷◌, ◌==◌, [], true, false, cond, length, take, position, is_some, map};
 ghost use Rattle.std.specs.Prelude.{Some, None, IfOk, IfErr, IfSome, OnOk, OnErr, option_map, if◌then◌else◌};
-ghost use Rattle.std.specs.VecDeque.{deque_len, deque_capacity};
 ghost use Rattle.osi_carrier.specs.Orderly.{RiseFrom};
 ghost use Rattle.osi_carrier.specs.Rows.{value_at};
 ghost use Rattle.osi_session.specs.Calls.{called_by};
@@ -23,17 +22,14 @@ ghost use Rattle.osi_stack.specs.Selectors.{selectors_sent, selectors_told, sess
 use crate::calls::make_call;
 use crate::events::SessionEvent;
 use crate::handling::{handle_event, handle_tsdu};
+use crate::pending::Pending;
 use crate::selectors::SessionSelectors;
 use osi_carrier::lookup::{Referred, is_above, place_in};
 use osi_carrier::{Carrier, Ref};
 use osi_message::Octets;
 use osi_session::{AbortCause, CallError, Indication, Request, Session};
 use std::alloc::{AllocError, Global};
-use std::collections::VecDeque;
 use std::marker::Model;
-
-/// Room for the first indications of a connection: one, and that of its loss.
-const FIRST_ROOM: usize = 2;
 
 /// A connection: its session, which is gone once the carrier has ended, and the pending indications of its user. While
 /// there is a session, there is room for one more indication.
@@ -41,14 +37,13 @@ const FIRST_ROOM: usize = 2;
 pub struct Line {
     reference: u16,
     session: Option<Session>,
-    waiting: VecDeque<Indication>,
+    waiting: Pending<Indication>,
     /// The selectors of its CN, once the CN was sent here or indicated.
     selectors: Option<SessionSelectors>,
 }
 
 impl Model for Line {
     ghost use Rattle.std.specs.Prelude.{ℕ, ◌<◌, ◌≡◌, true, map, is_some, option_map};
-    ghost use Rattle.std.specs.VecDeque.{deque_len, deque_capacity};
     ghost use Rattle.osi_session.specs.Shown.{shown_by};
     ghost use Rattle.osi_stack.specs.Selectors.{session_selectors};
     ghost use Rattle.osi_stack.specs.State.{Line};
@@ -64,16 +59,15 @@ impl Model for Line {
       },
     ) };
 
-    ghost invariant = { λ l. is_some l.session ≡ true → deque_len l.waiting < deque_capacity l.waiting };
+    ghost invariant = { λ l. is_some l.session ≡ true → 0 < l.waiting.room };
 }
 
 /// Room for the indications of a connection.
-pub fn room(alloc: Global) -> Result<VecDeque<Indication>, AllocError>
+pub fn room(alloc: Global) -> Result<Pending<Indication>, AllocError>
     ensures empty { IfOk result (λ w. w.items ≡ []) }
-    ensures room { IfOk result (λ w. deque_len w < deque_capacity w) }
+    ensures room { IfOk result (λ w. 0 < w.room) }
 {
-    let waiting = VecDeque::with_capacity(alloc, FIRST_ROOM)?;
-    Ok(waiting)
+    Pending::new(alloc)
 }
 
 /// The indication that the transport connection is lost.
@@ -88,14 +82,14 @@ fn lost() -> Indication
 /// The session of a line is gone, and its user is told or not. The function is kept out of line: otherwise stack space
 /// for a session would be reserved on the data path, too.
 #[inline(never)]
-fn forget(session: &mut Option<Session>, waiting: &mut VecDeque<Indication>, is_shown: bool)
-    requires { deque_len waiting.old < deque_capacity waiting.old }
+fn forget(session: &mut Option<Session>, waiting: &mut Pending<Indication>, is_shown: bool)
+    requires { 0 < waiting.old.room }
     ensures session { session.new ≡ None }
     ensures waiting { map shown_by waiting.new.items ≡ map shown_by waiting.old.items ++ (if is_shown then Lost ∷ [] else []) }
 {
     *session = None;
     if is_shown {
-        waiting.push_back_reserved(lost());
+        waiting.push(lost());
     }
 }
 
@@ -121,11 +115,11 @@ impl Line {
     pub fn new(
         reference: u16,
         session: Session,
-        waiting: VecDeque<Indication>,
+        waiting: Pending<Indication>,
         selectors: Option<SessionSelectors>,
     ) -> Self
         requires empty { waiting.items ≡ [] }
-        requires room { deque_len waiting < deque_capacity waiting }
+        requires room { 0 < waiting.room }
         requires selectors { option_map session_selectors selectors ≡ selectors_sent session.waiting }
         ensures { result ≡ (reference, fresh_line session) }
     {
@@ -205,7 +199,7 @@ impl Line {
                         self.lose();
                         return Err(AllocError);
                     };
-                    self.waiting.push_back_reserved(shown);
+                    self.waiting.push(shown);
                     Ok(())
                 }
                 Err(tsdu) => self.receive_other(alloc, tsdu.as_slice(), carrier),
@@ -247,8 +241,7 @@ impl Line {
             self.lose();
             return Err(AllocError);
         };
-        self.waiting
-            .push_back_reserved(Indication::Data { user_data });
+        self.waiting.push(Indication::Data { user_data });
         Ok(())
     }
 
@@ -280,7 +273,7 @@ impl Line {
                 forget(&mut self.session, &mut self.waiting, phase.shows_loss());
                 return Err(AllocError);
             };
-            self.waiting.push_back_reserved(Indication::Minor {
+            self.waiting.push(Indication::Minor {
                 number,
                 confirm: true,
                 user_data: Octets::new(alloc),
@@ -292,7 +285,7 @@ impl Line {
                 forget(&mut self.session, &mut self.waiting, phase.shows_loss());
                 return Err(AllocError);
             };
-            self.waiting.push_back_reserved(Indication::MinorConfirmed {
+            self.waiting.push(Indication::MinorConfirmed {
                 number,
                 user_data: Octets::new(alloc),
             });
@@ -558,7 +551,7 @@ impl Lines {
         }
         let line = &mut self.rows[place];
         let reference = line.reference();
-        let Some(indication) = line.waiting.pop_front() else {
+        let Some(indication) = line.waiting.pop() else {
             return None;
         };
         if !line.waits() {

@@ -1,9 +1,9 @@
-use Rattle.std.proofs.Common.{◌-◌, ℕ, true, false, map, Some, get_or, refl, sym, ap, option_map, position, arith, ◌∙◌, ◌≡◌}
+use Rattle.std.proofs.Common.{◌-◌, ℕ, true, false, length, map, Some, get_or, refl, sym, ap, option_map, position, arith, ◌∙◌, ◌≡◌}
 use Rattle.osi_stack.proofs.Vocabulary.{shown_by, Rows, session_selectors, Line, line_waits, how_many_wait}
 use Rattle.osi_stack.proofs.each_line.the_first_that_indicates.{none_waits, first_is, never_popped, told_first, IsTold}
 use Rattle.osi_stack.proofs.each_line.how_many_lines_wait.{none_counted, only_heard, set_kept}
 use Rattle.osi_stack.proofs.lines.Lines.next.Goals.{then-not-waits-2, else-not-waits-2, then-self-gt1+in-Some}
-use Rattle.osi_stack.proofs.lines.Lines.next.Goals.{else-self-gt1+else-place-len+else-not-waits, Joined-self-gt1, In-Some-pop_front}
+use Rattle.osi_stack.proofs.lines.Lines.next.Goals.{else-self-gt1+else-place-len+else-not-waits, Joined-self-gt1, In-Some-pop}
 use Rattle.osi_stack.proofs.lines.Lines.next.Goals as goal
 
 -- the place is that of the first line for which an indication is pending
@@ -26,38 +26,39 @@ returns-in_default-clause-rest c =
     sym c.first_place.ensures ∙ c.in_default.is in
     sym (none_waits c.args.self.now none).rest
 
-pub returns-in_default-pop_front : goal.returns-in_default-pop_front
-returns-in_default-pop_front c =
-    let there = waits_at (goal.at.returns-in_default-pop_front c).Joined-self-gt1 in
+pub returns-in_default-pop : goal.returns-in_default-pop
+returns-in_default-pop c =
+    let there = waits_at (goal.at.returns-in_default-pop c).Joined-self-gt1 in
     let first = first_is c.self.inside.rows.items c.if-self-gt1.place c.index_mut-line.result.now there in
-    never_popped c.line.inside.waiting.items c.line.inside.waiting.len c.line.inside.waiting.ok.0 c.in_default-pop_front.ensures.cases.0
+    never_popped c.line.inside.waiting.items (length c.line.inside.waiting.items) refl
+    (ap length c.in_default-pop.ensures.first.0)
     (ap (λ (x : ℕ × Line). line_waits x.1) (c.line.view_is ∙ c.index_mut-line.ensures.value) ∙ first.waits)
 
 -- its oldest indication is given
-told : (c : In-Some-pop_front) → position (λ (row : ℕ × Line). line_waits row.1) c.self.inside.rows.items ≡ Some c.if-self-gt1.place →
+told : (c : In-Some-pop) → position (λ (row : ℕ × Line). line_waits row.1) c.self.inside.rows.items ≡ Some c.if-self-gt1.place →
     IsTold c.args.self.now c.self.inside.rows.items c.if-self-gt1.place c.index_mut-line.result.now (
       c.line.inside.reference,
       record {
         session = c.line.inside.session;
-        waiting = map shown_by c.pop_front.new.self.items;
+        waiting = map shown_by c.pop.new.self.items;
         selectors = option_map session_selectors c.line.inside.selectors;
       },
-    ) (shown_by c.in-Some-pop_front.indication)
+    ) (shown_by c.in-Some-pop.indication)
 told c there =
     let row = c.index_mut-line.result.now in
-    told_first c.args.self.now c.self.inside.rows.items c.if-self-gt1.place row _ (shown_by c.in-Some-pop_front.indication)
+    told_first c.args.self.now c.self.inside.rows.items c.if-self-gt1.place row _ (shown_by c.in-Some-pop.indication)
     (ap (position (λ (row : ℕ × Line). line_waits row.1)) (sym c.self.view_is) ∙ there)
     (c.index_mut-line.ensures.value ∙ ap (λ (l : Rows Line). get_or l c.if-self-gt1.place row) c.self.view_is) c.self.view_is (grind arith)
 
 pub returns-clause-shown : goal.returns-clause-shown
 returns-clause-shown c =
     let at = goal.at.returns-clause-shown c in
-    grind (arith, told at.In-Some-pop_front (waits_at at.Joined-self-gt1))
+    grind (arith, told at.In-Some-pop (waits_at at.Joined-self-gt1))
 
 pub returns-clause-rest : goal.returns-clause-rest
 returns-clause-rest c =
     let at = goal.at.returns-clause-rest c in
-    let rest = (told at.In-Some-pop_front (waits_at at.Joined-self-gt1)).rest in
+    let rest = (told at.In-Some-pop (waits_at at.Joined-self-gt1)).rest in
     elim c.if-not-waits-2.branch [ then-not-waits-2 w ↦ w.self-is ∙ rest | else-not-waits-2 w ↦ w.self-is ∙ rest ]
 
 pub returns-then-self-eq0-clause-shown : goal.returns-then-self-eq0-clause-shown
