@@ -16,7 +16,6 @@ pub trait Referred {
 }
 
 /// The place of a reference among rows, by a linear search.
-#[inline(always)]
 fn walk<R: Referred>(rows: &[R], reference: u16) -> Option<usize>
     ensures { result ≡ place_by R.reference_of reference rows.now }
 {
@@ -46,7 +45,7 @@ pub fn is_above<R: Referred>(rows: &[R], reference: u16) -> bool
 /// The place of a reference among rows. If the caller says that they rise, the search begins at the place that the
 /// distance from the first reference suggests, and continues by binary search. As with any binary search, the result is
 /// the place only if the rows do rise.
-#[inline]
+#[inline(always)]
 pub fn place_in<R: Referred>(rows: &[R], rises: bool, reference: u16) -> Option<usize>
     ensures { (rises ≡ true → RiseBy R.reference_of 0 rows.now) → result ≡ place_by R.reference_of reference rows.now }
 {

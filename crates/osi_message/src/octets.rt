@@ -57,6 +57,7 @@ impl Octets {
     }
 
     /// A copy of these octets.
+    #[inline(always)]
     pub fn copy(alloc: Global, octets: &[u8]) -> Result<Octets, AllocError>
         ensures { IfOk result (λ o. o ≡ octets.now) }
     {
