@@ -15,8 +15,6 @@ pub mod what_passes_keeps_a_claim
 pub mod what_passes_keeps_a_claim_on_two_courses
 -- steps are events of a whole end
 pub mod what_waits_changes_nothing
-pub mod what_a_carrier_puts_can_be_written
-pub mod what_packets_and_short_tsdus_keep_a_turn_keeps
 pub mod a_carrier_does_events
 pub mod the_packets_that_an_end_took_come_first
 pub mod steps_are_events

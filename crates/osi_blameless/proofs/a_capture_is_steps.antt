@@ -24,7 +24,7 @@ use Rattle.osi_blameless.proofs.what_follows_what_cannot_be_read.{other_moved as
 use Rattle.osi_blameless.proofs.what_is_halted_stays_halted.{unread_halts}
 use Rattle.osi_blameless.proofs.turns_are_taken_late.{Follows, all_passed, other_passes, own_passes, seen_follows, turn_taken}
 use Rattle.osi_blameless.proofs.what_an_octet_does.{begins, passes_so}
-use Rattle.osi_blameless.proofs.what_the_turns_among_steps_do.{ComesByDoing, IsOfJudge, StepsDo, TurnDoes, judge_first}
+use Rattle.osi_blameless.proofs.what_the_turns_among_steps_do.{ComesByDoing, IsOfJudge, StepsDo, TurnDoes, judge_first, takes_turn}
 use Rattle.osi_blameless.proofs.what_the_first_octets_are.{begins_none, own_front, whole_front, whole_packet}
 
 -- ---- what the rest of a capture comes to, from a state of the judge and of the end on
@@ -70,7 +70,7 @@ step_first d is_caller deeds capture s step judge j mid one c = record {
 
 turn_first : (d : Direction) (is_caller : Bool) (deeds : ℕ → Deeds) (capture : Capture) (s : State) (turn : Turn) (j mid : Joint)
     (t : TakesTurn turn j mid) (does : TurnDoes is_caller deeds turn j mid t) →
-    Comes d is_caller (all_did deeds does.of.on.more) capture s mid → Comes d is_caller deeds capture s j
+    Comes d is_caller (all_did deeds does.on.more) capture s mid → Comes d is_caller deeds capture s j
 turn_first d is_caller deeds capture s turn j mid t does c = record {
   steps = turns turn ∷ c.steps;
   last = c.last;
@@ -339,7 +339,7 @@ record Turned (d : Direction) (is_caller : Bool) (deeds : ℕ → Deeds) (s : St
   takes : TakesTurn turn j later
   does : TurnDoes is_caller deeds turn j later takes
   goes_on : (others : List Turn) (end : Holding) → TurnsOf is_caller (all_did deeds at.on.more) new others end →
-      TurnsOf is_caller (all_did deeds does.of.on.more) later.holding others end
+      TurnsOf is_caller (all_did deeds does.on.more) later.holding others end
   stands : Stands d s later (still ++ turn.put) ahead
 
 turned : (d : Direction) (is_caller : Bool) (deeds : ℕ → Deeds) (s : State) (j : Joint) (turn : Turn) (new : Holding)
@@ -356,8 +356,8 @@ turned d is_caller deeds s j turn new still ahead takes at st =
     let both : (mine ++ still) ++ turn.put ≡ packets j.put ++ packets units = (λ i. st.own.all i ++ on.written i) in
     record {
       later = record j { holding = new; put = j.put ++ units; coming = u.later };
-      takes = grind arith;
-      does = record { of = at; units = refl };
+      takes = takes_turn is_caller deeds turn j new takes on u.used u.later u.rest u.parts u.cut u.kept u.all;
+      does = record { on = at.on; life = at.life; first = at.first; units = refl };
       goes_on = λ others end more. more;
       stands = grind (arith, append_assoc, packets_joined, can_more);
     }
@@ -385,7 +385,7 @@ along_steps d is_caller _ _ _ _ (other_passes x o still ahead capture left is mo
 along_steps d is_caller _ _ _ _ (turn_taken turn still all ahead capture left is more) deeds s j end octets does st =
     let k = turned d is_caller deeds s j turn does.0 still ahead does.1 does.2 (subst (λ (l : List ℕ). Stands d s j still l) is st) in
     turn_first d is_caller deeds capture s turn j k.later k.takes k.does
-    (along_steps d is_caller (still ++ turn.put) ahead capture left more (all_did deeds k.does.of.on.more) s k.later end octets
+    (along_steps d is_caller (still ++ turn.put) ahead capture left more (all_did deeds k.does.on.more) s k.later end octets
     (k.goes_on left end does.3) k.stands)
 
 pub capture_steps : Known → (d : Direction) (is_caller : Bool) (local : Local) (first end : Holding) (turns_all : List Turn)

@@ -2,7 +2,7 @@
 -- For the law that the transport of an end is blamed nowhere.
 use Rattle.osi_blameless.proofs.Vocabulary.{[], ap, Bool, Err, false, is_some, List, Ok, refl, Result, sym, true, ℕ, ◌++◌, ◌∙◌, ◌∷◌, ◌≡◌}
 use Rattle.osi_blameless.proofs.Vocabulary.{append-nil, AllByRecursion, Fits, IsOctets, units_by, units_fit, units_found, units_of, Value}
-use Rattle.osi_blameless.proofs.Vocabulary.{TpduFault, other, Direction, AllProper, way_of, marks_of, unread, Cause, Whole, begins_other}
+use Rattle.osi_blameless.proofs.Vocabulary.{TpduFault, other, Direction, way_of, marks_of, unread, Cause, Whole, begins_other}
 use Rattle.osi_blameless.proofs.Vocabulary.{begins_own, Joint, passes_other, passes_own, Step, turns, arith, Course, LaterSteps, spoilt}
 use Rattle.osi_fair.specs.Pieces.{units_in}
 use Rattle.osi_fair.specs.Wholes as wholes
@@ -17,13 +17,13 @@ fits_by (Ok units) packet octets is = units_fit units packet (units_found packet
 fits_by (Err fault) packet octets is = tt
 
 module _ (d : Direction) (first : Whole) where
-  pub later_followed : AllProper → (step : Step) (old new : Joint) → LaterSteps d step old new → IsFollowed d first old →
+  pub later_followed : (step : Step) (old new : Joint) → LaterSteps d step old new → IsFollowed d first old →
       IsFollowed d first new
-  later_followed proper (turns turn) old new t f = step_followed d first proper (turns turn) old new t f
-  later_followed proper begins_own old new is f = step_followed d first proper begins_own old new is f
-  later_followed proper (passes_own at unit) old new is f = step_followed d first proper (passes_own at unit) old new is f
-  later_followed proper begins_other old new is f = step_followed d first proper begins_other old new is f
-  later_followed proper (passes_other at packet units) old new (octets, read, is) f = grind (arith, passes_other_so, fits_by)
+  later_followed (turns turn) old new t f = step_followed d first (turns turn) old new t f
+  later_followed begins_own old new is f = step_followed d first begins_own old new is f
+  later_followed (passes_own at unit) old new is f = step_followed d first (passes_own at unit) old new is f
+  later_followed begins_other old new is f = step_followed d first begins_other old new is f
+  later_followed (passes_other at packet units) old new (octets, read, is) f = grind (arith, passes_other_so, fits_by)
 
   module _ (at : ℕ) (cause : Cause) (packets : List (List ℕ)) (none : units_in packets ≡ []) (j : Joint) (f : IsFollowed d first j) where
     spoilt_by : (b : Bool) → is_some (marks_of (other d) j.course).halted ≡ b → IsFollowed d first (spoilt d at cause packets j)
@@ -38,8 +38,6 @@ module _ (d : Direction) (first : Whole) where
           judge = f.judge ∙ sym (ap (λ (c : Course). c.traffic) same);
           coming = λ lasts. f.coming lasts ∙ (grind (arith, units_join, append-nil));
           like = f.like;
-          can = f.can;
-          links = f.links;
         }
     spoilt_by false goes =
         let is : unread (other d) at cause j.course ≡ refuses (other d) at cause j.course =
@@ -54,8 +52,6 @@ module _ (d : Direction) (first : Whole) where
           judge = grind (arith, turned, refused_traffic);
           coming = λ lasts. f.coming lasts ∙ (grind (arith, units_join, append-nil));
           like = f.like;
-          can = f.can;
-          links = f.links;
         }
 
     pub spoilt_followed : IsFollowed d first (spoilt d at cause packets j)

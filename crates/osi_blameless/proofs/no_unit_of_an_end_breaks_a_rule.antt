@@ -3,7 +3,7 @@
 use Rattle.osi_blameless.proofs.Vocabulary.{◌≡◌, ◌∙◌, ℕ, false, List, [], ◌∷◌, None, Some, inl, inr, ◌⊎◌, arith, refl, sym, ap, subst}
 use Rattle.osi_blameless.proofs.Vocabulary.{calls_from, Value, Local, Capture, other, Direction, Reach, Option, Class, class_for}
 use Rattle.osi_blameless.proofs.Vocabulary.{is_stopped, takes, IsOfTwo, firm_unless_two, still_two, Two, Zero, stops_last, Holding, IsFresh}
-use Rattle.osi_blameless.proofs.Vocabulary.{AllProper, Cause, Course, marks_of, packet_begins, unit_passes, units_pass, unread, way_of}
+use Rattle.osi_blameless.proofs.Vocabulary.{Cause, Course, marks_of, packet_begins, unit_passes, units_pass, unread, way_of}
 use Rattle.osi_blameless.proofs.Vocabulary.{comes_to, Joint, Step, Steps, begin, begins_other, begins_own, passes_other, passes_own, turns}
 use Rattle.osi_blameless.proofs.Vocabulary.{ComesBySteps, LaterAlong, LaterSteps, spoilt}
 use Rattle.osi_rules.specs.declared.findings.Reach.TheVariants as reach
@@ -87,7 +87,7 @@ module _ (d : Direction) where
       by (is_left l) = is_left ((left_claim d).passes (other d) at v c l)
       by (is_alone a none) = is_alone (grind (arith, stops_last)) (other_unbroken d at v c ∙ none)
 
-  module _ (proper : AllProper) (local : Local) where
+  module _ (local : Local) where
     abbrev first : wholes.Whole
     first = wholes.begin (calls_from d) local
 
@@ -139,7 +139,7 @@ module _ (d : Direction) where
 
     stood_along : (steps : List Step) (old new : Joint) → LaterAlong d old steps new → Stood old → Stood new
     stood_along = along_kept Stood d (λ step old new does h. record {
-      followed = later_followed d first proper step old new does h.followed;
+      followed = later_followed d first step old new does h.followed;
       nowhere = later_so step old new does h.followed h.nowhere;
     })
 
@@ -163,12 +163,12 @@ module _ (d : Direction) where
   nothing : (e : Direction) → (marks_of e fresh).broke ≡ None
   nothing e = grind arith
 
-  never_blamed : AllProper → (local : Local) (h : Holding) (capture : Capture) → IsFresh (calls_from d) local h →
+  never_blamed : (local : Local) (h : Holding) (capture : Capture) → IsFresh (calls_from d) local h →
       ComesBySteps d capture h → IsBlamedNowhere (comes_to capture).course
-  never_blamed proper local h capture anew comes = by comes.on
+  never_blamed local h capture anew comes = by comes.on
     where
-      last : Stood proper local comes.last
-      last = stood_along proper local comes.steps (begin h) comes.last
+      last : Stood local comes.last
+      last = stood_along local comes.steps (begin h) comes.last
           (along_too d comes.steps (begin h) comes.last comes.along) (record {
             followed = begin_followed d (calls_from d) local h anew;
             nowhere = grind (arith, nothing);
@@ -177,12 +177,12 @@ module _ (d : Direction) where
       by : ((comes_to capture).course ≡ comes.last.course) ⊎ GoesOn d capture comes.last → IsBlamedNowhere (comes_to capture).course
       by (inl is) = subst IsBlamedNowhere (sym is) last.nowhere
       by (inr g) = subst IsBlamedNowhere (sym g.all)
-          (stood_along proper local g.steps (spoilt d g.at g.cause g.packets comes.last) g.end g.along
-          (spoilt_so proper local g.at g.cause g.packets g.none comes.last last)).nowhere
+          (stood_along local g.steps (spoilt d g.at g.cause g.packets comes.last) g.end g.along
+          (spoilt_so local g.at g.cause g.packets g.none comes.last last)).nowhere
 
   unbroken_by : (c : Course) → IsBlamedNowhere c → (marks_of d c).broke ≡ None
   unbroken_by c h = grind arith
 
-  pub always_unbroken : AllProper → (local : Local) (h : Holding) (capture : Capture) → IsFresh (calls_from d) local h →
+  pub always_unbroken : (local : Local) (h : Holding) (capture : Capture) → IsFresh (calls_from d) local h →
       ComesBySteps d capture h → (marks_of d (comes_to capture).course).broke ≡ None
-  always_unbroken proper local h capture anew comes = search (arith, unbroken_by, never_blamed)
+  always_unbroken local h capture anew comes = search (arith, unbroken_by, never_blamed)

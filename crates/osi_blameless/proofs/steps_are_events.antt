@@ -1,22 +1,19 @@
 -- Steps of an end and of a judge are events of a whole end.
 -- For the first break of transport.
 use Rattle.osi_blameless.proofs.Vocabulary.{[], ap, append_assoc, Bool, false, is_some, List, None, Option, refl, Some, subst, sym, true, ℕ}
-use Rattle.osi_blameless.proofs.Vocabulary.{◌++◌, ◌∙◌, ◌∷◌, ◌≡◌, ◌≢◌, append-nil, append_cancel_left, AllByRecursion, units_fit}
-use Rattle.osi_blameless.proofs.Vocabulary.{units_found, units_of, Value, Fits, written, Local, packets, Carrier, EndReason, End, Holding}
-use Rattle.osi_blameless.proofs.Vocabulary.{Traffic, takes, Told, other, Direction, AllProper, AreNumbered, CanBeWritten, IsFresh, Turn}
-use Rattle.osi_blameless.proofs.Vocabulary.{noted_by, unit_passes, units_pass, way_of, Cause, units_by, Event, HappenAlong, Whole}
-use Rattle.osi_blameless.proofs.Vocabulary.{begins_other, begins_own, Joint, passes_other, passes_own, Step, Steps, TakesTurn, turns, arith}
-use Rattle.osi_blameless.proofs.Vocabulary.{Course, packet_begins, begin, none_of, packets_once}
+use Rattle.osi_blameless.proofs.Vocabulary.{◌++◌, ◌∙◌, ◌∷◌, ◌≡◌, ◌≢◌, append-nil, AllByRecursion, units_fit, units_found, units_of, Value}
+use Rattle.osi_blameless.proofs.Vocabulary.{Fits, Local, Carrier, EndReason, End, Holding, Traffic, takes, Told, other, Direction}
+use Rattle.osi_blameless.proofs.Vocabulary.{IsFresh, Turn, noted_by, unit_passes, units_pass, way_of, Cause, units_by, Event, HappenAlong}
+use Rattle.osi_blameless.proofs.Vocabulary.{Whole, begins_other, begins_own, Joint, passes_other, passes_own, Step, Steps, TakesTurn, turns}
+use Rattle.osi_blameless.proofs.Vocabulary.{arith, Course, packet_begins, begin}
 use Rattle.osi_rules.specs.Sides as sides
 use Rattle.osi_rules.specs.Traffic as traffic
 use Rattle.osi_fair.specs.Pieces.{units_in}
 use Rattle.osi_fair.specs.Wholes as wholes
-use Rattle.osi_blameless.proofs.small_facts_that_many_lemmas_use.{can_more as all_more, over_none}
-use Rattle.osi_blameless.proofs.a_carrier_does_events.{Came, IsLike, came_asking, came_tracked, happen_join, none_come, units_join}
+use Rattle.osi_blameless.proofs.small_facts_that_many_lemmas_use.{over_none}
+use Rattle.osi_blameless.proofs.a_carrier_does_events.{IsLike, IsNext, comes, happen_join, none_of, units_join}
 use Rattle.osi_blameless.proofs.all_is_judged_or_nothing.{changes_traffic}
-use Rattle.osi_blameless.proofs.the_packets_that_an_end_took_come_first.{AreFirst, are_first}
 use Rattle.osi_blameless.proofs.what_waits_changes_nothing.{bare}
-use Rattle.osi_blameless.proofs.what_packets_and_short_tsdus_keep_a_turn_keeps.{Tracks, turn_tracked}
 
 -- ---- what the rules know of a unit, and of the units of a packet
 
@@ -42,8 +39,6 @@ pub record IsFollowed (d : Direction) (first : Whole) (j : Joint) : Type 0 where
   pub judge : whole.judge ≡ j.course.traffic
   pub coming : j.holding.end.carrier.ended ≡ None → whole.coming ≡ units_in j.coming
   pub like : IsLike whole.end j.holding.end.carrier
-  pub can : AllByRecursion CanBeWritten whole.put
-  pub links : AreNumbered whole.end.live
 
 -- units of the other side pass
 record Passed (d : Direction) (at : ℕ) (units : List Value) (w : Whole) (c : Course) : Type 0 where
@@ -53,51 +48,37 @@ record Passed (d : Direction) (at : ℕ) (units : List Value) (w : Whole) (c : C
 module _ (d : Direction) (first : Whole) where
   -- ---- a turn
 
-  module _ (proper : AllProper) (turn : Turn) (old new : Joint) (t : TakesTurn turn old new) (f : IsFollowed d first old) where
-    abbrev carrier : Carrier
-    carrier = old.holding.end.carrier
-
-    track : Tracks (Came (way_of d) f.whole carrier.outgoing) [] turn.used turn.put old.holding new.holding
-    track =
-        turn_tracked (Came (way_of d) f.whole carrier.outgoing) (came_tracked (way_of d) f.whole carrier.outgoing) proper []
-        (came_asking (way_of d) f.whole carrier.outgoing []) turn old.holding new.holding
-        (none_come (way_of d) f.whole carrier.outgoing carrier refl f.like f.links) t.takes
-
+  module _ (turn : Turn) (old new : Joint) (t : TakesTurn turn old new) (f : IsFollowed d first old) where
     -- with what is still to come after the turn
-    done : (later : List Value) → (f.whole.end.ended ≡ None → f.whole.coming ≡ units_in track.units ++ later) →
-        (new.holding.end.carrier.ended ≡ None → later ≡ units_in new.coming) → IsFollowed d first new
+    done : (later : List Value) → IsNext f.whole t.took later → (new.holding.end.carrier.ended ≡ None → later ≡ units_in new.coming) →
+        IsFollowed d first new
     done later now then_is =
-        let h = track.holds later now in
-        let same : turn.put ≡ packets h.put =
-        append_cancel_left carrier.outgoing turn.put (packets h.put) (sym track.outgoing ∙ h.written) in
-        let units : h.put ≡ t.units = packets_once h.put t.units h.can t.can (sym same ∙ t.written) in
+        let h = comes (way_of d) old.holding.end.carrier t.there t.took t.units t.makes f.whole later f.like now in
         record {
-          whole = record f.whole { end = h.end; put = f.whole.put ++ h.put; coming = h.coming };
+          whole = record f.whole { end = h.end; put = f.whole.put ++ t.units; coming = h.coming };
           events = f.events ++ h.events;
           along = grind (arith, happen_join);
-          put = (λ i. f.put i ++ units i) ∙ sym t.put;
+          put = ap (λ (l : List Value). l ++ t.units) f.put ∙ sym t.put;
           begun = f.begun ∙ sym t.begun;
           judge = f.judge ∙ sym (ap (λ (c : Course). c.traffic) t.course);
-          coming = grind (arith, none_of, track);
-          like = subst (IsLike h.end) (sym track.same) (record { over = h.like.over; lasts = h.like.lasts });
-          can = all_more f.whole.put h.put f.can h.can;
-          links = h.links;
+          coming = λ lasts.
+              h.still (none_of h.end.ended (sym h.like.over ∙ ap is_some (sym (ap (λ (c : Carrier). c.ended) t.same) ∙ lasts)))
+              ∙ then_is lasts;
+          like = subst (IsLike h.end) (sym t.same) (record { over = h.like.over; lasts = h.like.lasts });
         }
 
-    turn_by : (o : Option EndReason) → carrier.ended ≡ o → IsFollowed d first new
+    turn_by : (o : Option EndReason) → old.holding.end.carrier.ended ≡ o → IsFollowed d first new
     turn_by None lasts =
-        let a : AreFirst track.units t.used new.holding.end.carrier.ended = are_first track.units t.used
-        (old.holding.held.octets ++ turn.used) track.rest t.rest new.holding.end.carrier.ended track.cut (t.cut lasts)
-        (λ still. track.held still ∙ sym (t.held still)) (t.all lasts) in
-        done (units_in (a.more ++ new.coming))
-        (grind (arith, append_assoc, track, units_join))
-        (λ still. ap (λ (l : List (List ℕ)). units_in (l ++ new.coming)) (a.all still))
+        done (t.left ++ units_in new.coming)
+        (λ still. f.coming lasts ∙ ap units_in t.coming ∙ units_join t.used new.coming
+        ∙ ap (λ (l : List Value). l ++ units_in new.coming) (t.first lasts) ∙ append_assoc t.took t.left (units_in new.coming))
+        (λ still. ap (λ (l : List Value). l ++ units_in new.coming) (t.none_left still))
     turn_by (Some reason) over =
         done (units_in new.coming)
         (λ still. over_none f.whole.end.ended (sym f.like.over ∙ ap is_some over) still) (λ still. refl)
 
     turn_followed : IsFollowed d first new
-    turn_followed = turn_by carrier.ended refl
+    turn_followed = turn_by old.holding.end.carrier.ended refl
 
   -- ---- the judge
 
@@ -115,8 +96,6 @@ module _ (d : Direction) (first : Whole) where
         judge = ap (traffic.packet_begins (way_of d)) f.judge;
         coming = f.coming;
         like = f.like;
-        can = f.can;
-        links = f.links;
       })
 
   passes_own_so : (old new : Joint) (at : ℕ) (unit : Value) → old.put ≡ unit ∷ new.put → old.begun ≡ true →
@@ -135,8 +114,6 @@ module _ (d : Direction) (first : Whole) where
         judge = ap (λ (t : Traffic). (takes (way_of d) unit t).state) f.judge ∙ sym (unit_traffic d at unit old.course);
         coming = f.coming;
         like = f.like;
-        can = (subst (AllByRecursion CanBeWritten) first_is f.can).1;
-        links = f.links;
       })
 
   begins_other_so : (old new : Joint) → new ≡ record old { course = packet_begins (other d) old.course } → IsFollowed d first old →
@@ -152,8 +129,6 @@ module _ (d : Direction) (first : Whole) where
         judge = grind (arith, turned);
         coming = f.coming;
         like = f.like;
-        can = f.can;
-        links = f.links;
       })
 
   -- units of the other side pass
@@ -192,19 +167,16 @@ module _ (d : Direction) (first : Whole) where
         judge = refl;
         coming = λ lasts. (λ i. f.coming lasts i ++ sym one i) ∙ sym (units_join old.coming (packet ∷ []));
         like = f.like;
-        can = f.can;
-        links = f.links;
       })
 
   -- ---- each step
 
-  pub step_followed : AllProper → (step : Step) (old new : Joint) → Steps d step old new → IsFollowed d first old → IsFollowed d first new
-  step_followed proper (turns turn) old new t f = turn_followed proper turn old new t f
-  step_followed proper begins_own old new (some, none, is) f = begins_own_so old new some none is f
-  step_followed proper (passes_own at unit) old new (read, octets, put, begun, is) f =
-      passes_own_so old new at unit put begun is f
-  step_followed proper begins_other old new is f = begins_other_so old new is f
-  step_followed proper (passes_other at packet units) old new (octets, read, is) f =
+  pub step_followed : (step : Step) (old new : Joint) → Steps d step old new → IsFollowed d first old → IsFollowed d first new
+  step_followed (turns turn) old new t f = turn_followed turn old new t f
+  step_followed begins_own old new (some, none, is) f = begins_own_so old new some none is f
+  step_followed (passes_own at unit) old new (read, octets, put, begun, is) f = passes_own_so old new at unit put begun is f
+  step_followed begins_other old new is f = begins_other_so old new is f
+  step_followed (passes_other at packet units) old new (octets, read, is) f =
       passes_other_so old new at packet units (units_fit units packet (units_found packet units octets read)) (ap units_by read) is f
 
 -- ---- at the beginning
@@ -222,6 +194,4 @@ begin_followed d is_caller local h fresh =
       judge = refl;
       coming = λ lasts. refl;
       like = grind (arith, bare);
-      can = tt;
-      links = tt;
     }

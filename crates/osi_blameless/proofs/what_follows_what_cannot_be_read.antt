@@ -15,6 +15,7 @@ use Rattle.osi_blameless.specs.Joint.Step.{turns, begins_own, passes_own, begins
 use Rattle.osi_blameless.proofs.small_facts_that_many_lemmas_use.{can_more}
 use Rattle.osi_blameless.proofs.how_an_end_stands_to_what_has_passed.{OtherRest, OtherStands, OwnStands, begun_now, first_put, has_begun}
 use Rattle.osi_blameless.proofs.how_an_end_stands_to_what_has_passed.{one_octet, rest_of, some_octets, uses}
+use Rattle.osi_blameless.proofs.what_the_turns_among_steps_do.{takes_turn}
 use Rattle.osi_blameless.proofs.turns_are_taken_late.{Follows, all_passed, other_passes, own_passes, turn_taken}
 use Rattle.osi_blameless.proofs.what_an_octet_does.{begins, passes_so}
 use Rattle.osi_blameless.proofs.what_is_halted_stays_halted.{IsHalted, halted_claim, unread_same}
@@ -327,7 +328,7 @@ module _ (d : Direction) (is_caller : Bool) (deeds : ℕ → Deeds) (s : State) 
       let both : (mine ++ still) ++ turn.put ≡ packets j.put ++ packets units = (λ i. st.own.all i ++ on.written i) in
       record {
         later = record j { holding = new; put = j.put ++ units; coming = u.later };
-        takes = grind arith;
+        takes = takes_turn is_caller deeds turn j new takes on u.used u.later u.rest u.parts u.cut u.kept u.all;
         holding = refl;
         stands = record {
           course = st.course;

@@ -1,11 +1,11 @@
 -- With a break of the other side in class 0, an end and a judge begin to go on as if it had not come, for the end takes no packet of it;
 -- and so they go on, step by step. For the law that no session of an end is to blame after such a break.
-use Rattle.osi_blameless.proofs.Vocabulary.{◌≡◌, ◌∙◌, inl, inr, refl, sym, ap, subst, ℕ, ◌^◌, ◌<◌, ◌≤◌, Bool, true, false, List, [], ◌∷◌}
-use Rattle.osi_blameless.proofs.Vocabulary.{◌++◌, length, Some, arith, append_assoc, Result, Ok, AllByRecursion, append-nil, IsOctets}
-use Rattle.osi_blameless.proofs.Vocabulary.{units_of, Value, data0, TpduFault, Two, Zero, Local, other, Direction, is_applied, class_for}
-use Rattle.osi_blameless.proofs.Vocabulary.{takes, side_zero, Deeds, AreHard, IsHard, Known, Cause, unit_passes, units_pass, unread, way_of}
-use Rattle.osi_blameless.proofs.Vocabulary.{Joint, Step, begins_other, begins_own, passes_other, passes_own, turns, stops_last, calls_from}
-use Rattle.osi_blameless.proofs.Vocabulary.{IsNoPacket, IsUnread, LaterAlong, LaterSteps, spoilt}
+use Rattle.osi_blameless.proofs.Vocabulary.{packets, ◌≡◌, ◌∙◌, inl, inr, refl, sym, ap, subst, ℕ, ◌^◌, ◌<◌, ◌≤◌, Bool, true, false, List}
+use Rattle.osi_blameless.proofs.Vocabulary.{[], ◌∷◌, ◌++◌, length, Some, arith, append_assoc, Result, Ok, AllByRecursion, append-nil}
+use Rattle.osi_blameless.proofs.Vocabulary.{IsOctets, units_of, Value, data0, TpduFault, Two, Zero, Local, other, Direction, is_applied}
+use Rattle.osi_blameless.proofs.Vocabulary.{class_for, takes, side_zero, Deeds, AreHard, IsHard, Known, Cause, unit_passes, units_pass}
+use Rattle.osi_blameless.proofs.Vocabulary.{unread, way_of, Joint, Step, begins_other, begins_own, passes_other, passes_own, turns}
+use Rattle.osi_blameless.proofs.Vocabulary.{stops_last, calls_from, IsNoPacket, IsUnread, LaterAlong, LaterSteps, spoilt}
 use Rattle.osi_rules.specs.declared.courses.Course.{Course as Judging}
 use Rattle.osi_rules.specs.declared.findings.Reach.TheVariants as reach
 use Rattle.osi_fair.specs.Pieces.{units_in}
@@ -68,7 +68,7 @@ units_alone d at (v ∷ vs) c a h =
 module _ (known : Known) (d : Direction) (local : Local)
     (Inv : (ℕ → Deeds) → Joint → Type 0) (k : Keeps Two d local Inv) (has_begun : HasBegun d Inv) where
   abbrev pub Judged : (ℕ → Deeds) → Joint → Type 0
-  Judged deeds j = Goes known.proper Two d local Inv k deeds j
+  Judged deeds j = Goes Two d local Inv k deeds j
 
   abbrev pub AsWithout : Bool → Joint → Type 0
   AsWithout ends j = IsAsWithout known d local Inv k has_begun ends j
@@ -139,7 +139,7 @@ module _ (known : Known) (d : Direction) (local : Local)
           without = w;
           is = record {
             goes = b.goes;
-            put = b.put;
+            put = ap packets b.put;
             begun = b.begun;
             beside = subst (λ (x : Passed). IsBeside d x w.course) all_join (subst (IsBeside d _) (sym b.course) s.beside);
             alone = subst (IsAlone d) all_join s.alone;
@@ -160,7 +160,7 @@ module _ (known : Known) (d : Direction) (local : Local)
             let front_read : units_of l.packet ≡ Ok front = leads_read (u ∷ xs) l ∙ ap (λ (f : List Value). Ok f) (sym some) in
             let w : Joint = record old { course = c; coming = old.coming ++ l.packet ∷ [] } in
             begins_alone f w (record {
-              goes = other_goes known.proper Two d local Inv k deeds at l.packet front old w (l.octets, front_read, refl) g taken
+              goes = other_goes Two d local Inv k deeds at l.packet front old w (l.octets, front_read, refl) g taken
                   (zero_two c.traffic.course.class (knows_zero (other d) c sure zero)) judged never;
               holding = refl;
               put = refl;
@@ -248,7 +248,7 @@ module _ (known : Known) (d : Direction) (local : Local)
   later_step true (passes_other at packet units) old new step none short a = absurd (none refl)
   later_step false (passes_other at packet units) old new (octets, read, is) none short a =
       other_alone known d local Inv k has_begun at packet units old new is
-      (later_followed d first known.proper (passes_other at packet units) old new (octets, read, is) a.is.followed) a
+      (later_followed d first (passes_other at packet units) old new (octets, read, is) a.is.followed) a
 
   -- nobody of the end is to blame
   pub never_alone : (ends : Bool) (step : Step) (old new : Joint) → LaterSteps d step old new → AsWithout ends old → AsWithout ends new →

@@ -1,7 +1,7 @@
 -- As long as both sides are judged and class 0 is not selected at the judge, each CC that a called end has put and that has not passed
 -- selects class 2; or the end has selected class 0, and the CC that says so is the first unit that waits.
 -- For all connections of a called end and a judge.
-use Rattle.osi_blameless.proofs.Vocabulary.{false, inl, inr, subst, sym, ◌⊎◌, AllByRecursion, Local, Traffic, CanBeWritten}
+use Rattle.osi_blameless.proofs.Vocabulary.{false, inl, inr, subst, sym, ◌⊎◌, AllByRecursion, Local, Traffic}
 use Rattle.osi_blameless.proofs.Vocabulary.{Selecting, Joint, HaveSamePlaces, IsOngoing}
 use Rattle.osi_side.specs.declared.directions.Direction.TheVariants as side
 use Rattle.osi_fair.specs.Wholes.{begin}
@@ -10,7 +10,7 @@ use Rattle.osi_blameless.proofs.sessions.a_whole_end_runs_along.{HasLines, lines
 use Rattle.osi_blameless.proofs.sessions.each_cc_of_a_called_end_opens_another_connection.{put_answers_two}
 use Rattle.osi_blameless.proofs.sessions.ccs_among_units.{AnswersTwo}
 
-module _ (local : Local) (j : Joint) (f : IsFollowed side.Right (begin false local) j) (can : AllByRecursion CanBeWritten j.put)
+module _ (local : Local) (j : Joint) (f : IsFollowed side.Right (begin false local) j)
     (clear : IsOngoing j.course.traffic.course) (places : HaveSamePlaces j.course.traffic.connections j.course.sessions.live) where
   by : HasLines local f.whole ⊎ Selecting local f.whole → AllByRecursion AnswersTwo j.put ⊎ Selecting local f.whole
   by (inl h) =

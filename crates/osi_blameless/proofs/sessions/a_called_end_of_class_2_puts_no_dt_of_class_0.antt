@@ -1,13 +1,12 @@
 -- What a called end of class 2 has put and what has not passed has no DT of class 0.
 -- What holds of the units at each place holds of all that is to pass.
 -- For the units that a called end puts.
-use Rattle.osi_blameless.proofs.Vocabulary.{[], ap, append_assoc, List, None, Ok, Option, refl, Some, subst, sym, ℕ, ◌&&◌, ◌++◌}
-use Rattle.osi_blameless.proofs.Vocabulary.{◌∙◌, ◌∷◌, ◌≡◌, AllByRecursion, slice_get, acknowledge, data0, data2, disconnected, Value}
-use Rattle.osi_blameless.proofs.Vocabulary.{Flow, ack, part0, part2, Standing, give_out, hand_in, hand_out, Move, Moves, take_in}
-use Rattle.osi_blameless.proofs.Vocabulary.{Local, Connection, Way as Direction, answering, AreStrays}
-use Rattle.osi_blameless.proofs.Vocabulary.{Called, refuses, runs, Stand, StrayIf, at_first, at_join, first_at, Placed, values, gives_so}
-use Rattle.osi_blameless.proofs.Vocabulary.{takes_so, Act, Acts, ActsAlong, begins_elsewhere, ignores, Line, moves, units_put, Whole}
-use Rattle.osi_blameless.proofs.Vocabulary.{comes, arith}
+use Rattle.osi_blameless.proofs.Vocabulary.{[], ap, append_assoc, List, None, Ok, Option, refl, Some, subst, sym, ℕ, ◌&&◌, ◌++◌, ◌∙◌, ◌∷◌}
+use Rattle.osi_blameless.proofs.Vocabulary.{◌≡◌, AllByRecursion, slice_get, acknowledge, data0, data2, disconnected, Value, Flow, ack}
+use Rattle.osi_blameless.proofs.Vocabulary.{part0, part2, Standing, give_out, hand_in, hand_out, Move, Moves, take_in, Local, Connection}
+use Rattle.osi_blameless.proofs.Vocabulary.{Way as Direction, answering, AreStrays, Called, refuses, runs, Stand, StrayIf, at_first}
+use Rattle.osi_blameless.proofs.Vocabulary.{at_join, first_at, Placed, values, gives_so, takes_so, Act, Acts, ActsAlong, begins_elsewhere}
+use Rattle.osi_blameless.proofs.Vocabulary.{ignores, Line, moves, units_put, Whole, comes, arith}
 use Rattle.osi_class.specs.Link.{taken}
 use Rattle.osi_rules.specs.declared.directions.Direction.TheVariants.{Right}
 use Rattle.osi_fair.specs.Lines.{answers, begins_other, begins_own, closes, passes_other, passes_own}

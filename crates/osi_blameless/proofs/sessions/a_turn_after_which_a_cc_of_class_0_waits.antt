@@ -3,14 +3,14 @@
 -- For the session of the connection of an end in class 0.
 use Rattle.osi_blameless.proofs.Vocabulary.{◌≡◌, ◌∙◌, refl, sym, ap, subst, ℕ, ◌-◌, ◌<◌, true, false, List, [], ◌∷◌, ◌++◌, Option, Some}
 use Rattle.osi_blameless.proofs.Vocabulary.{None, arith, inl, inr, ◌⊎◌, ◌≢◌, AllByRecursion, Connect, Value, confirm, parts_in, Part, Local}
-use Rattle.osi_blameless.proofs.Vocabulary.{unit_octets, Right, Selecting, zero_puts, IsFirm, picked_join, Continues, Deeds, then_did}
-use Rattle.osi_blameless.proofs.Vocabulary.{units_in, Marked, all_units, Turn, AllProper, Life, early, stage_at, all_units_more, taken_more}
-use Rattle.osi_blameless.proofs.Vocabulary.{CanBeWritten, Joint, TakesTurn, parts_of, HaveSamePlaces}
+use Rattle.osi_blameless.proofs.Vocabulary.{unit_octets, Right, Selecting, zero_puts, IsFirm, picked_join, Deeds, then_did}
+use Rattle.osi_blameless.proofs.Vocabulary.{units_in, Marked, all_units, Turn, early, stage_at, all_units_more, taken_more}
+use Rattle.osi_blameless.proofs.Vocabulary.{Joint, TakesTurn, parts_of, HaveSamePlaces}
 use Rattle.std.proofs.lemmas.List.Concat.{flat_map-append}
 use Rattle.osi_carrier.specs.State.{State as Carrier}
 use Rattle.osi_judge.specs.Courses.{Course as Passed}
 use Rattle.osi_blameless.proofs.steps_are_events.{IsFollowed}
-use Rattle.osi_blameless.proofs.small_facts_that_many_lemmas_use.{can_more as all_more, none_some, all_front, early_lasts}
+use Rattle.osi_blameless.proofs.small_facts_that_many_lemmas_use.{none_some, all_front, early_lasts}
 use Rattle.osi_blameless.proofs.sessions.a_called_end_answers_with_class_2_or_selects_class_0.{answers_or_selects}
 use Rattle.osi_blameless.proofs.sessions.a_turn_does_what_its_deeds_say.{turn_uses}
 use Rattle.osi_blameless.proofs.sessions.an_end_answers_with_class_0.{StandsAnswering, first}
@@ -26,6 +26,7 @@ use Rattle.osi_blameless.proofs.sessions.what_an_end_takes_at_each_stage.{AreCal
 use Rattle.osi_blameless.proofs.sessions.what_is_in_flight_to_an_end.{parts_taken}
 use Rattle.osi_blameless.proofs.sessions.what_stands_of_a_connection.{is_for, waiting_for}
 use Rattle.osi_blameless.proofs.sessions.what_the_stage_of_a_whole_end_says.{IsDt0, all_data}
+use Rattle.osi_blameless.proofs.what_the_turns_among_steps_do.{TurnDoes}
 
 -- ---- small facts
 
@@ -59,10 +60,10 @@ module _ (local : Local) (j : Joint) (f : IsFollowed Right (first local) j) (n :
       subst (AllByRecursion IsDt0) (same_later _ _ z.more rest (sym z.put ∙ f.put ∙ put))
       (all_data limit 0 z.more (zero_puts limit f.whole.end 0 z.more z.end))
 
-  selects : AllByRecursion CanBeWritten j.put → IsFirm j.course.traffic.course → j.course.traffic.course.class ≡ None →
+  selects : IsFirm j.course.traffic.course → j.course.traffic.course.class ≡ None →
       HaveSamePlaces j.course.traffic.connections j.course.sessions.live → (x.class ≡ 2 → ⊥) → Selecting local f.whole
-  selects can sure class places not =
-      by (answers_or_selects local j f can
+  selects sure class places not =
+      by (answers_or_selects local j f
       (grind (arith, none_some)) places)
     where
       by : AllByRecursion AnswersTwo j.put ⊎ Selecting local f.whole → Selecting local f.whole
@@ -71,10 +72,8 @@ module _ (local : Local) (j : Joint) (f : IsFollowed Right (first local) j) (n :
 
 -- ---- a turn
 
-module _ (local : Local) (proper : AllProper) (turn : Turn) (old new : Joint) (t : TakesTurn turn old new) (deeds : ℕ → Deeds)
-    (on : Continues false deeds old.holding turn new.holding)
-    (life : (r : ℕ) → 0 < r → Life false r (stage_at r old.holding.end.carrier) on.took on.put (stage_at r new.holding.end.carrier))
-    (units : t.units ≡ all_units on.put) where
+module _ (local : Local) (turn : Turn) (old new : Joint) (t : TakesTurn turn old new) (deeds : ℕ → Deeds)
+    (does : TurnDoes false deeds turn old new t) where
   abbrev end : Carrier
   end = old.holding.end.carrier
 
@@ -85,50 +84,50 @@ module _ (local : Local) (proper : AllProper) (turn : Turn) (old new : Joint) (t
   coming = units_in old.coming
 
   abbrev then_deeds : ℕ → Deeds
-  then_deeds = λ r. then_did (deeds r) (on.more r)
+  then_deeds = λ r. then_did (deeds r) (does.on.more r)
 
-  turn_put : new.put ≡ old.put ++ all_units on.put
-  turn_put = t.put ∙ ap (λ (l : List Value). old.put ++ l) units
+  turn_put : new.put ≡ old.put ++ all_units does.on.put
+  turn_put = t.put ∙ ap (λ (l : List Value). old.put ++ l) does.units
 
   -- no CC is taken
   pub no_cc_taken : {A : Type 0} (q n : ℕ) (x : Connect) (some later : List Marked) → AllByRecursion IsQuiet coming →
-      stage_at q end ≡ early → on.took ≡ some ++ (0, confirm n x) ∷ later → A
+      stage_at q end ≡ early → does.on.took ≡ some ++ (0, confirm n x) ∷ later → A
   no_cc_taken q n x some later quiet may is =
-      let u = turn_uses turn old new t false deeds on (early_lasts q end may) in
+      let u = turn_uses turn old new t false deeds does.on (early_lasts q end may) in
       absurd (one_of IsQuiet (all_units some) (all_units later) (confirm n x)
       (grind (arith, all_units_more, all_front)))
 
   -- ---- with the CC that waits then
 
-  module _ (a : IsAhead Right (first local) new) (can : AllByRecursion CanBeWritten new.put) (n : ℕ) (x : Connect) (rest : List Value)
+  module _ (a : IsAhead Right (first local) new) (n : ℕ) (x : Connect) (rest : List Value)
       (put : new.put ≡ confirm n x ∷ rest) (not_two : x.class ≡ 2 → ⊥) (positive : 0 < x.source) (e : StandInNone Right deeds old)
       (some : old.begun ≡ true → old.put ≢ [])
       (waits : (deeds x.source).put ≡ waiting_for (Some n) old.put) (unheard : parts_in (deeds x.source).calls ≡ [])
       (dts : AllByRecursion IsDt0 rest)
-      (is_x : (q : ℕ) → 0 < q → WasOpen false q (stage_at q end) on.took on.put → q ≡ x.source) where
-    links : AllByRecursion IsPlainDt (all_units on.put)
+      (is_x : (q : ℕ) → 0 < q → WasOpen false q (stage_at q end) does.on.took does.on.put → q ≡ x.source) where
+    links : AllByRecursion IsPlainDt (all_units does.on.put)
     links = grind (arith, all_back, turn_put, never, all_so, dts)
 
     then_waits : (then_deeds x.source).put ≡ waiting_for (Some n) new.put
     then_waits =
-        let marks = all_marked false turn old new deeds on life x.source is_x in
-        let now = on.own x.source positive
-        ∙ marks_wait x.source (Some n) on.put (agree_one x.source (Some n) positive refl on.put marks on.by_links links) in
-        (λ i. waits i ++ now i) ∙ sym (picked_join (is_for (Some n)) old.put (all_units on.put)) ∙ ap (waiting_for (Some n)) (sym turn_put)
+        let marks = all_marked false turn old new t deeds does x.source is_x in
+        let now = does.on.own x.source positive
+        ∙ marks_wait x.source (Some n) does.on.put (agree_one x.source (Some n) positive refl does.on.put marks does.on.by_links links) in
+        (λ i. waits i ++ now i) ∙ sym (picked_join (is_for (Some n)) old.put (all_units does.on.put)) ∙ ap (waiting_for (Some n)) (sym turn_put)
 
     -- nothing is for it among what comes
-    calm : (q : ℕ) → stage_at q end ≡ early → AreCalm false q (stage_at q then_end) on.took
+    calm : (q : ℕ) → stage_at q end ≡ early → AreCalm false q (stage_at q then_end) does.on.took
     calm q may front back is ends =
-        let u = turn_uses turn old new t false deeds on (early_lasts q end may) in
+        let u = turn_uses turn old new t false deeds does.on (early_lasts q end may) in
         let quiet = e.quiet in
         quiet_none q (all_units front)
         (grind (arith, all_front, all_units_more))
 
     then_unheard : parts_in (then_deeds x.source).calls ≡ []
     then_unheard =
-        let k = turn_takes false turn old new t deeds on x.source positive (life x.source positive) (calm x.source) []
+        let k = turn_takes false turn old new t deeds does.on x.source positive (does.life x.source positive) (calm x.source) []
         (λ live. sym (ap parts_of (quiet_none x.source coming e.quiet))) in
-        none_taken (deeds x.source) (on.more x.source) unheard (none_first (parts_in (on.more x.source).calls) k.rest k.first)
+        none_taken (deeds x.source) (does.on.more x.source) unheard (none_first (parts_in (does.on.more x.source).calls) k.rest k.first)
 
     pub turns_waiting : StandsAnswering local then_deeds new
     turns_waiting = record {
@@ -138,44 +137,38 @@ module _ (local : Local) (proper : AllProper) (turn : Turn) (old new : Joint) (t
       rest = rest;
       put = put;
       not_two = not_two;
-      can = can;
       positive = positive;
-      none = none_turns Right turn old new t deeds on.more (record {
+      none = none_turns Right turn old new t deeds does.on.more (record {
         puts = λ i c j r there here named live. none_named (Some r) r refl (sym named ∙ e.new.live i j here);
         takes = λ r one later known.
-            let k = turn_takes false turn old new t deeds on r known.0 (life r known.0) (calm r) later known.1 in
+            let k = turn_takes false turn old new t deeds does.on r known.0 (does.life r known.0) (calm r) later known.1 in
             record { rest = k.rest; first = k.first; sure = (known.0, k.sure) };
       }) some e;
       waits = then_waits;
       unheard = then_unheard;
-      amid_is = λ q peer more is. is_x q more (then_open false turn old new deeds on life q peer more is);
+      amid_is = λ q peer more is. is_x q more (then_open false turn old new t deeds does q peer more is);
     }
 
   -- ---- the CC was put before
 
   module _ (sure : IsFirm old.course.traffic.course) (h : StandsAnswering local deeds old) where
     g : GoesOn Right (first local) h.ahead.bound new
-    g = turns_ahead Right (first local) proper turn old new t h.ahead
+    g = turns_ahead Right (first local) turn old new t h.ahead
 
-    then_put : new.put ≡ confirm h.n h.x ∷ (h.rest ++ all_units on.put)
-    then_put = turn_put ∙ ap (λ (l : List Value). l ++ all_units on.put) h.put
+    then_put : new.put ≡ confirm h.n h.x ∷ (h.rest ++ all_units does.on.put)
+    then_put = turn_put ∙ ap (λ (l : List Value). l ++ all_units does.on.put) h.put
 
-    can : AllByRecursion CanBeWritten new.put
-    can =
-        let on_can = on.can in
-        subst (AllByRecursion CanBeWritten) (sym turn_put) (all_more old.put (all_units on.put) h.can on_can)
-
-    dts : AllByRecursion IsDt0 (h.rest ++ all_units on.put)
+    dts : AllByRecursion IsDt0 (h.rest ++ all_units does.on.put)
     dts =
         let f = g.ahead.followed in
-        dts_after local new f h.n h.x (h.rest ++ all_units on.put) then_put
-        (selects local new f h.n h.x (h.rest ++ all_units on.put) then_put can
+        dts_after local new f h.n h.x (h.rest ++ all_units does.on.put) then_put
+        (selects local new f h.n h.x (h.rest ++ all_units does.on.put) then_put
         (subst (λ (c : Passed). IsFirm c.traffic.course) (sym t.course) sure)
         (ap (λ (c : Passed). c.traffic.course.class) t.course ∙ h.none.class)
         (subst (λ (c : Passed). HaveSamePlaces c.traffic.connections c.sessions.live) (sym t.course) h.none.all.places) h.not_two)
 
     -- no other CC is put
-    is_x : (q : ℕ) → 0 < q → WasOpen false q (stage_at q end) on.took on.put → q ≡ h.x.source
+    is_x : (q : ℕ) → 0 < q → WasOpen false q (stage_at q end) does.on.took does.on.put → q ≡ h.x.source
     is_x q more (open_before peer is) = h.amid_is q peer more is
     is_x q more (puts_cc called n x front later source is) =
         absurd (one_of IsDt0 (all_units front) (all_units later) (confirm n x)
@@ -184,5 +177,5 @@ module _ (local : Local) (proper : AllProper) (turn : Turn) (old new : Joint) (t
 
     pub turns_answering : StandsAnswering local then_deeds new
     turns_answering =
-        turns_waiting g.ahead can h.n h.x (h.rest ++ all_units on.put) then_put h.not_two h.positive h.none
+        turns_waiting g.ahead h.n h.x (h.rest ++ all_units does.on.put) then_put h.not_two h.positive h.none
         (λ begun none. no_list (confirm h.n h.x) h.rest (sym h.put ∙ none)) h.waits h.unheard dts is_x

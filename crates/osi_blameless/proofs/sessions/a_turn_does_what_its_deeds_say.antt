@@ -1,12 +1,9 @@
 -- A turn of an end beside a judge used the packets that its connections took in this turn.
 -- For all connections of an end and a judge.
-use Rattle.osi_blameless.proofs.Vocabulary.{[], ap, append_assoc, Bool, List, None, sym, ℕ, ◌++◌, ◌∙◌, ◌≡◌, flat_map-append, units_of, Ok}
-use Rattle.osi_blameless.proofs.Vocabulary.{append-nil, ◌∷◌, Value, Continues, Deeds, units_in, units_read, all_units, Turn, Joint}
-use Rattle.osi_blameless.proofs.Vocabulary.{TakesTurn, arith}
+use Rattle.osi_blameless.proofs.Vocabulary.{[], ap, append_assoc, Bool, List, None, sym, ℕ, ◌++◌, ◌∙◌, ◌≡◌, units_of, Ok, append-nil, ◌∷◌}
+use Rattle.osi_blameless.proofs.Vocabulary.{Value, Continues, Deeds, units_in, units_read, all_units, Turn, Joint, TakesTurn, arith}
+use Rattle.osi_blameless.proofs.small_facts_that_many_lemmas_use.{units_join}
 use Rattle.osi_blameless.proofs.the_packets_that_an_end_took_come_first.{AreFirst, are_first}
-
-pub units_join : (some more : List (List ℕ)) → units_in (some ++ more) ≡ units_in some ++ units_in more
-units_join some more = flat_map-append (λ packet. units_read (units_of packet)) some more
 
 -- the units of one more packet
 pub units_more : (some : List (List ℕ)) (packet : List ℕ) (units : List Value) → units_of packet ≡ Ok units →

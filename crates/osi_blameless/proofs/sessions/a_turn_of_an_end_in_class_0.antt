@@ -1,10 +1,10 @@
 -- Once class 0 is selected, a turn of an end leaves all its connections standing at a judge: what it puts is for its one connection, and
 -- what it takes there is the first of what is in flight. And no session of it is to blame then. For the session of the connection of an end
 -- in class 0.
-use Rattle.osi_blameless.proofs.Vocabulary.{◌≡◌, ◌∙◌, refl, sym, ap, subst, ℕ, ◌<◌, Bool, true, false, List, ◌∷◌, ◌++◌, Option, Some, arith}
+use Rattle.osi_blameless.proofs.Vocabulary.{◌≡◌, ◌∙◌, refl, sym, ap, subst, ℕ, ◌<◌, Bool, true, false, List, ◌∷◌, ◌++◌, Option, Some}
 use Rattle.osi_blameless.proofs.Vocabulary.{inl, inr, ◌⊎◌, ◌==◌, slice_get, AllByRecursion, eqb-true, Connect, Value, confirm, Local}
 use Rattle.osi_blameless.proofs.Vocabulary.{Direction, Left, Right, other, Connection, is_open, own, State, Whole, unlike, IsFirm}
-use Rattle.osi_blameless.proofs.Vocabulary.{Continues, Deeds, then_did, units_in, Marked, all_units, Turn, AllProper, Life, early, past}
+use Rattle.osi_blameless.proofs.Vocabulary.{Deeds, then_did, units_in, Marked, all_units, Turn, early, past}
 use Rattle.osi_blameless.proofs.Vocabulary.{stage_at, all_units_more, Joined, reference_of, Joint, TakesTurn, IsOneOf, calls_from, way_of}
 use Rattle.osi_blameless.proofs.Vocabulary.{is_of_link, Time}
 use Rattle.osi_carrier.specs.State.{State as Carrier}
@@ -30,6 +30,7 @@ use Rattle.osi_blameless.proofs.sessions.what_a_turn_puts_waits.{Agree, marks_wa
 use Rattle.osi_blameless.proofs.sessions.what_an_end_takes_at_each_stage.{AreCalm, turn_takes}
 use Rattle.osi_blameless.proofs.sessions.what_stands_of_a_connection.{waiting_for}
 use Rattle.osi_blameless.proofs.sessions.what_the_stage_of_a_whole_end_says.{AwaitsCc, IsDt0, stage_of, zero_awaits, zero_put}
+use Rattle.osi_blameless.proofs.what_the_turns_among_steps_do.{TurnDoes}
 
 -- nothing is for the connection before it opens
 calm_of : (d : Direction) (r : ℕ) (s : Time) (took : List Marked) (had others : List Value) → AwaitsCc d had →
@@ -39,11 +40,8 @@ calm_of Right r s took had others none order awaits = absurd none
 
 -- ---- a turn
 
-module _ (d : Direction) (local : Local) (proper : AllProper) (turn : Turn) (old new : Joint) (t : TakesTurn turn old new)
-    (deeds : ℕ → Deeds) (on : Continues (calls_from d) deeds old.holding turn new.holding)
-    (life : (r : ℕ) → 0 < r → Life (calls_from d) r (stage_at r old.holding.end.carrier) on.took on.put
-    (stage_at r new.holding.end.carrier))
-    (units : t.units ≡ all_units on.put) (sure : IsFirm old.course.traffic.course) (h : StandsInZero d local deeds old) where
+module _ (d : Direction) (local : Local) (turn : Turn) (old new : Joint) (t : TakesTurn turn old new)
+    (deeds : ℕ → Deeds) (does : TurnDoes (calls_from d) deeds turn old new t) (sure : IsFirm old.course.traffic.course) (h : StandsInZero d local deeds old) where
   abbrev s : State
   s = old.course.traffic
 
@@ -64,7 +62,7 @@ module _ (d : Direction) (local : Local) (proper : AllProper) (turn : Turn) (old
 
   -- the whole end goes on
   g : GoesOn d (wholes.begin (calls_from d) local) h.ahead.bound new
-  g = turns_ahead d (wholes.begin (calls_from d) local) proper turn old new t h.ahead
+  g = turns_ahead d (wholes.begin (calls_from d) local) turn old new t h.ahead
 
   abbrev whole : Whole
   whole = g.ahead.followed.whole
@@ -79,21 +77,23 @@ module _ (d : Direction) (local : Local) (proper : AllProper) (turn : Turn) (old
   then_within = within_higher h.ahead.bound g.ahead.bound h.r g.rises h.within
 
   -- all that it puts is DTs
-  dts : AllByRecursion IsDt0 (all_units on.put)
+  dts : AllByRecursion IsDt0 (all_units does.on.put)
   dts =
       let all = zero_put d local whole (ap (λ (x : State). x.course.class) g.ahead.followed.judge ∙ class_then ∙ z.class)
       (stage_of d local new g.ahead.followed then_firm) in
-      turn_puts d (wholes.begin (calls_from d) local) turn old new t (all_units on.put) units g.ahead.followed IsDt0 all
+      turn_puts d (wholes.begin (calls_from d) local) turn old new t (all_units does.on.put) does.units g.ahead.followed IsDt0 all
 
   -- what holds of all that had come holds of a CC that was taken
   cc_came : (P : Value → Type 0) (q : ℕ) (x : Connect) (some later : List Marked) → stage_at q end ≡ early →
-      on.took ≡ some ++ (0, confirm q x) ∷ later → AllByRecursion P coming → P (confirm q x)
+      does.on.took ≡ some ++ (0, confirm q x) ∷ later → AllByRecursion P coming → P (confirm q x)
   cc_came P q x some later may is all =
-      let u = turn_uses turn old new t (calls_from d) deeds on (early_lasts q end may) in
-      grind (arith, one_of, all_units_more, all_front)
+      let u = turn_uses turn old new t (calls_from d) deeds does.on (early_lasts q end may) in
+      let took = all_front P (all_units does.on.took) (u.left ++ then_coming) (subst (AllByRecursion P) u.coming all) in
+      one_of P (all_units some) (all_units later) (confirm q x)
+      (subst (AllByRecursion P) (ap all_units is ∙ all_units_more some ((0, confirm q x) ∷ later)) took)
 
   -- only the one connection is open
-  is_r : (q : ℕ) → 0 < q → WasOpen (calls_from d) q (stage_at q end) on.took on.put → q ≡ h.r
+  is_r : (q : ℕ) → 0 < q → WasOpen (calls_from d) q (stage_at q end) does.on.took does.on.put → q ≡ h.r
   is_r q some (open_before peer is) = h.amid_is q peer some is
   is_r q some (takes_cc may x front later is) = cc_came (IsCcFor h.r) q x front later may is z.ccs q x refl
   is_r q some (puts_cc called n x front later source is) =
@@ -109,18 +109,18 @@ module _ (d : Direction) (local : Local) (proper : AllProper) (turn : Turn) (old
   only_is = place_of_one d h.r (IsGone end) s old.course.sessions only z.one
 
   -- what was put at a connection, if the marks agree
-  puts_so : (r : ℕ) (o : Option ℕ) → 0 < r → Agree r o on.put → (on.more r).put ≡ waiting_for o t.units
-  puts_so r o some agree = on.own r some ∙ marks_wait r o on.put agree ∙ ap (waiting_for o) (sym units)
+  puts_so : (r : ℕ) (o : Option ℕ) → 0 < r → Agree r o does.on.put → (does.on.more r).put ≡ waiting_for o t.units
+  puts_so r o some agree = does.on.own r some ∙ marks_wait r o does.on.put agree ∙ ap (waiting_for o) (sym does.units)
 
   puts_zero : (i : ℕ) (c : Connection) (j : Joined) (r : ℕ) → slice_get s.connections i ≡ Some c →
       slice_get old.course.sessions.live i ≡ Some j → reference_of d j ≡ Some r → is_open (own (way_of d) c).phase ≡ true →
-      (on.more r).put ≡ waiting_for (reference_of (other d) j) t.units
+      (does.on.more r).put ≡ waiting_for (reference_of (other d) j) t.units
   puts_zero i c j r there here mine live = by (i == only.place) refl
     where
       one : IsOneOf c j
       one = one_at s.connections old.course.sessions.live i c j z.all.places there here
 
-      by : (x : Bool) → (i == only.place) ≡ x → (on.more r).put ≡ waiting_for (reference_of (other d) j) t.units
+      by : (x : Bool) → (i == only.place) ≡ x → (does.on.more r).put ≡ waiting_for (reference_of (other d) j) t.units
       by true e =
           let same : i ≡ only.place = eqb-true i only.place e in
           let is : c ≡ only.connection = same_one c only.connection (sym there ∙ ap (slice_get s.connections) same ∙ only.there) in
@@ -129,22 +129,22 @@ module _ (d : Direction) (local : Local) (proper : AllProper) (turn : Turn) (old
           let some : 0 < r = subst (λ (n : ℕ). 0 < n) is_it h.within.0 in
           puts_so r (reference_of (other d) j) some
           (agree_one r (reference_of (other d) j) some
-          (both_named (other d) c j one (ap (λ (y : Connection). is_open y.right.phase) is ∙ only.right)) on.put
-          (all_marked (calls_from d) turn old new deeds on life r (λ q more was. is_r q more was ∙ is_it)) on.by_links
-          (all_so IsDt0 (λ v. is_of_link v ≡ true → IsDt0 v) (λ v w link. w) (all_units on.put) dts))
+          (both_named (other d) c j one (ap (λ (y : Connection). is_open y.right.phase) is ∙ only.right)) does.on.put
+          (all_marked (calls_from d) turn old new t deeds does r (λ q more was. is_r q more was ∙ is_it)) does.on.by_links
+          (all_so IsDt0 (λ v. is_of_link v ≡ true → IsDt0 v) (λ v w link. w) (all_units does.on.put) dts))
       by false e =
           let apart : i ≡ only.place → ⊥ = unlike i only.place e in
           let gone = z.one.others i j r (λ k. apart (k ∙ sym only_is)) here mine in
           puts_so r (reference_of (other d) j) gone.0
-          (agree_apart r (reference_of (other d) j) (other_none d c j one (only.others i c there apart) live) on.put
-          (past_apart (calls_from d) r (stage_at r end) (stage_at r then_end) on.took on.put gone.1 (life r gone.0)))
+          (agree_apart r (reference_of (other d) j) (other_none d c j one (only.others i c there apart) live) does.on.put
+          (past_apart (calls_from d) r (stage_at r end) (stage_at r then_end) does.on.took does.on.put gone.1 (does.life r gone.0)))
 
   -- ---- what it takes there is the first of what is in flight
 
-  calm : stage_at h.r end ≡ early → AreCalm (calls_from d) h.r (stage_at h.r then_end) on.took
+  calm : stage_at h.r end ≡ early → AreCalm (calls_from d) h.r (stage_at h.r then_end) does.on.took
   calm may =
-      let u = turn_uses turn old new t (calls_from d) deeds on (early_lasts h.r end may) in
-      calm_of d h.r (stage_at h.r then_end) on.took coming (u.left ++ then_coming)
+      let u = turn_uses turn old new t (calls_from d) deeds does.on (early_lasts h.r end may) in
+      calm_of d h.r (stage_at h.r then_end) does.on.took coming (u.left ++ then_coming)
       (zero_awaits d local old h.ahead h.r sure z.class h.within may)
       (subst InOrder u.coming z.order)
       (λ still.
@@ -163,35 +163,35 @@ module _ (d : Direction) (local : Local) (proper : AllProper) (turn : Turn) (old
       by false e = inr (z.one.others i j q (unlike i z.one.place e) here named).1
 
   calm_by : (q : ℕ) → (q ≡ h.r) ⊎ (stage_at q end ≡ past) → stage_at q end ≡ early →
-      AreCalm (calls_from d) q (stage_at q then_end) on.took
+      AreCalm (calls_from d) q (stage_at q then_end) does.on.took
   calm_by q (inl is) may =
-      subst (λ (n : ℕ). AreCalm (calls_from d) n (stage_at n then_end) on.took) (sym is)
+      subst (λ (n : ℕ). AreCalm (calls_from d) n (stage_at n then_end) does.on.took) (sym is)
       (calm (ap (λ (n : ℕ). stage_at n end) (sym is) ∙ may))
   calm_by q (inr gone) may = past_not (stage_at q end) may gone
 
-  turns : Turns d on.more (known_in end coming) (known_in then_end then_coming) t.units s old.course.sessions
+  turns : Turns d does.on.more (known_in end coming) (known_in then_end then_coming) t.units s old.course.sessions
   turns = record {
     puts = puts_zero;
     takes = λ q one later known.
-        let x = turn_takes (calls_from d) turn old new t deeds on q known.0 (life q known.0)
+        let x = turn_takes (calls_from d) turn old new t deeds does.on q known.0 (does.life q known.0)
         (calm_by q (one_or_gone q one)) later known.1 in
         record { rest = x.rest; first = x.first; sure = (known.0, x.sure) };
   }
 
   abbrev then_deeds : ℕ → Deeds
-  then_deeds = λ r. then_did (deeds r) (on.more r)
+  then_deeds = λ r. then_did (deeds r) (does.on.more r)
 
   then_zero : AllInZero d then_deeds h.r then_end new.put new.begun then_coming new.course
   then_zero = record {
     sure = subst Sure (sym t.course) z.sure;
     class = class_then ∙ z.class;
-    all = (step_turns d deeds (known_in end coming) turn on.more (known_in then_end then_coming) old new t h.some turns
+    all = (step_turns d deeds (known_in end coming) turn does.on.more (known_in then_end then_coming) old new t h.some turns
         (record { all = z.all })).all;
     one = subst (λ (c : Passed). HasOne d h.r (IsGone then_end) c.traffic c.sessions) (sym t.course)
         (still_gone d h.r (IsGone end) (IsGone then_end) s old.course.sessions
         (λ q gone. (
           gone.0,
-          still_past (calls_from d) q (stage_at q end) (stage_at q then_end) on.took on.put gone.1 (life q gone.0),
+          still_past (calls_from d) q (stage_at q end) (stage_at q then_end) does.on.took does.on.put gone.1 (does.life q gone.0),
         )) z.one);
     ccs = all_back (IsCcFor h.r) (units_in t.used) then_coming (subst (AllByRecursion (IsCcFor h.r)) (turn_leaves turn old new t) z.ccs);
     order = order_back (units_in t.used) then_coming (subst InOrder (turn_leaves turn old new t) z.order);
@@ -203,6 +203,6 @@ module _ (d : Direction) (local : Local) (proper : AllProper) (turn : Turn) (old
     r = h.r;
     within = then_within;
     zero = then_zero;
-    amid_is = λ q peer some is. is_r q some (then_open (calls_from d) turn old new deeds on life q peer some is);
+    amid_is = λ q peer some is. is_r q some (then_open (calls_from d) turn old new t deeds does q peer some is);
     some = λ begun none. h.some (sym t.begun ∙ begun) (none_first old.put t.units (sym t.put ∙ none));
   }

@@ -1,11 +1,11 @@
 -- A turn of an end of class 2 leaves all its connections standing at a judge: each unit that it puts has its mark, and what it takes at a
 -- connection is the first of what is left over for it.
 -- For the session of each connection of an end.
-use Rattle.osi_blameless.proofs.Vocabulary.{AllByRecursion, AllProper, CanBeWritten, Connection, Continues, Course, Deeds, Direction}
-use Rattle.osi_blameless.proofs.Vocabulary.{HaveSamePlaces, IsOngoing, Joined, Joint, Left, Life, List, Local, Part, Right, Some, TakesTurn}
-use Rattle.osi_blameless.proofs.Vocabulary.{Time, Tracked, Turn, Value, [], all_units, ap, arith, calls_from, early, false, inl, inr}
-use Rattle.osi_blameless.proofs.Vocabulary.{is_closing, is_some, le-leb, lt-ltb, none_of, number_is, other, reference_of, slice_get}
-use Rattle.osi_blameless.proofs.Vocabulary.{stage_at, subst, sym, then_did, true, units_in, ℕ, ◌++◌, ◌<◌, ◌∙◌, ◌≡◌, ◌≢◌, ◌≤◌, ◌⊎◌}
+use Rattle.osi_blameless.proofs.Vocabulary.{AllByRecursion, Connection, Continues, Course, Deeds, Direction, HaveSamePlaces}
+use Rattle.osi_blameless.proofs.Vocabulary.{IsOngoing, Joined, Joint, Left, Life, List, Local, Right, Some, TakesTurn, Time, Tracked}
+use Rattle.osi_blameless.proofs.Vocabulary.{Turn, Value, [], ap, arith, calls_from, early, false, inl, inr, is_closing, is_some}
+use Rattle.osi_blameless.proofs.Vocabulary.{le-leb, lt-ltb, none_of, number_is, other, reference_of, slice_get, stage_at, subst, sym}
+use Rattle.osi_blameless.proofs.Vocabulary.{then_did, true, units_in, ℕ, ◌++◌, ◌<◌, ◌∙◌, ◌≡◌, ◌≢◌, ◌≤◌, ◌⊎◌, own, way_of}
 use Rattle.osi_judge.specs.Courses.{Course as Passed}
 use Rattle.osi_blameless.proofs.sessions.an_end_is_ready_for_each_cc_that_passes as ccs
 use Rattle.osi_blameless.proofs.sessions.an_end_is_ready_for_each_cr_that_passes as crs
@@ -22,51 +22,65 @@ use Rattle.osi_blameless.proofs.sessions.an_end_takes_what_is_left_for_it.{IsCle
 use Rattle.osi_blameless.proofs.sessions.connections_have_the_same_places.{at_same}
 use Rattle.osi_blameless.proofs.sessions.each_unit_of_a_turn_has_one_connection.{IsMarked, puts_wait}
 use Rattle.osi_blameless.proofs.sessions.nothing_comes_before_a_cc_passes.{none_waits}
-use Rattle.osi_blameless.proofs.sessions.nothing_is_done_before_a_cr_passes.{IsNoZero, may_take, same_units}
+use Rattle.osi_blameless.proofs.sessions.nothing_is_done_before_a_cr_passes.{IsNoZero, may_take}
+use Rattle.osi_blameless.proofs.small_facts_that_many_lemmas_use.{same_units}
 use Rattle.osi_blameless.proofs.sessions.references_of_an_end_are_distinct.{AreDistinct}
 use Rattle.osi_blameless.proofs.sessions.steps_leave_all_standing.{step_turns}
 use Rattle.osi_blameless.proofs.sessions.the_dr_of_the_other_side_is_in_flight.{AreShut, turn_shut}
 use Rattle.osi_blameless.proofs.sessions.ccs_among_units.{AnswersTwo}
 use Rattle.osi_blameless.proofs.sessions.what_an_end_takes_at_each_stage.{AreReady}
-use Rattle.osi_blameless.proofs.sessions.what_is_left_for_an_end.{known_left}
-use Rattle.osi_blameless.proofs.sessions.what_stands_of_a_connection.{Takes, waiting_for}
-use Rattle.osi_blameless.proofs.small_facts_that_many_lemmas_use.{can_more, early_lasts}
+use Rattle.osi_blameless.proofs.sessions.what_stands_of_a_connection.{waiting_for}
+use Rattle.osi_blameless.proofs.small_facts_that_many_lemmas_use.{early_lasts}
+use Rattle.osi_blameless.proofs.what_the_turns_among_steps_do.{TurnDoes}
 
 first_so : {A B C : Type 0} → (A → C) → A ⊎ B → C ⊎ B
 first_so f (inl a) = inl (f a)
 first_so f (inr b) = inr b
 
--- A turn of which each unit has its mark, and which takes the first of what is in flight to each connection.
+-- A turn of which each unit has its mark. A connection that may open is ready in it, or nothing of what has come is for it; and it is ready
+-- if the other side has closed it.
 module _ (d : Direction) (local : Local) (two : MayGetTwo d local) (deeds : ℕ → Deeds) (turn : Turn) (old new : Joint)
-    (t : TakesTurn turn old new) (on : Continues (calls_from d) deeds old.holding turn new.holding) (units : t.units ≡ all_units on.put)
-    (can : AllByRecursion CanBeWritten (all_units on.put))
-    (marked : AllByRecursion (IsMarked d old.course.traffic old.course.sessions) on.put)
-    (takes : (r : ℕ) → 0 < r → IsOfOne d r old.course.traffic old.course.sessions → (later : List Part) →
-    known_left (may_take old.holding.end.carrier) (units_in old.coming) r later →
-    Takes (on.more r) later (known_left (may_take new.holding.end.carrier) (units_in new.coming) r))
-    (shut : AreShut d (may_take new.holding.end.carrier) (units_in new.coming) old.course.traffic old.course.sessions)
+    (t : TakesTurn turn old new) (does : TurnDoes (calls_from d) deeds turn old new t)
+    (marked : AllByRecursion (IsMarked d old.course.traffic old.course.sessions) does.on.put)
+    (ready : (r : ℕ) → 0 < r → IsOfOne d r old.course.traffic old.course.sessions → stage_at r old.holding.end.carrier ≡ early →
+    AreReady (calls_from d) r (IsClean r) (stage_at r new.holding.end.carrier) does.on.took
+    ⊎ (waiting_for (Some r) (units_in old.coming) ≡ []))
+    (ready_closed : (i : ℕ) (c : Connection) (j : Joined) (r : ℕ) → slice_get old.course.traffic.connections i ≡ Some c →
+    slice_get old.course.sessions.live i ≡ Some j → c.is_judged ≡ true → is_closing (own (way_of (other d)) c).phase ≡ true →
+    reference_of d j ≡ Some r → 0 < r → stage_at r old.holding.end.carrier ≡ early →
+    AreReady (calls_from d) r (IsClean r) (stage_at r new.holding.end.carrier) does.on.took)
     (some : old.begun ≡ true → old.put ≢ []) (clear : IsOngoing old.course.traffic.course) (h : StandsInTwo d local deeds old) where
-  turns : Turns d on.more (known_at old) (known_at new) t.units old.course.traffic old.course.sessions
+  turns : Turns d does.on.more (known_at old) (known_at new) t.units old.course.traffic old.course.sessions
   turns = record {
     puts = λ i c j r there here mine live.
         let up : 0 < r = (h.own.ahead.below.live i j r here mine).0 in
         puts_wait d deeds (known_at old) old.put old.begun old.course.traffic old.course.sessions h.standing.all
         (used_apart d local two deeds old clear h) h.distinct i c j r
-        there here mine live up on.put marked (on.more r).put (on.own r up)
-        ∙ ap (waiting_for (reference_of (other d) j)) (sym units);
+        there here mine live up does.on.put marked (does.on.more r).put (does.on.own r up)
+        ∙ ap (waiting_for (reference_of (other d) j)) (sym does.units);
     takes = λ r one later sure.
-        let x = takes r sure.0 one later sure.1 in record { rest = x.rest; first = x.first; sure = (sure.0, x.sure) };
+        let x = either_takes (calls_from d) turn old new t deeds does.on r sure.0 (does.life r sure.0) (ready r sure.0 one) later sure.1 in
+        record { rest = x.rest; first = x.first; sure = (sure.0, x.sure) };
   }
 
-  turns_with : OwnInTwo d local (λ r. then_did (deeds r) (on.more r)) new → StandsInTwo d local (λ r. then_did (deeds r) (on.more r)) new
+  shut : AreShut d (may_take new.holding.end.carrier) (units_in new.coming) old.course.traffic old.course.sessions
+  shut =
+      turn_shut d (may_take old.holding.end.carrier) (may_take new.holding.end.carrier) (units_in old.coming) (units_in new.coming)
+      old.course.traffic old.course.sessions
+      (λ i c j r there here judged closing named live.
+      let up = (h.own.ahead.below.live i j r here named).0 in (
+        was_live (calls_from d) turn old new t deeds does.on r up (does.life r up) live,
+        dr_stays (calls_from d) turn old new t deeds does.on r up (does.life r up)
+            (λ may. ready_closed i c j r there here judged closing named up may) live,
+      )) h.shut
+
+  turns_with : OwnInTwo d local (λ r. then_did (deeds r) (does.on.more r)) new → StandsInTwo d local (λ r. then_did (deeds r) (does.on.more r)) new
   turns_with own = record {
     own = own;
-    standing = step_turns d deeds (known_at old) turn on.more (known_at new) old new t some turns h.standing;
+    standing = step_turns d deeds (known_at old) turn does.on.more (known_at new) old new t some turns h.standing;
     distinct = subst (λ (c : Passed). AreDistinct d c.sessions) (sym t.course) h.distinct;
     shut = subst (λ (c : Passed). AreShut d (may_take new.holding.end.carrier) (units_in new.coming) c.traffic c.sessions) (sym t.course)
         shut;
-    can = subst (AllByRecursion CanBeWritten) (sym (t.put ∙ ap (λ (l : List Value). old.put ++ l) units))
-        (can_more old.put (all_units on.put) h.can can);
   }
 
 -- ---- a turn of an end that calls
@@ -132,75 +146,49 @@ module _ (local : Local) (two : local.class2 ≡ true) where
 
   -- If at each connection that may open the CC has passed, or nothing of what has come is for it; and if it has passed at each that the
   -- other side has closed.
-  pub asks_turn : AllProper → (turn : Turn) (old new : Joint) (t : TakesTurn turn old new) (deeds : ℕ → Deeds)
-      (on : Continues true deeds old.holding turn new.holding) →
-      ((r : ℕ) → 0 < r → Life true r (stage_at r old.holding.end.carrier) on.took on.put (stage_at r new.holding.end.carrier)) →
-      t.units ≡ all_units on.put → AllByRecursion CanBeWritten (all_units on.put) →
-      AllByRecursion (IsMarked Left old.course.traffic old.course.sessions) on.put →
+  pub asks_turn : (turn : Turn) (old new : Joint) (t : TakesTurn turn old new) (deeds : ℕ → Deeds)
+      (does : TurnDoes true deeds turn old new t) →
+      AllByRecursion (IsMarked Left old.course.traffic old.course.sessions) does.on.put →
       ((r : ℕ) → 0 < r → stage_at r old.holding.end.carrier ≡ early →
       Tracked old.course.traffic.connections r ⊎ (waiting_for (Some r) (units_in old.coming) ≡ [])) →
       ((i : ℕ) (c : Connection) → slice_get old.course.traffic.connections i ≡ Some c → is_closing c.right.phase ≡ true →
       0 < c.left.reference → stage_at c.left.reference old.holding.end.carrier ≡ early →
       Tracked old.course.traffic.connections c.left.reference) → IsOngoing old.course.traffic.course → StandsInTwo Left local deeds old →
-      StandsInTwo Left local (λ r. then_did (deeds r) (on.more r)) new
-  asks_turn proper turn old new t deeds on life units can marked quiet tracked clear h =
+      StandsInTwo Left local (λ r. then_did (deeds r) (does.on.more r)) new
+  asks_turn turn old new t deeds does marked quiet tracked clear h =
       let places = h.standing.all.places in
-      let own = crs.turns_own local two proper turn old new t deeds on life places clear h.own in
+      let own = crs.turns_own local two turn old new t deeds does places clear h.own in
       let f = h.own.ahead.followed in
-      turns_with Left local two deeds turn old new t on units can marked
-      (λ r some one later sure.
-      either_takes true turn old new t deeds on r some (life r some)
-      (λ may.
-      first_so (λ is. tracked_ready turn old new t deeds on h.own own clear places r some (life r some) is may)
-      (judged_or deeds old h r one (quiet r some may))) later sure)
-      (turn_shut Left (may_take old.holding.end.carrier) (may_take new.holding.end.carrier) (units_in old.coming)
-      (units_in new.coming) old.course.traffic old.course.sessions
-      (λ i c j r there here judged closing named live.
-      let some = (h.own.ahead.below.live i j r here named).0 in
+      turns_with Left local two deeds turn old new t does marked
+      (λ r some one may.
+      first_so (λ is. tracked_ready turn old new t deeds does.on h.own own clear places r some (does.life r some) is may)
+      (judged_or deeds old h r one (quiet r some may)))
+      (λ i c j r there here judged closing named some may.
       let one = one_at old.course.traffic.connections old.course.sessions.live i c j places there here in
-      let same : c.left.reference ≡ r = number_is c.left.reference r (ap (λ (n : ℕ). Some n) (sym one.calling) ∙ named) in (
-        was_live true turn old new t deeds on r some (life r some) live,
-        dr_stays true turn old new t deeds on r some (life r some)
-            (λ may.
-            tracked_ready turn old new t deeds on h.own own clear places r some (life r some)
-            (judged_tracked deeds old h r i c j there here judged named
-            (subst (λ (n : ℕ). 0 < n → stage_at n old.holding.end.carrier ≡ early → Tracked old.course.traffic.connections n) same
-            (tracked i c there closing) some may)) may) live,
-      )) h.shut)
+      let same : c.left.reference ≡ r = number_is c.left.reference r (ap (λ (n : ℕ). Some n) (sym one.calling) ∙ named) in
+      tracked_ready turn old new t deeds does.on h.own own clear places r some (does.life r some)
+      (judged_tracked deeds old h r i c j there here judged named
+      (subst (λ (n : ℕ). 0 < n → stage_at n old.holding.end.carrier ≡ early → Tracked old.course.traffic.connections n) same
+      (tracked i c there closing) some may)) may)
       (λ begun none. (whole_followed local two old f clear).some (f.begun ∙ begun) (f.put ∙ none)) clear h own
 
 -- ---- a turn of an end that is called
 
 -- If none of the CCs that wait then selects class 0: nothing is for a connection that the end has not answered.
-pub answers_turn : (local : Local) → AllProper → (turn : Turn) (old new : Joint) (t : TakesTurn turn old new) (deeds : ℕ → Deeds)
-    (on : Continues false deeds old.holding turn new.holding) →
-    ((r : ℕ) → 0 < r → Life false r (stage_at r old.holding.end.carrier) on.took on.put (stage_at r new.holding.end.carrier)) →
-    t.units ≡ all_units on.put → AllByRecursion CanBeWritten (all_units on.put) → AllByRecursion AnswersTwo new.put →
+pub answers_turn : (local : Local) → (turn : Turn) (old new : Joint) (t : TakesTurn turn old new) (deeds : ℕ → Deeds)
+    (does : TurnDoes false deeds turn old new t) → AllByRecursion AnswersTwo new.put →
     IsOngoing old.course.traffic.course → StandsInTwo Right local deeds old →
-    StandsInTwo Right local (λ r. then_did (deeds r) (on.more r)) new
-answers_turn local proper turn old new t deeds on life units can two clear h =
+    StandsInTwo Right local (λ r. then_did (deeds r) (does.on.more r)) new
+answers_turn local turn old new t deeds does two clear h =
     let a = h.standing.all in
     let f = h.own.ahead.followed in
     let b = h.own.ahead.bound in
-    let lines = has_lines local old f clear h.can h.own.holds.two in
-    let then_can : AllByRecursion CanBeWritten new.put =
-    subst (AllByRecursion CanBeWritten) (sym (t.put ∙ ap (λ (l : List Value). old.put ++ l) units))
-    (can_more old.put (all_units on.put) h.can can) in
-    let marked = turn_homed local proper turn old new t deeds on life units h.can then_can a.places clear h.own two in
-    turns_with Right local tt deeds turn old new t on units can marked
-    (λ r some one later sure.
-    either_takes false turn old new t deeds on r some (life r some)
-    (λ may. inr (none_waits b r (units_in old.coming) (early_above local deeds old h.own h.can clear r some may)
-    h.own.holds.below)) later sure)
-    (turn_shut Right (may_take old.holding.end.carrier) (may_take new.holding.end.carrier) (units_in old.coming)
-    (units_in new.coming) old.course.traffic old.course.sessions
-    (λ i c j r there here judged closing named live.
-    let up = h.own.ahead.below.live i j r here named in (
-      was_live false turn old new t deeds on r up.0 (life r up.0) live,
-      dr_stays false turn old new t deeds on r up.0 (life r up.0)
-          (λ may.
-          let over = early_above local deeds old h.own h.can clear r up.0 may in
-          let low = up.1 in absurd (omega (arith, low, over))) live,
-    )) h.shut)
+    let lines = has_lines local old f clear h.own.holds.two in
+    let marked = turn_homed local turn old new t deeds does a.places clear h.own two in
+    turns_with Right local tt deeds turn old new t does marked
+    (λ r some one may. inr (none_waits b r (units_in old.coming) (early_above local deeds old h.own clear r some may) h.own.holds.below))
+    (λ i c j r there here judged closing named some may.
+    let over = early_above local deeds old h.own clear r some may in
+    let low = (h.own.ahead.below.live i j r here named).1 in absurd (omega (arith, low, over)))
     (λ begun none. lines.called.some (f.begun ∙ begun) (sym lines.called.put ∙ f.put ∙ none)) clear h
-    (ccs.turns_own local proper turn old new t deeds on life units h.can then_can a.places clear h.own two)
+    (ccs.turns_own local turn old new t deeds does a.places clear h.own two)

@@ -2,9 +2,8 @@
 -- has its lines; a called end has them, also when it is over, unless the CC that waits first selects class 0.
 -- For the units that an end puts.
 use Rattle.osi_blameless.proofs.Vocabulary.{Direction, Followed, Follows, IsOngoing, Joint, Left, Right, Local, State, Whole, first_joined}
-use Rattle.osi_blameless.proofs.Vocabulary.{subst, sym, true, false, ◌≡◌, ◌∙◌, refl, inl, inr, ◌⊎◌, AllByRecursion, Zero, acceptance}
-use Rattle.osi_blameless.proofs.Vocabulary.{CanBeWritten, lines, selected, selecting, Selecting, Called, IsCalled, NamesApart, Stage}
-use Rattle.osi_blameless.proofs.Vocabulary.{AreNamedApart}
+use Rattle.osi_blameless.proofs.Vocabulary.{subst, sym, true, false, ◌≡◌, ◌∙◌, refl, inl, inr, ◌⊎◌, AllByRecursion, Zero, acceptance, lines}
+use Rattle.osi_blameless.proofs.Vocabulary.{selected, selecting, Selecting, Called, IsCalled, NamesApart, Stage, AreNamedApart}
 use Rattle.osi_rules.specs.declared.directions.Direction.TheVariants as way
 use Rattle.osi_fair.specs.Wholes as wholes
 use Rattle.osi_fair.proofs.a_called_end_is_fair as fair
@@ -64,7 +63,7 @@ module _ (local : Local) (j : Joint) (f : IsFollowed Right (wholes.begin false l
     pub lines_or_selects : HasLines local f.whole ⊎ Selecting local f.whole
     lines_or_selects = by_stage (called_joined.stage judge_clear.sure)
 
-    module _ (can : AllByRecursion CanBeWritten j.put) (two : AllByRecursion AnswersTwo j.put) where
+    module _ (two : AllByRecursion AnswersTwo j.put) where
       lines_by : HasLines local f.whole ⊎ Selecting local f.whole → HasLines local f.whole
       lines_by (inl has) = has
       lines_by (inr z) =

@@ -1,9 +1,9 @@
 -- From the turn in which a called end puts its CC of class 0 until this CC passes, all its connections stand at a judge; and after that, as
 -- in class 0. For the session of the connection of an end in class 0.
 use Rattle.osi_blameless.proofs.Vocabulary.{[], ap, Bool, false, length, List, None, Option, refl, Some, subst, sym, true, ℕ, ◌++◌, ◌<◌}
-use Rattle.osi_blameless.proofs.Vocabulary.{◌^◌, ◌∙◌, ◌∷◌, ◌≡◌, eqb-true, append-nil, append_assoc, AllByRecursion, slice_get, confirm}
+use Rattle.osi_blameless.proofs.Vocabulary.{◌^◌, ◌∙◌, ◌∷◌, ◌≡◌, eqb-true, append-nil, append_assoc, slice_get, confirm}
 use Rattle.osi_blameless.proofs.Vocabulary.{Connect, Value, parts_in, Two, Zero, Local, class_of, Traffic as State, takes, Left, Right}
-use Rattle.osi_blameless.proofs.Vocabulary.{AllProper, amid, stage_at, CanBeWritten, Deeds, units_in, Joined, spoken, unit_passes}
+use Rattle.osi_blameless.proofs.Vocabulary.{amid, stage_at, Deeds, units_in, Joined, spoken, unit_passes}
 use Rattle.osi_blameless.proofs.Vocabulary.{units_pass, heard, left_class, begins_other, begins_own, Joint, Holding, passes_other}
 use Rattle.osi_blameless.proofs.Vocabulary.{passes_own, Steps, parts_of, arith, packet_begins, first_is, Class}
 use Rattle.osi_carrier.specs.State.{State as Carrier}
@@ -84,14 +84,13 @@ module _ (local : Local) where
     pub rest : List Value
     pub put : j.put ≡ confirm n x ∷ rest
     pub not_two : x.class ≡ 2 → ⊥
-    pub can : AllByRecursion CanBeWritten j.put
     pub positive : 0 < x.source
     pub none : StandInNone Right deeds j
     pub waits : (deeds x.source).put ≡ waiting_for (Some n) j.put
     pub unheard : parts_in (deeds x.source).calls ≡ []
     pub amid_is : (q peer : ℕ) → 0 < q → stage_at q j.holding.end.carrier ≡ amid peer → q ≡ x.source
 
-  module _ (proper : AllProper) (deeds : ℕ → Deeds) where
+  module _ (deeds : ℕ → Deeds) where
     -- the end goes on as it is, and puts nothing
     answering_on : (old new : Joint) (h : StandsAnswering deeds old) → GoesOn Right first h.ahead.bound new → new.holding ≡ old.holding →
         new.put ≡ old.put → StandInNone Right deeds new → StandsAnswering deeds new
@@ -102,7 +101,6 @@ module _ (local : Local) where
       rest = h.rest;
       put = put ∙ h.put;
       not_two = h.not_two;
-      can = subst (AllByRecursion CanBeWritten) (sym put) h.can;
       positive = h.positive;
       none = none;
       waits = h.waits ∙ ap (waiting_for (Some h.n)) (sym put);
@@ -116,7 +114,7 @@ module _ (local : Local) where
     answering_own_begins old new (some, none, is) courses few h =
         let mid : Joint = record old { begun = true; course = packet_begins Right old.course } in
         subst (StandsAnswering deeds) (sym is) (answering_on old mid h
-        (begins_own_ahead Right first proper old mid (some, none, refl) h.ahead) refl refl
+        (begins_own_ahead Right first old mid (some, none, refl) h.ahead) refl refl
         (none_own_begins Right deeds old h.none none courses few))
 
     pub answering_other_begins : (old new : Joint) → Steps Right begins_other old new → StandsAnswering deeds old →
@@ -124,7 +122,7 @@ module _ (local : Local) where
     answering_other_begins old new is h =
         let mid : Joint = record old { course = packet_begins Left old.course } in
         subst (StandsAnswering deeds) (sym is) (answering_on old mid h
-        (begins_other_ahead Right first proper old mid refl h.ahead) refl refl
+        (begins_other_ahead Right first old mid refl h.ahead) refl refl
         (none_other_begins Right deeds old h.none))
 
     pub answering_other_passes : (at : ℕ) (packet : List ℕ) (units : List Value) (old new : Joint) →
@@ -136,7 +134,7 @@ module _ (local : Local) where
         let end = old.holding.end.carrier in
         let b = h.ahead.bound in
         subst (StandsAnswering deeds) (sym is) (answering_on old mid h
-        (passes_other_ahead Right first proper at packet units old mid (octets, read, refl) h.ahead
+        (passes_other_ahead Right first at packet units old mid (octets, read, refl) h.ahead
         (other_up Right first at b packet units old mid (octets, read, refl) h.none.all.places
         (none_named Right b at units old.course passed)
         h.ahead.below))

@@ -8,7 +8,7 @@ use Rattle.osi_blameless.proofs.Vocabulary.{acknowledge, confirm, data0, data2, 
 use Rattle.osi_blameless.proofs.Vocabulary.{units_found, Class, Two, Zero, Local, EndReason, Left, Right, Finding, TooMany, Reach}
 use Rattle.osi_blameless.proofs.Vocabulary.{is_applied, State, class_for, class_of, is_stopped, stops_by, takes, stops_are_said, has_given}
 use Rattle.osi_blameless.proofs.Vocabulary.{Whole, Holding, fresh_apart, no_item, left_class, Holds, holds_next, Deeds, no_deeds, units_in}
-use Rattle.osi_blameless.proofs.Vocabulary.{IsFresh, AllProper, amid, past, stage_at, stage_over, Joined, spoken, Course, packet_begins}
+use Rattle.osi_blameless.proofs.Vocabulary.{IsFresh, amid, past, stage_at, stage_over, Joined, spoken, Course, packet_begins}
 use Rattle.osi_blameless.proofs.Vocabulary.{unit_passes, units_pass, heard, parts_of, Joint, Steps, begin, begins_other, begins_own}
 use Rattle.osi_blameless.proofs.Vocabulary.{passes_other, passes_own}
 use Rattle.osi_carrier.specs.State.{State as Carrier}
@@ -308,7 +308,7 @@ module _ (local : Local) where
       shut_at : (r peer : ℕ) → stage_at r holding.end.carrier ≡ amid peer → ⊥
       shut_at r peer is = grind arith
 
-  module _ (proper : AllProper) (deeds : ℕ → Deeds) where
+  module _ (deeds : ℕ → Deeds) where
     abbrev Stands : Joint → Type 0
     Stands j = StandsUnanswered deeds j
 
@@ -329,13 +329,13 @@ module _ (local : Local) where
         Stands old → Stands new
     unanswered_own_begins old new (some, none, is) courses few h =
         let mid : Joint = record old { begun = true; course = packet_begins Left old.course } in
-        subst Stands (sym is) (unanswered_on old mid h (begins_own_ahead Left first proper old mid (some, none, refl) h.ahead) refl
+        subst Stands (sym is) (unanswered_on old mid h (begins_own_ahead Left first old mid (some, none, refl) h.ahead) refl
         (none_own_begins Left deeds old h.none none courses few) (λ begun. some))
 
     pub unanswered_other_begins : (old new : Joint) → Steps Left begins_other old new → Stands old → Stands new
     unanswered_other_begins old new is h =
         let mid : Joint = record old { course = packet_begins Right old.course } in
-        subst Stands (sym is) (unanswered_on old mid h (begins_other_ahead Left first proper old mid refl h.ahead) refl
+        subst Stands (sym is) (unanswered_on old mid h (begins_other_ahead Left first old mid refl h.ahead) refl
         (none_other_begins Left deeds old h.none) h.some)
 
     -- ---- a packet of the other side passes
@@ -363,7 +363,7 @@ module _ (local : Local) where
 
         g : GoesOn Left first b mid
         g =
-            passes_other_ahead Left first proper at packet units old mid (octets, read, refl) h.ahead
+            passes_other_ahead Left first at packet units old mid (octets, read, refl) h.ahead
             (other_up Left first at b packet units old mid (octets, read, refl) h.none.all.places
             (none_named Left b at units old.course passed)
             h.ahead.below)

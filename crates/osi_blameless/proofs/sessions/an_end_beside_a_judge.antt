@@ -2,7 +2,7 @@
 -- For the laws that no session of an end is to blame.
 use Rattle.osi_blameless.proofs.sessions.steps_of_either_class_leave_all_standing.{none_so}
 use Rattle.osi_blameless.proofs.Vocabulary.{arith, ◌≡◌, sym, subst, ℕ, ◌^◌, ◌<◌, List, length, Some, slice_get, AllByRecursion, Value}
-use Rattle.osi_blameless.proofs.Vocabulary.{Class, Local, other, Direction, Deeds, all_did, no_deeds, Turn, AllProper, IsSane, turn_sane}
+use Rattle.osi_blameless.proofs.Vocabulary.{Class, Local, other, Direction, Deeds, all_did, no_deeds, Turn, IsSane, turn_sane}
 use Rattle.osi_blameless.proofs.Vocabulary.{fresh_sane, fresh_course, CanBeWritten, End, Holding, IsFresh, Joined, spoken, units_pass}
 use Rattle.osi_blameless.proofs.Vocabulary.{heard, Joint, Step, Steps, TakesTurn, begin, begins_other, begins_own, passes_other, passes_own}
 use Rattle.osi_blameless.proofs.Vocabulary.{takes, turns, way_of, calls_from}
@@ -23,7 +23,7 @@ use Rattle.osi_blameless.proofs.sessions.what_is_asked_of_what_holds_at_each_ste
 use Rattle.osi_blameless.proofs.sessions.what_is_asked_of_what_holds_at_each_step.{begins_judged, first_judged, lasts_so, nothing_judged}
 use Rattle.osi_blameless.proofs.sessions.what_is_asked_of_what_holds_at_each_step.{own_is}
 
-module _ (proper : AllProper) (barred : Class) (d : Direction) (local : Local) (Inv : (ℕ → Deeds) → Joint → Type 0)
+module _ (barred : Class) (d : Direction) (local : Local) (Inv : (ℕ → Deeds) → Joint → Type 0)
     (k : Keeps barred d local Inv) where
   pub record Goes (deeds : ℕ → Deeds) (j : Joint) : Type 0 where
     pub judged : IsStillJudged barred j.course
@@ -59,7 +59,7 @@ module _ (proper : AllProper) (barred : Class) (d : Direction) (local : Local) (
     never = never;
     holds = holds;
     courses = courses;
-    followed = step_followed d (wholes.begin (calls_from d) local) proper step old new does g.followed;
+    followed = step_followed d (wholes.begin (calls_from d) local) step old new does g.followed;
     few = step_kept (AreFew (other d)) (few_claim (other d)) d step old new does g.few;
     sure = step_kept Sure sure_claim d step old new does g.sure;
     counted = step_kept Counted counted_claim d step old new does g.counted;
@@ -69,14 +69,14 @@ module _ (proper : AllProper) (barred : Class) (d : Direction) (local : Local) (
 
   pub turn_goes : (turn : Turn) (old new : Joint) (t : TakesTurn turn old new) (deeds : ℕ → Deeds)
       (does : TurnDoes (calls_from d) deeds turn old new t) → Goes deeds old → (old.course.traffic.course.class ≡ Some barred → ⊥) →
-      Goes (all_did deeds does.of.on.more) new
+      Goes (all_did deeds does.on.more) new
   turn_goes turn old new t deeds does g not =
-      still_goes deeds (all_did deeds does.of.on.more) (turns turn) old new t g
+      still_goes deeds (all_did deeds does.on.more) (turns turn) old new t g
       (subst (λ (c : Passed). IsStillJudged barred c) (sym t.course) g.judged) (subst (NeverToBlame d) (sym t.course) g.never)
       (k.leads.turn turn old new t deeds does g.followed
-      (step_followed d (wholes.begin (calls_from d) local) proper (turns turn) old new t g.followed)
+      (step_followed d (wholes.begin (calls_from d) local) (turns turn) old new t g.followed)
       (lasts_so barred old.course g.judged not) g.holds)
-      does.of.on.course (turn_sane turn old.holding new.holding t.takes g.sane)
+      does.on.course (turn_sane (calls_from d) deeds turn old.holding new.holding does.on t.takes g.sane)
       (grind (arith, can_more))
 
   pub own_begins_goes : (old new : Joint) → Steps d begins_own old new →

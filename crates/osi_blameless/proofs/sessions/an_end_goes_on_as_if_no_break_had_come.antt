@@ -8,9 +8,10 @@ use Rattle.osi_blameless.proofs.Vocabulary.{Local, packets, EndReason, other, Di
 use Rattle.osi_blameless.proofs.Vocabulary.{TakesPackets, End, Holding, Deeds, all_units, Takes, Turn, over_acts, IsHardPacket, IsLast}
 use Rattle.osi_blameless.proofs.Vocabulary.{IsZeroAt, hard_ends, leads_to, Stopped, TakesFirst, none_held, prefix_or, stopped_there, TurnOf}
 use Rattle.osi_blameless.proofs.Vocabulary.{turn_continues, Known, packet_begins, unit_passes, units_pass, way_of, Joint, Steps, TakesTurn}
-use Rattle.osi_blameless.proofs.Vocabulary.{begins_other, begins_own, passes_own, turns, calls_from, packets_once, CanBeWritten}
+use Rattle.osi_blameless.proofs.Vocabulary.{begins_other, begins_own, passes_own, turns, calls_from, CanBeWritten, all_did, packet_of, packets_joined, read_again, Result, TpduFault, IsOctets}
 use Rattle.osi_fair.specs.Pieces.{units_in}
 use Rattle.osi_fair.specs.Wholes as wholes
+use Rattle.osi_blameless.proofs.what_the_turns_among_steps_do.{takes_turn}
 use Rattle.osi_stack.specs.Feeding.{stops}
 use Rattle.osi_judge.specs.Courses.{Course as Passed}
 use Rattle.osi_blameless.proofs.a_break_ends_no_judging_or_all.{far_of}
@@ -42,10 +43,48 @@ pub record LongPacket (d : Direction) (c : Passed) (packet : List ℕ) : Type 0 
 abbrev pub IsHardFor : Direction → Passed → List ℕ → Type 0
 IsHardFor d c packet = ((begun : List ℕ) → IsHardPacket begun packet) ⊎ LongPacket d c packet
 
+-- ---- what is written alike
+
+none_written : (units : List Value) → packets units ≡ [] → units ≡ []
+none_written [] e = refl
+none_written (unit ∷ units) e = absurd (cc)
+
+same_split : (a b x y : List ℕ) → length a ≡ length b → a ++ x ≡ b ++ y → (a ≡ b) × (x ≡ y)
+same_split [] [] x y l e = (refl, e)
+same_split [] (b ∷ bs) x y l e = absurd (cc)
+same_split (a ∷ some) [] x y l e = absurd (cc)
+same_split (a ∷ some) (b ∷ others) x y l e =
+    let one : a ≡ b = cc in
+    let rest : some ++ x ≡ others ++ y = cc in
+    let long : length some ≡ length others = omega arith in
+    let more = same_split some others x y long rest in
+    (λ i. one i ∷ more.0 i, more.1)
+
+one_packet : (u w x y : List ℕ) → packet_of u ++ x ≡ packet_of w ++ y → (u ≡ w) × (x ≡ y)
+one_packet u w x y e = grind (arith, same_split)
+
+one_read : (u v : Value) → ◌≡◌ {A = Result (List Value) TpduFault} (Ok (u ∷ [])) (Ok (v ∷ [])) → u ≡ v
+one_read u v e = cc
+
+-- of units that are written as others, the first is the unit that is read
+record SameFirst (units : List Value) (unit : Value) (rest : List Value) : Type 0 where
+  others : List Value
+  is : units ≡ unit ∷ others
+  more : packets others ≡ packets rest
+
+same_first : (units : List Value) (unit : Value) (rest : List Value) → AllByRecursion CanBeWritten units → IsOctets (written unit) →
+    units_of (written unit) ≡ Ok (unit ∷ []) → packets units ≡ packets (unit ∷ rest) → SameFirst units unit rest
+same_first [] unit rest can octets read e = absurd (cc)
+same_first (u ∷ units) unit rest can octets read e =
+    let both = one_packet (written u) (written unit) (packets units) (packets rest) e in
+    let again = read_again u can.0 (subst IsOctets (sym both.0) octets) in
+    let same = one_read u unit (sym again ∙ ap units_of both.0 ∙ read) in
+    record { others = units; is = ap (λ (v : Value). v ∷ units) same; more = both.1 }
+
 module _ (known : Known) (d : Direction) (local : Local)
     (Inv : (ℕ → Deeds) → Joint → Type 0) (k : Keeps Two d local Inv) (has_begun : HasBegun d Inv) where
   abbrev pub Judged : (ℕ → Deeds) → Joint → Type 0
-  Judged deeds j = Goes known.proper Two d local Inv k deeds j
+  Judged deeds j = Goes Two d local Inv k deeds j
 
   abbrev first : wholes.Whole
   first = wholes.begin (calls_from d) local
@@ -64,7 +103,7 @@ module _ (known : Known) (d : Direction) (local : Local)
   -- An end and a judge, and the same without the break.
   pub record Alone (ends : Bool) (deeds : ℕ → Deeds) (without j : Joint) : Type 0 where
     pub goes : Judged deeds without
-    pub put : without.put ≡ j.put
+    pub put : packets without.put ≡ packets j.put
     pub begun : without.begun ≡ j.begun
     pub beside : IsBeside d j.course without.course
     pub alone : IsAlone d j.course
@@ -129,14 +168,14 @@ module _ (known : Known) (d : Direction) (local : Local)
         deeds = a.deeds;
         without = w;
         is = record {
-          goes = own_begins_goes known.proper Two d local Inv k v w
-              ((λ nothing. some (sym h.put ∙ nothing)), h.begun ∙ none, refl)
+          goes = own_begins_goes Two d local Inv k v w
+              ((λ nothing. some (none_written old.put (sym h.put ∙ ap packets nothing))), h.begun ∙ none, refl)
               (grind arith) a.deeds h.goes;
           put = h.put;
           begun = refl;
           beside = grind arith;
           alone = alone_begins d d old.course h.alone;
-          followed = step_followed d first known.proper begins_own old mid (some, none, refl) h.followed;
+          followed = step_followed d first begins_own old mid (some, none, refl) h.followed;
           few = step_kept (AreFew (other d)) (few_claim (other d)) d begins_own old mid (some, none, refl) h.few;
           how = same_how ends v old w mid refl refl refl refl
               (begins_hard d a.deeds v h.goes (zero_without old.course v.course h.beside h.alone)) h.how;
@@ -153,12 +192,12 @@ module _ (known : Known) (d : Direction) (local : Local)
         deeds = a.deeds;
         without = w;
         is = record {
-          goes = other_begins_goes known.proper Two d local Inv k v w refl a.deeds h.goes;
+          goes = other_begins_goes Two d local Inv k v w refl a.deeds h.goes;
           put = h.put;
           begun = h.begun;
           beside = grind arith;
           alone = alone_begins d (other d) old.course h.alone;
-          followed = step_followed d first known.proper begins_other old mid refl h.followed;
+          followed = step_followed d first begins_other old mid refl h.followed;
           few = step_kept (AreFew (other d)) (few_claim (other d)) d begins_other old mid refl h.few;
           how = same_how ends v old w mid refl refl refl refl
               (begins_hard (other d) a.deeds v h.goes (zero_without old.course v.course h.beside h.alone)) h.how;
@@ -181,9 +220,10 @@ module _ (known : Known) (d : Direction) (local : Local)
   own_alone_so ends at unit old new (read, octets, put, begun, is) a =
       let v = a.without in
       let h = a.is in
-      let w : Joint = record v { put = new.put; begun = false; course = units_pass d at (unit ∷ []) v.course } in
+      let f = same_first v.put unit new.put h.goes.can octets read (h.put ∙ ap packets put) in
+      let w : Joint = record v { put = f.others; begun = false; course = units_pass d at (unit ∷ []) v.course } in
       let mid : Joint = record old { put = new.put; begun = false; course = units_pass d at (unit ∷ []) old.course } in
-      let step : Steps d (passes_own at unit) v w = (read, octets, h.put ∙ put, h.begun ∙ begun, refl) in
+      let step : Steps d (passes_own at unit) v w = (read, octets, f.is, h.begun ∙ begun, refl) in
       let goes = goes_so d v.course h.goes.judged in
       let dt = own_is_dt local d at unit v w step h.goes.followed (firm_so v.course h.goes.judged)
       (zero_without old.course v.course h.beside h.alone) in
@@ -197,14 +237,14 @@ module _ (known : Known) (d : Direction) (local : Local)
         deeds = a.deeds;
         without = w;
         is = record {
-          goes = own_goes known.proper Two d local Inv k a.deeds at unit v w step h.goes
+          goes = own_goes Two d local Inv k a.deeds at unit v w step h.goes
               (zero_not old.course v.course h.beside h.alone)
               (zero_not (unit_passes d at unit old.course) (unit_passes d at unit v.course) b then_alone) none far;
-          put = refl;
+          put = f.more;
           begun = refl;
           beside = b;
           alone = then_alone;
-          followed = step_followed d first known.proper (passes_own at unit) old mid (read, octets, put, begun, refl) h.followed;
+          followed = step_followed d first (passes_own at unit) old mid (read, octets, put, begun, refl) h.followed;
           few = step_kept (AreFew (other d)) (few_claim (other d)) d (passes_own at unit) old mid (read, octets, put, begun, refl)
               h.few;
           how = same_how ends v old w mid refl refl refl refl
@@ -258,7 +298,6 @@ module _ (known : Known) (d : Direction) (local : Local)
     units : List Value
     put : w.put ≡ v.put ++ units
     written_is : turn.put ≡ packets units
-    can : AllByRecursion CanBeWritten units
     begun : w.begun ≡ v.begun
     course : w.course ≡ v.course
 
@@ -273,8 +312,19 @@ module _ (known : Known) (d : Direction) (local : Local)
       turn_continues known (calls_from d) deeds turn v.holding new g.sane.between g.courses takes in
       let units = all_units at.on.put in
       let w : Joint = record v { holding = new; put = v.put ++ units; coming = left } in
-      let t : TakesTurn turn v w = grind arith in
-      search (arith, turn_goes known.proper Two d local Inv k turn v w t deeds (record { of = at; units = refl }) g not)
+      let t : TakesTurn turn v w = takes_turn (calls_from d) deeds turn v new takes at.on used left rest parts cut held all in
+      record {
+        then_deeds = all_did deeds at.on.more;
+        w = w;
+        goes = turn_goes Two d local Inv k turn v w t deeds (record { on = at.on; life = at.life; first = at.first; units = refl }) g not;
+        holding = refl;
+        coming = refl;
+        units = units;
+        put = refl;
+        written_is = at.on.written;
+        begun = refl;
+        course = refl;
+      }
 
   none_more_in : (more : List (List ℕ)) (last : List ℕ) → ArePackets more [] last → more ≡ []
   none_more_in more last h = none_held [] last more empty_partial h
@@ -284,22 +334,22 @@ module _ (known : Known) (d : Direction) (local : Local)
   module _ (ends : Bool) (turn : Turn) (old new : Joint) (t : TakesTurn turn old new) (deeds : ℕ → Deeds) (v : Joint)
       (h : Alone ends deeds v old) where
     then_followed : IsFollowed d first new
-    then_followed = step_followed d first known.proper (turns turn) old new t h.followed
+    then_followed = step_followed d first (turns turn) old new t h.followed
 
     not_two : v.course.traffic.course.class ≡ Some Two → ⊥
     not_two = zero_not old.course v.course h.beside h.alone
 
-    put_then : (w : Joint) (units : List Value) → w.put ≡ v.put ++ units → AllByRecursion CanBeWritten units →
-        packets units ≡ turn.put → w.put ≡ new.put
-    put_then w units put can is =
-        let same = packets_once units t.units can t.can (is ∙ t.written) in put ∙ (λ i. h.put i ++ same i) ∙ sym t.put
+    put_then : (w : Joint) (units : List Value) → w.put ≡ v.put ++ units → packets units ≡ turn.put → packets w.put ≡ packets new.put
+    put_then w units put is =
+        let now : packets units ≡ packets t.units = is ∙ t.written in
+        ap packets put ∙ packets_joined v.put units ∙ (λ i. h.put i ++ now i) ∙ sym (packets_joined old.put t.units) ∙ ap packets (sym t.put)
 
     -- without a turn
     idle : turn.put ≡ [] → IsSome new.holding.end.carrier.ended → IsAsWithout ends new
     idle none over = record {
       deeds = deeds;
       without = v;
-      is = grind (arith, then_followed, put_then v [] (sym (append-nil v.put)) tt (sym none), append-nil v.put);
+      is = grind (arith, then_followed, put_then v [] (sym (append-nil v.put)) (sym none), append-nil v.put);
     }
 
     -- with one
@@ -310,7 +360,7 @@ module _ (known : Known) (d : Direction) (local : Local)
       without = n.w;
       is = record {
         goes = n.goes;
-        put = put_then n.w n.units n.put n.can (sym n.written_is ∙ same);
+        put = put_then n.w n.units n.put (sym n.written_is ∙ same);
         begun = n.begun ∙ h.begun ∙ sym t.begun;
         beside = grind arith;
         alone = subst (IsAlone d) (sym t.course) h.alone;

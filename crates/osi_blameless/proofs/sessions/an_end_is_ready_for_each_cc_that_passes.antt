@@ -6,12 +6,11 @@ use Rattle.osi_blameless.proofs.Vocabulary.{◌≡◌, ◌∙◌, ◌⊎◌, inl
 use Rattle.osi_blameless.proofs.Vocabulary.{◌++◌, Some, None, Option, IsSome, arith, if◌then◌else◌, is_some, slice_get, leb-false, leb-true}
 use Rattle.osi_blameless.proofs.Vocabulary.{AllByRecursion, Value, acknowledge, confirm, data0, data2, disconnect, disconnected, error}
 use Rattle.osi_blameless.proofs.Vocabulary.{request, Class, Two, Zero, Local, Standing, link_of, value_at, EndReason, Right, Connection}
-use Rattle.osi_blameless.proofs.Vocabulary.{is_refused, has_given, Whole, picked_join, picked_rest, AreApart, Continues, Deeds, then_did}
-use Rattle.osi_blameless.proofs.Vocabulary.{units_in, units_taken, Marked, all_units, units_at, Turn, over_acts, AllProper, Life, WhenPast}
+use Rattle.osi_blameless.proofs.Vocabulary.{is_refused, has_given, Whole, picked_join, picked_rest, AreApart, Deeds, then_did}
+use Rattle.osi_blameless.proofs.Vocabulary.{units_in, units_taken, Marked, all_units, units_at, Turn, over_acts, Life, WhenPast}
 use Rattle.osi_blameless.proofs.Vocabulary.{amid, early, past, stage_at, stage_by, stage_is, stage_over, all_units_more, taken_more}
-use Rattle.osi_blameless.proofs.Vocabulary.{CanBeWritten, Sessions, Course, Joint, Steps, TakesTurn, passes_own, parts_of, HaveSamePlaces}
-use Rattle.osi_blameless.proofs.Vocabulary.{differ, above_up, IsOngoing}
-use Rattle.osi_blameless.proofs.Vocabulary.{AreAbove}
+use Rattle.osi_blameless.proofs.Vocabulary.{Sessions, Course, Joint, Steps, TakesTurn, passes_own, parts_of, HaveSamePlaces}
+use Rattle.osi_blameless.proofs.Vocabulary.{differ, IsOngoing, Rise}
 use Rattle.osi_carrier.specs.State.{Connection as Live, State as Carrier, asked}
 use Rattle.osi_fair.specs.Wholes as wholes
 use Rattle.osi_honest.proofs.courses.how_long_a_connection_is_open.{Stage}
@@ -35,14 +34,17 @@ use Rattle.osi_blameless.proofs.sessions.nothing_is_done_before_a_cr_passes.{kno
 use Rattle.osi_blameless.proofs.sessions.references_of_an_end_are_distinct.{GivesNew, IsUnused}
 use Rattle.osi_blameless.proofs.sessions.ccs_among_units.{AnswersTwo, AreOrdered, HasCc, IsCc, has_either}
 use Rattle.osi_blameless.proofs.sessions.ccs_among_units.{has_above}
+use Rattle.osi_blameless.proofs.sessions.units_that_wait_give_references_above_those_that_passed.{given_among}
 use Rattle.osi_blameless.proofs.sessions.ccs_among_units.{has_back, has_front, none_before, not_twice}
-use Rattle.osi_blameless.proofs.sessions.what_a_turn_puts_goes_to_its_peer.{IsNotZero, all_back, same_units, turn_puts}
+use Rattle.osi_blameless.proofs.sessions.what_a_turn_puts_goes_to_its_peer.{IsNotZero, all_back, turn_puts}
+use Rattle.osi_blameless.proofs.small_facts_that_many_lemmas_use.{same_units}
 use Rattle.osi_blameless.proofs.sessions.what_an_end_takes_at_a_connection.{apart_none, during_taken}
 use Rattle.osi_blameless.proofs.sessions.what_is_in_flight_to_an_end.{parts_taken}
 use Rattle.osi_blameless.proofs.sessions.what_is_left_for_an_end.{left_empty}
 use Rattle.osi_blameless.proofs.sessions.what_passes_leaves_all_standing.{IsReady}
 use Rattle.osi_blameless.proofs.sessions.what_stands_of_a_connection.{is_for, waiting_for}
 use Rattle.osi_blameless.proofs.sessions.what_waits_after_the_ccs_of_a_called_end.{named, none_put, puts_for}
+use Rattle.osi_blameless.proofs.what_the_turns_among_steps_do.{TurnDoes}
 
 -- ---- small facts
 
@@ -99,19 +101,19 @@ module _ (local : Local) where
   first = wholes.begin false local
 
   -- such a reference is above all that the judge knows
-  pub early_above : (deeds : ℕ → Deeds) (j : Joint) (h : OwnInTwo Right local deeds j) → AllByRecursion CanBeWritten j.put →
+  pub early_above : (deeds : ℕ → Deeds) (j : Joint) (h : OwnInTwo Right local deeds j) →
       IsOngoing j.course.traffic.course → (r : ℕ) → 0 < r → stage_at r j.holding.end.carrier ≡ early → h.ahead.bound < r
-  early_above deeds j h can clear r some may =
+  early_above deeds j h clear r some may =
       let f = h.ahead.followed in
       let lasts = none_of f.whole.end.ended (sym f.like.over ∙ ap is_some (early_lasts r j.holding.end.carrier may)) in
       let there : stage_at r f.whole.end ≡ early = ap (stage_at r) (f.like.lasts lasts) ∙ may in
-      let given = early_not_given r f.whole.end lasts (has_lines local j f clear can h.holds.two).end.none there in
-      grind (arith, above_given, above_up)
+      let given = early_not_given r f.whole.end lasts (has_lines local j f clear h.holds.two).end.none there in
+      let up = h.ahead.above.given in grind (arith, above_given, up)
 
   -- a CC that waits is above all references at the judge
-  pub waits_above : (j : Joint) (h : IsAhead Right first j) → AllByRecursion CanBeWritten j.put → (n r : ℕ) → HasCc n r j.put →
-      h.bound < r
-  waits_above j h can n r has = grind (arith, has_above, h.followed)
+  pub waits_above : (j : Joint) (h : IsAhead Right first j) → (n r : ℕ) → HasCc n r j.put → h.bound < r
+  waits_above j h n r has =
+      has_above h.bound n r j.put (subst (λ (l : List Value). Rise h.bound (given_among Right l)) h.followed.put h.above.rise) has
 
   -- ---- a unit that passes
 
@@ -145,11 +147,11 @@ module _ (local : Local) where
       (deeds.put ≡ []) ⊎ ((n : ℕ) × HasCc n r (unit ∷ rest)) → (deeds.put ≡ []) ⊎ ((n : ℕ) × HasCc n r rest)
   spent_next deeds b r unit rest up less h = grind (arith, gives_so)
 
-  pub own_passes : AllProper → (deeds : ℕ → Deeds) (at : ℕ) (unit : Value) (old new : Joint) →
+  pub own_passes : (deeds : ℕ → Deeds) (at : ℕ) (unit : Value) (old new : Joint) →
       Steps Right (passes_own at unit) old new → HaveSamePlaces old.course.traffic.connections old.course.sessions.live →
       OwnInTwo Right local deeds old → OwnInTwo Right local deeds new
-  own_passes proper deeds at unit old new step places h =
-      let p = passes_own_ahead Right first proper at unit old new step places h.ahead in
+  own_passes deeds at unit old new step places h =
+      let p = passes_own_ahead Right first at unit old new step places h.ahead in
       let g = p.on in
       let put = step.2 in
       let ordered : AreOrdered (unit ∷ new.put) = subst AreOrdered put h.holds.ordered in
@@ -173,10 +175,8 @@ module _ (local : Local) where
 
   -- ---- a turn, with what was done at each connection
 
-  module _ (proper : AllProper) (turn : Turn) (old new : Joint) (t : TakesTurn turn old new) (deeds : ℕ → Deeds)
-      (on : Continues false deeds old.holding turn new.holding)
-      (life : (r : ℕ) → 0 < r → Life false r (stage_at r old.holding.end.carrier) on.took on.put (stage_at r new.holding.end.carrier))
-      (units : t.units ≡ all_units on.put) (can : AllByRecursion CanBeWritten old.put) (can_new : AllByRecursion CanBeWritten new.put)
+  module _ (turn : Turn) (old new : Joint) (t : TakesTurn turn old new) (deeds : ℕ → Deeds)
+      (does : TurnDoes false deeds turn old new t)
       (places : HaveSamePlaces old.course.traffic.connections old.course.sessions.live) (clear : IsOngoing old.course.traffic.course)
       (h : OwnInTwo Right local deeds old) (turn_two : AllByRecursion AnswersTwo new.put) where
     abbrev carrier : Carrier
@@ -186,38 +186,38 @@ module _ (local : Local) where
     f = h.ahead.followed
 
     g : GoesOn Right first h.ahead.bound new
-    g = turns_ahead Right first proper turn old new t h.ahead
+    g = turns_ahead Right first turn old new t h.ahead
 
-    turn_put : new.put ≡ old.put ++ all_units on.put
-    turn_put = t.put ∙ ap (λ (l : List Value). old.put ++ l) units
+    turn_put : new.put ≡ old.put ++ all_units does.on.put
+    turn_put = t.put ∙ ap (λ (l : List Value). old.put ++ l) does.units
 
     before : HasLines local f.whole
-    before = has_lines local old f clear can h.holds.two
+    before = has_lines local old f clear h.holds.two
 
     after : HasLines local g.ahead.followed.whole
-    after = has_lines local new g.ahead.followed (grind arith) can_new turn_two
+    after = has_lines local new g.ahead.followed (grind arith) turn_two
 
     -- the reference of a CC that waits now
     above_old : (n r : ℕ) → HasCc n r new.put → h.ahead.bound < r
-    above_old n r has = grind (arith, g, waits_above new g.ahead can_new n r has)
+    above_old n r has = grind (arith, g, waits_above new g.ahead n r has)
 
     home_low : (i j : ℕ) → HasHome Right i j old.course.traffic old.course.sessions → i ≤ h.ahead.bound
     home_low i j home = (h.ahead.below.live home.place home.joined i home.here home.mine).1
 
     -- a CC that has come is for a reference of the judge: the end has answered its connection, or closed it
-    no_cc : OpensByNoCc local deeds turn old new t on f
+    no_cc : OpensByNoCc local deeds turn old new t does.on f
     no_cc lasts q some shut n x is come = by (stage_at q carrier) refl
       where
         low : n ≤ h.ahead.bound
         low = come (IsBelow h.ahead.bound)
-            (subst (AllByRecursion (IsBelow h.ahead.bound)) (same_units old.coming ∙ sym (f.coming lasts)) h.holds.below)
+            (subst (AllByRecursion (IsBelow h.ahead.bound)) (sym (f.coming lasts ∙ same_units old.coming)) h.holds.below)
 
-        by : (s : Stage) → stage_at q carrier ≡ s → AreApart q on.put
-        by early may = let over = early_above deeds old h can clear q some may in absurd (omega (arith, low, is, over))
+        by : (s : Stage) → stage_at q carrier ≡ s → AreApart q does.on.put
+        by early may = let over = early_above deeds old h clear q some may in absurd (omega (arith, low, is, over))
         by (amid peer) here = not_amid peer (is_some carrier.ended) (has_given q carrier) (value_at q carrier.live) shut here
         by past gone =
-            let w : WhenPast q on.took on.put (stage_at q new.holding.end.carrier) =
-            subst (λ (s : Stage). Life false q s on.took on.put (stage_at q new.holding.end.carrier)) gone (life q some) in
+            let w : WhenPast q does.on.took does.on.put (stage_at q new.holding.end.carrier) =
+            subst (λ (s : Stage). Life false q s does.on.took does.on.put (stage_at q new.holding.end.carrier)) gone (does.life q some) in
             w.none_put
 
     turn_ordered : AreOrdered new.put
@@ -225,31 +225,32 @@ module _ (local : Local) where
         subst AreOrdered g.ahead.followed.put
         (put_ordered local g.ahead.followed.whole new.course.sessions after (grind (arith, g)))
 
-    put_more : (n r : ℕ) → HasCc n r new.put → (on.more r).put ≡ waiting_for (Some n) (all_units on.put)
+    put_more : (n r : ℕ) → HasCc n r new.put → (does.on.more r).put ≡ waiting_for (Some n) (all_units does.on.put)
     put_more n r has = search (arith, puts_for, g, before, after, no_cc, home_low, above_old)
 
     -- nothing was put there before the CC
-    none_put_before : (n r : ℕ) → HasCc n r (all_units on.put) → h.ahead.bound < r →
+    none_put_before : (n r : ℕ) → HasCc n r (all_units does.on.put) → h.ahead.bound < r →
         ((deeds r).put ≡ []) ⊎ ((m : ℕ) × HasCc m r old.put) → (deeds r).put ≡ []
     none_put_before n r has less (inl none) = none
     none_put_before n r has less (inr (m, waited)) =
-        not_twice g.ahead.followed.whole.end.given g.ahead.bound m n r old.put (all_units on.put)
-        (subst (AreAbove g.ahead.followed.whole.end.given g.ahead.bound) (g.ahead.followed.put ∙ turn_put) g.ahead.above) waited has
+        not_twice g.ahead.bound m n r old.put (all_units does.on.put)
+        (subst (λ (l : List Value). Rise g.ahead.bound (given_among Right l)) (g.ahead.followed.put ∙ turn_put) g.ahead.above.rise) waited
+        has
 
-    waits_by : (n r : ℕ) → HasCc n r new.put → HasCc n r old.put ⊎ HasCc n r (all_units on.put) →
-        (deeds r).put ++ (on.more r).put ≡ waiting_for (Some n) (old.put ++ all_units on.put)
+    waits_by : (n r : ℕ) → HasCc n r new.put → HasCc n r old.put ⊎ HasCc n r (all_units does.on.put) →
+        (deeds r).put ++ (does.on.more r).put ≡ waiting_for (Some n) (old.put ++ all_units does.on.put)
     waits_by n r has (inl waited) =
-        (λ i. h.holds.waits n r waited i ++ put_more n r has i) ∙ sym (picked_join (is_for (Some n)) old.put (all_units on.put))
+        (λ i. h.holds.waits n r waited i ++ put_more n r has i) ∙ sym (picked_join (is_for (Some n)) old.put (all_units does.on.put))
     waits_by n r has (inr put) =
         let less = above_old n r has in
         (λ i. none_put_before n r put less (h.holds.spent r less) i ++ put_more n r has i)
-        ∙ ap (λ (l : List Value). l ++ waiting_for (Some n) (all_units on.put))
-        (sym (none_before n r old.put (all_units on.put) (subst AreOrdered turn_put turn_ordered) put))
-        ∙ sym (picked_join (is_for (Some n)) old.put (all_units on.put))
+        ∙ ap (λ (l : List Value). l ++ waiting_for (Some n) (all_units does.on.put))
+        (sym (none_before n r old.put (all_units does.on.put) (subst AreOrdered turn_put turn_ordered) put))
+        ∙ sym (picked_join (is_for (Some n)) old.put (all_units does.on.put))
 
-    turn_waits : (n r : ℕ) → HasCc n r new.put → (then_did (deeds r) (on.more r)).put ≡ waiting_for (Some n) new.put
+    turn_waits : (n r : ℕ) → HasCc n r new.put → (then_did (deeds r) (does.on.more r)).put ≡ waiting_for (Some n) new.put
     turn_waits n r has =
-        waits_by n r has (has_either n r old.put (all_units on.put) (subst (HasCc n r) turn_put has))
+        waits_by n r has (has_either n r old.put (all_units does.on.put) (subst (HasCc n r) turn_put has))
         ∙ ap (waiting_for (Some n)) (sym turn_put)
 
     -- ---- a connection whose CC has not passed
@@ -258,30 +259,30 @@ module _ (local : Local) where
       some : 0 < r
       some = omega (arith, less)
 
-      taken_by : (o : Option EndReason) → carrier.ended ≡ o → units_at r on.took ≡ []
+      taken_by : (o : Option EndReason) → carrier.ended ≡ o → units_at r does.on.took ≡ []
       taken_by None lasts =
-          let s = turn_uses turn old new t false deeds on lasts in
-          let l = on.lives r some in
-          let none : waiting_for (Some r) (all_units on.took ++ (s.left ++ units_in new.coming)) ≡ [] =
+          let s = turn_uses turn old new t false deeds does.on lasts in
+          let l = does.on.lives r some in
+          let none : waiting_for (Some r) (all_units does.on.took ++ (s.left ++ units_in new.coming)) ≡ [] =
           ap (waiting_for (Some r)) (sym s.coming) ∙ none_waits h.ahead.bound r (units_in old.coming) less h.holds.below in
           grind (arith, waiting_for, none_both, picked_join, is_for, all_units_more, during_taken)
       taken_by (Some reason) over = grind (arith, past_none, stage_at, stage_over, some)
 
-      turn_unheard : units_taken (then_did (deeds r) (on.more r)).calls ≡ []
+      turn_unheard : units_taken (then_did (deeds r) (does.on.more r)).calls ≡ []
       turn_unheard = grind (arith, taken_more, some, taken_by)
 
       spent_by : ((deeds r).put ≡ []) ⊎ ((n : ℕ) × HasCc n r old.put) →
-          AreApart r on.put ⊎ (HasCc (on.lives r some).peer r new.put
-          ⊎ HasHome Right r (on.lives r some).peer old.course.traffic old.course.sessions) →
-          ((then_did (deeds r) (on.more r)).put ≡ []) ⊎ ((n : ℕ) × HasCc n r new.put)
+          AreApart r does.on.put ⊎ (HasCc (does.on.lives r some).peer r new.put
+          ⊎ HasHome Right r (does.on.lives r some).peer old.course.traffic old.course.sessions) →
+          ((then_did (deeds r) (does.on.more r)).put ≡ []) ⊎ ((n : ℕ) × HasCc n r new.put)
       spent_by (inr (n, waited)) k =
-          inr (n, subst (HasCc n r) (sym turn_put) (has_front n r old.put (all_units on.put) waited))
-      spent_by (inl none) (inl apart) = inl (λ i. none i ++ (on.own r some ∙ apart_none r on.put apart) i)
-      spent_by (inl none) (inr (inl has)) = inr ((on.lives r some).peer, has)
+          inr (n, subst (HasCc n r) (sym turn_put) (has_front n r old.put (all_units does.on.put) waited))
+      spent_by (inl none) (inl apart) = inl (λ i. none i ++ (does.on.own r some ∙ apart_none r does.on.put apart) i)
+      spent_by (inl none) (inr (inl has)) = inr ((does.on.lives r some).peer, has)
       spent_by (inl none) (inr (inr home)) =
-          let low = home_low r (on.lives r some).peer home in absurd (omega (arith, low, less))
+          let low = home_low r (does.on.lives r some).peer home in absurd (omega (arith, low, less))
 
-      turn_spent : ((then_did (deeds r) (on.more r)).put ≡ []) ⊎ ((n : ℕ) × HasCc n r new.put)
+      turn_spent : ((then_did (deeds r) (does.on.more r)).put ≡ []) ⊎ ((n : ℕ) × HasCc n r new.put)
       turn_spent =
           spent_by (h.holds.spent r less)
           (search (arith, named, g, before, after, no_cc, some))
@@ -293,19 +294,19 @@ module _ (local : Local) where
     all_new [] unused = tt
     all_new (v ∷ vs) unused = grind (arith, one_new, all_new vs (λ n r has. unused n r (inr has)))
 
-    news : AllByRecursion (λ (v : Value). GivesNew Right v old.course.sessions) (all_units on.put)
+    news : AllByRecursion (λ (v : Value). GivesNew Right v old.course.sessions) (all_units does.on.put)
     news =
-        all_new (all_units on.put)
+        all_new (all_units does.on.put)
         (λ n r has. above_unused Right h.ahead.bound r old.course.sessions h.ahead.below
-        (above_old n r (subst (HasCc n r) (sym turn_put) (has_back n r old.put (all_units on.put) has))))
+        (above_old n r (subst (HasCc n r) (sym turn_put) (has_back n r old.put (all_units does.on.put) has))))
 
-    pub turn_homed : AllByRecursion (IsMarked Right old.course.traffic old.course.sessions) on.put
+    pub turn_homed : AllByRecursion (IsMarked Right old.course.traffic old.course.sessions) does.on.put
     turn_homed = by carrier.ended refl
       where
-        by : (o : Option EndReason) → carrier.ended ≡ o → AllByRecursion (IsMarked Right old.course.traffic old.course.sessions) on.put
+        by : (o : Option EndReason) → carrier.ended ≡ o → AllByRecursion (IsMarked Right old.course.traffic old.course.sessions) does.on.put
         by None lasts =
-            called_marked local deeds turn old new t on f before places news
-            (turn_puts Right first turn old new t (all_units on.put) units g.ahead.followed IsNotZero
+            called_marked local deeds turn old new t does.on f before places news
+            (turn_puts Right first turn old new t (all_units does.on.put) does.units g.ahead.followed IsNotZero
             (called_put_two local g.ahead.followed.whole after.called)) no_cc
         by (Some reason) gone =
             let done = over_acts turn old.holding new.holding (subst IsSome (sym gone) refl) t.takes in
@@ -313,7 +314,7 @@ module _ (local : Local) where
 
     -- ---- all of it
 
-    pub turns_own : OwnInTwo Right local (λ r. then_did (deeds r) (on.more r)) new
+    pub turns_own : OwnInTwo Right local (λ r. then_did (deeds r) (does.on.more r)) new
     turns_own =
         let rises = g.rises in
         record {

@@ -13,7 +13,8 @@ use Rattle.osi_blameless.proofs.sessions.an_end_of_class_0_has_its_connection_op
 use Rattle.osi_blameless.proofs.sessions.an_end_stands_in_class_0.{IsGone, known_in, place_of_one}
 use Rattle.osi_blameless.proofs.sessions.what_an_end_keeps_until_class_2.{StandsUntilTwo, none_selected}
 use Rattle.osi_blameless.proofs.sessions.what_is_asked_of_what_holds_at_each_step.{HaveCourses}
-use Rattle.osi_blameless.proofs.sessions.nothing_is_done_before_a_cr_passes.{is_under_way, may_take, same_units}
+use Rattle.osi_blameless.proofs.sessions.nothing_is_done_before_a_cr_passes.{is_under_way, may_take}
+use Rattle.osi_blameless.proofs.small_facts_that_many_lemmas_use.{same_units}
 use Rattle.osi_blameless.proofs.sessions.what_a_link_has_begun_is_left_over.{joined_is_begun, none_in_flight}
 use Rattle.osi_blameless.proofs.sessions.what_is_in_flight_to_an_end.{known_of}
 

@@ -3,7 +3,7 @@
 -- For all connections of an end and a judge.
 use Rattle.osi_blameless.proofs.Vocabulary.{◌≡◌, ◌⊎◌, inl, refl, sym, subst, ℕ, ◌<◌, ◌≤◌, List, [], ◌∷◌, ◌++◌, Some, arith, AllByRecursion}
 use Rattle.osi_blameless.proofs.Vocabulary.{Value, Local, Direction, Left, Right, other, Holding, Deeds, no_deeds, units_in, units_taken}
-use Rattle.osi_blameless.proofs.Vocabulary.{IsFresh, AllProper, stage_is, packet_begins, units_pass, Joint, Steps, begin, begins_other}
+use Rattle.osi_blameless.proofs.Vocabulary.{IsFresh, stage_is, packet_begins, units_pass, Joint, Steps, begin, begins_other}
 use Rattle.osi_blameless.proofs.Vocabulary.{begins_own, passes_other, calls_from, true}
 use Rattle.osi_carrier.specs.State.{State as Carrier}
 use Rattle.osi_fair.specs.Wholes as wholes
@@ -93,7 +93,7 @@ in_more Right b deeds end put coming units may h = record {
 
 -- ---- what passes
 
-module _ (d : Direction) (local : Local) (proper : AllProper) (deeds : ℕ → Deeds) where
+module _ (d : Direction) (local : Local) (deeds : ℕ → Deeds) where
   abbrev first : wholes.Whole
   first = wholes.begin (calls_from d) local
 
@@ -103,7 +103,7 @@ module _ (d : Direction) (local : Local) (proper : AllProper) (deeds : ℕ → D
   pub two_own_begins : (old new : Joint) → Steps d begins_own old new → Own old → Own new
   two_own_begins old new (some, none, is) h =
       let mid : Joint = record old { begun = true; course = packet_begins d old.course } in
-      let g = begins_own_ahead d first proper old mid (some, none, refl) h.ahead in
+      let g = begins_own_ahead d first old mid (some, none, refl) h.ahead in
       subst Own (sym is) (record {
         ahead = g.ahead;
         holds = in_higher d h.ahead.bound g.ahead.bound deeds old.holding.end.carrier old.put (units_in old.coming) g.rises h.holds;
@@ -112,7 +112,7 @@ module _ (d : Direction) (local : Local) (proper : AllProper) (deeds : ℕ → D
   pub two_other_begins : (old new : Joint) → Steps d begins_other old new → Own old → Own new
   two_other_begins old new is h =
       let mid : Joint = record old { course = packet_begins (other d) old.course } in
-      let g = begins_other_ahead d first proper old mid refl h.ahead in
+      let g = begins_other_ahead d first old mid refl h.ahead in
       subst Own (sym is) (record {
         ahead = g.ahead;
         holds = in_higher d h.ahead.bound g.ahead.bound deeds old.holding.end.carrier old.put (units_in old.coming) g.rises h.holds;
@@ -126,7 +126,7 @@ module _ (d : Direction) (local : Local) (proper : AllProper) (deeds : ℕ → D
       let all = units_more old.coming packet units read in
       let b = h.ahead.bound in
       let end = old.holding.end.carrier in
-      let g = passes_other_ahead d first proper at packet units old mid (octets, read, refl) h.ahead
+      let g = passes_other_ahead d first at packet units old mid (octets, read, refl) h.ahead
       (subst (λ (j : Joint). AreUpTo d b j.course.sessions) is up) in
       subst Own (sym is) (record {
         ahead = g.ahead;

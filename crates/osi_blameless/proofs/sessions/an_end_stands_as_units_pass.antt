@@ -1,10 +1,10 @@
 -- An end of class 2 and a judge: what passes leaves all connections of the end standing, beside what holds of the end alone.
 -- For the session of each connection of an end.
 use Rattle.osi_blameless.proofs.Vocabulary.{[], ap, false, length, List, refl, Some, subst, sym, true, ℕ, ◌++◌, ◌<◌, ◌^◌, ◌∙◌, ◌∷◌, ◌≡◌}
-use Rattle.osi_blameless.proofs.Vocabulary.{append-nil, AllByRecursion, slice_get, units_of, Value, CanBeWritten, Deeds, no_deeds, units_in}
+use Rattle.osi_blameless.proofs.Vocabulary.{append-nil, slice_get, units_of, Value, Deeds, no_deeds, units_in}
 use Rattle.osi_blameless.proofs.Vocabulary.{Holding, Joined, spoken, none, unit_passes, units_pass, heard, begins_other, begins_own, Joint}
 use Rattle.osi_blameless.proofs.Vocabulary.{begin, passes_other, passes_own, Steps, Direction, other, HaveSamePlaces, arith, packet_begins}
-use Rattle.osi_blameless.proofs.Vocabulary.{calls_from, fresh_apart, no_item, AllProper, HasFieldsInRange, IsFresh, IsOctets, IsOngoing}
+use Rattle.osi_blameless.proofs.Vocabulary.{calls_from, fresh_apart, no_item, HasFieldsInRange, IsFresh, IsOctets, IsOngoing}
 use Rattle.osi_blameless.proofs.Vocabulary.{Left, Local, Ok, Right, State, units_fit, units_found}
 use Rattle.osi_honest.specs.Courses.{Course}
 use Rattle.osi_blameless.proofs.sessions.a_right_dt_has_one_place.{AreUsedApart, named_apart}
@@ -57,13 +57,12 @@ standing_first d known h = grind (arith, fresh_apart, no_item)
 
 -- ---- what passes
 
--- What holds of the end alone holds, all its connections stand, and what it has put can be written.
+-- What holds of the end alone holds, and all its connections stand.
 pub record StandsInTwo (d : Direction) (local : Local) (deeds : ℕ → Deeds) (j : Joint) : Type 0 where
   pub own : OwnInTwo d local deeds j
   pub standing : Standing d deeds (known_at j) j
   pub distinct : AreDistinct d j.course.sessions
   pub shut : AreShutAtJoint d j
-  pub can : AllByRecursion CanBeWritten j.put
 
 -- a calling end gets class 2 if it offers it
 abbrev pub MayGetTwo : Direction → Local → Type 0
@@ -77,10 +76,9 @@ stands_first d local h fresh = record {
   standing = standing_first d (known_at (begin h)) h;
   distinct = distinct_first d;
   shut = first_shut d (may_take h.end.carrier) [];
-  can = tt;
 }
 
-module _ (d : Direction) (local : Local) (proper : AllProper) (deeds : ℕ → Deeds) where
+module _ (d : Direction) (local : Local) (deeds : ℕ → Deeds) where
   abbrev Stands : Joint → Type 0
   Stands j = StandsInTwo d local deeds j
 
@@ -91,22 +89,20 @@ module _ (d : Direction) (local : Local) (proper : AllProper) (deeds : ℕ → D
   stands_own_begins old new (some, none, is) courses few h =
       let mid : Joint = record old { begun = true; course = packet_begins d old.course } in
       subst Stands (sym is) (record {
-        own = two_own_begins d local proper deeds old mid (some, none, refl) h.own;
+        own = two_own_begins d local deeds old mid (some, none, refl) h.own;
         standing = step_begins_own d deeds (known_at old) old mid (some, none, refl) courses few h.standing;
         distinct = begins_distinct d d old.course.sessions h.distinct;
         shut = search (arith, begins_shut, may_take);
-        can = h.can;
       })
 
   pub stands_other_begins : (old new : Joint) → Steps d begins_other old new → Stands old → Stands new
   stands_other_begins old new is h =
       let mid : Joint = record old { course = packet_begins (other d) old.course } in
       subst Stands (sym is) (record {
-        own = two_other_begins d local proper deeds old mid refl h.own;
+        own = two_other_begins d local deeds old mid refl h.own;
         standing = step_begins_other d deeds (known_at old) old mid refl h.standing;
         distinct = begins_distinct d (other d) old.course.sessions h.distinct;
         shut = search (arith, begins_shut, may_take);
-        can = h.can;
       })
 
   rooms : (j : Joint) → Stands j → HaveRoom j.course.sessions
@@ -127,7 +123,6 @@ module _ (d : Direction) (local : Local) (proper : AllProper) (deeds : ℕ → D
             (unit_distinct d d at unit old.course.traffic old.course.sessions a.places h.distinct
             (gives_new d (wholes.begin (calls_from d) local) at unit old mid step h.own.ahead) (rooms old h));
         shut = own_passes_shut d at unit old a.places (rooms old h) h.shut;
-        can = (subst (AllByRecursion CanBeWritten) put h.can).1;
       })
 
   -- a packet whose units it has heard
@@ -146,7 +141,6 @@ module _ (d : Direction) (local : Local) (proper : AllProper) (deeds : ℕ → D
         };
         distinct = k.distinct;
         shut = subst (λ (l : List Value). AreShut d live l after.traffic after.sessions) all k.shut;
-        can = h.can;
       })
 
 -- ---- references are apart at the judge
@@ -163,16 +157,16 @@ pub used_apart : (d : Direction) (local : Local) → MayGetTwo d local → (deed
 used_apart Left local two deeds j clear h = peers_apart local two j h.own.ahead.followed clear
 used_apart Right local two deeds j clear h =
     let f = h.own.ahead.followed in
-    let lines = has_lines local j f clear h.can h.own.holds.two in
+    let lines = has_lines local j f clear h.own.holds.two in
     subst (λ (s : State). AreUsedApart Right s.connections) f.judge (named_apart Right f.whole.judge.connections lines.apart lines.named)
 
 -- ---- a unit of the end passes
 
-pub stands_own_passes : (d : Direction) (local : Local) → MayGetTwo d local → AllProper → (deeds : ℕ → Deeds) (at : ℕ) (unit : Value)
+pub stands_own_passes : (d : Direction) (local : Local) → MayGetTwo d local → (deeds : ℕ → Deeds) (at : ℕ) (unit : Value)
     (old new : Joint) → Steps d (passes_own at unit) old new → IsProper d unit old.course → IsOngoing old.course.traffic.course →
     StandsInTwo d local deeds old → StandsInTwo d local deeds new
-stands_own_passes d local two proper deeds at unit old new step fine clear h =
-    own_passes_with d local proper deeds at unit old new step fine (used_apart d local two deeds old clear h) (ready_by d two step h)
+stands_own_passes d local two deeds at unit old new step fine clear h =
+    own_passes_with d local deeds at unit old new step fine (used_apart d local two deeds old clear h) (ready_by d two step h)
     (own_by d two step h) h
   where
     ready_by : (d : Direction) → MayGetTwo d local → Steps d (passes_own at unit) old new → StandsInTwo d local deeds old →
@@ -183,8 +177,8 @@ stands_own_passes d local two proper deeds at unit old new step fine clear h =
 
     own_by : (d : Direction) → MayGetTwo d local → Steps d (passes_own at unit) old new → StandsInTwo d local deeds old →
         OwnInTwo d local deeds new
-    own_by Left two step h = crs.own_passes local two proper deeds at unit old new step h.standing.all.places h.own
-    own_by Right two step h = ccs.own_passes local proper deeds at unit old new step h.standing.all.places h.own
+    own_by Left two step h = crs.own_passes local two deeds at unit old new step h.standing.all.places h.own
+    own_by Right two step h = ccs.own_passes local deeds at unit old new step h.standing.all.places h.own
 
 -- ---- a packet of the other side passes
 
@@ -205,7 +199,7 @@ hears_front Left local two deeds at octets front back j all read fine h =
     let behind : IsBehind local j.put j.course = search (arith, whole_joined) in
     let plain = fine_plain b at front j.course fine in
     record {
-      heard = crs_heard.units_heard local j.put h.can deeds (may_take j.holding.end.carrier) j.begun at front
+      heard = crs_heard.units_heard local j.put deeds (may_take j.holding.end.carrier) j.begun at front
           (units_in j.coming) j.course fine
           (all_front HasFieldsInRange front back
           (ranges_of (front ++ back) (units_fit (front ++ back) octets (units_found octets (front ++ back) all read)))) behind
@@ -220,13 +214,13 @@ hears_front Right local two deeds at octets front back j all read fine h =
     fine (record { stand = h.standing.all; distinct = h.distinct; shut = h.shut }) h.own.ahead.below in
     record { heard = k.all; up = k.up; may = k.below }
 
-pub stands_other_passes : (d : Direction) (local : Local) → MayGetTwo d local → AllProper → (deeds : ℕ → Deeds) (at : ℕ) (packet : List ℕ)
+pub stands_other_passes : (d : Direction) (local : Local) → MayGetTwo d local → (deeds : ℕ → Deeds) (at : ℕ) (packet : List ℕ)
     (units : List Value) (old new : Joint) → Steps d (passes_other at packet units) old new → AreFine d at units old.course →
     StandsInTwo d local deeds old → StandsInTwo d local deeds new
-stands_other_passes d local two proper deeds at packet units old new step fine h =
+stands_other_passes d local two deeds at packet units old new step fine h =
     let k = hears_front d local two deeds at packet units [] old step.0
     (step.1 ∙ ap (λ (l : List Value). Ok l) (sym (append-nil units))) fine
     h in
-    other_passes_with d local proper deeds at packet units old new step k.heard
-    (two_other_passes d local proper deeds at packet units old new step h.own k.may
+    other_passes_with d local deeds at packet units old new step k.heard
+    (two_other_passes d local deeds at packet units old new step h.own k.may
     (subst (λ (j : Joint). AreUpTo d h.own.ahead.bound j.course.sessions) (sym step.2) k.up)) h

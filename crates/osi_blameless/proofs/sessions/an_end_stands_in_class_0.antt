@@ -8,7 +8,7 @@ use Rattle.osi_blameless.proofs.Vocabulary.{request, is_over, list_all, not, unl
 use Rattle.osi_blameless.proofs.Vocabulary.{Class, Two, Zero, Local, Direction, Left, Right, other, State, class_for, takes}
 use Rattle.osi_blameless.proofs.Vocabulary.{zero_stays, Deeds, units_in, past, stage_at, Joined, Sessions, spoken}
 use Rattle.osi_blameless.proofs.Vocabulary.{Course, packet_begins, unit_passes, units_pass, heard, way_of, Joint, Steps}
-use Rattle.osi_blameless.proofs.Vocabulary.{begins_other, begins_own, passes_other, passes_own, amid, AllProper, calls_from, IsFirm}
+use Rattle.osi_blameless.proofs.Vocabulary.{begins_other, begins_own, passes_other, passes_own, amid, calls_from, IsFirm}
 use Rattle.osi_carrier.specs.State.{State as Carrier}
 use Rattle.osi_rules.specs.declared.directions.Direction.TheVariants as way
 use Rattle.osi_fair.specs.Naming.{unit as passing}
@@ -316,7 +316,7 @@ own_zero d deeds r at v old new (read, octets, put, begun, is) dt right h =
 pub within_higher : (b n r : ℕ) → b ≤ n → IsWithin b r → IsWithin n r
 within_higher b n r up h = (h.0, (let low = h.1 in omega (arith, low, up)))
 
-module _ (d : Direction) (local : Local) (proper : AllProper) (deeds : ℕ → Deeds) where
+module _ (d : Direction) (local : Local) (deeds : ℕ → Deeds) where
   abbrev first : wholes.Whole
   first = wholes.begin (calls_from d) local
 
@@ -343,7 +343,7 @@ module _ (d : Direction) (local : Local) (proper : AllProper) (deeds : ℕ → D
       let mid : Joint = record old { begun = true; course = packet_begins d old.course } in
       let known = known_in old.holding.end.carrier (units_in old.coming) in
       let z = h.zero in
-      subst Stands (sym is) (stands_on old mid h (begins_own_ahead d first proper old mid (some, none, refl) h.ahead) refl (record {
+      subst Stands (sym is) (stands_on old mid h (begins_own_ahead d first old mid (some, none, refl) h.ahead) refl (record {
         sure = sure_claim.begins d old.course z.sure;
         class = class_begun d old.course ∙ z.class;
         all = all_begin_own d deeds known old.put old.holding.end old.course.traffic old.course.sessions courses few
@@ -358,7 +358,7 @@ module _ (d : Direction) (local : Local) (proper : AllProper) (deeds : ℕ → D
       let mid : Joint = record old { course = packet_begins (other d) old.course } in
       let known = known_in old.holding.end.carrier (units_in old.coming) in
       let z = h.zero in
-      subst Stands (sym is) (stands_on old mid h (begins_other_ahead d first proper old mid refl h.ahead) refl (record {
+      subst Stands (sym is) (stands_on old mid h (begins_other_ahead d first old mid refl h.ahead) refl (record {
         sure = sure_claim.begins (other d) old.course z.sure;
         class = class_begun (other d) old.course ∙ z.class;
         all = all_begin_other d deeds known old.put old.begun old.course.traffic old.course.sessions z.all;
@@ -372,7 +372,7 @@ module _ (d : Direction) (local : Local) (proper : AllProper) (deeds : ℕ → D
       IsFirm old.course.traffic.course → Stands old → Stands new
   zero_own_passes at v old new step right firm h =
       let dt : IsDt0 v = own_is_dt local d at v old new step h.ahead.followed firm h.zero.class in
-      stands_on old new h (passes_own_ahead d first proper at v old new step h.zero.all.places h.ahead).on
+      stands_on old new h (passes_own_ahead d first at v old new step h.zero.all.places h.ahead).on
       (ap (λ (j : Joint). j.holding) step.4) (own_zero d deeds h.r at v old new step dt right h.zero)
       (λ begun. absurd (cc (sym begun ∙ ap (λ (j : Joint). j.begun) step.4)))
 
@@ -385,7 +385,7 @@ module _ (d : Direction) (local : Local) (proper : AllProper) (deeds : ℕ → D
       let all = units_more old.coming packet units read in
       let end = old.holding.end.carrier in
       subst Stands (sym is) (stands_on old mid h
-      (passes_other_ahead d first proper at packet units old mid (octets, read, refl) h.ahead
+      (passes_other_ahead d first at packet units old mid (octets, read, refl) h.ahead
       (other_up d first at b packet units old mid (octets, read, refl) h.zero.all.places (none_named d b at units old.course passed)
       h.ahead.below))
       refl

@@ -4,15 +4,14 @@ use Rattle.osi_blameless.proofs.Vocabulary.{arith, ◌≡◌, ◌∙◌, ◌⊎�
 use Rattle.osi_blameless.proofs.Vocabulary.{if◌then◌else◌, List, [], ◌∷◌, ◌++◌, length, Some, None, slice_get, AllByRecursion, Connect}
 use Rattle.osi_blameless.proofs.Vocabulary.{Value, confirm, Two, Zero, Local, Left, Right, IsNoCc, State, class_for, Holding, Selecting}
 use Rattle.osi_blameless.proofs.Vocabulary.{left_class, IsClear, IsFirm, Deeds, no_deeds, then_did, units_in, Marked, all_units, IsFresh}
-use Rattle.osi_blameless.proofs.Vocabulary.{Turn, AllProper, amid, stage_at, stage_is, stage_there, all_units_more, CanBeWritten, Joined}
-use Rattle.osi_blameless.proofs.Vocabulary.{spoken, packet_begins, unit_passes, units_pass, heard, Joint, Steps, TakesTurn, begin}
-use Rattle.osi_blameless.proofs.Vocabulary.{begins_other, begins_own, passes_other, passes_own, going_on, IsOngoing, takes, class_of, Class}
-use Rattle.osi_blameless.proofs.Vocabulary.{◌==◌}
+use Rattle.osi_blameless.proofs.Vocabulary.{Turn, amid, stage_at, stage_is, stage_there, all_units_more, Joined, spoken}
+use Rattle.osi_blameless.proofs.Vocabulary.{packet_begins, unit_passes, units_pass, heard, Joint, Steps, TakesTurn, begin, begins_other}
+use Rattle.osi_blameless.proofs.Vocabulary.{begins_own, passes_other, passes_own, going_on, IsOngoing, takes, class_of, Class, ◌==◌}
 use Rattle.osi_rules.specs.declared.directions.Direction.TheVariants as way
 use Rattle.osi_judge.specs.Courses.{Course as Passed}
 use Rattle.osi_blameless.proofs.what_a_taker_passes_over.{mild_of}
 use Rattle.osi_blameless.proofs.what_the_turns_among_steps_do.{TurnDoes}
-use Rattle.osi_blameless.proofs.small_facts_that_many_lemmas_use.{none_some, can_more as all_more}
+use Rattle.osi_blameless.proofs.small_facts_that_many_lemmas_use.{none_some}
 use Rattle.osi_blameless.proofs.sessions.a_called_end_answers_with_class_2_or_selects_class_0.{answers_or_selects}
 use Rattle.osi_blameless.proofs.sessions.a_turn_of_an_end_of_class_2.{answers_turn}
 use Rattle.osi_blameless.proofs.sessions.an_end_stands_as_units_pass.{stands_first, stands_other_begins, stands_other_passes}
@@ -83,7 +82,7 @@ no_cc_passes at v old two right sure none not m x is =
     (subst (λ (u : Value). IsRight Right u old) is right).none)).class
     ∙ ap (λ (k : Class). Some k) (two_class x (subst AnswersTwo is two))))
 
-module _ (local : Local) (proper : AllProper) where
+module _ (local : Local) where
   pub unselected_first : (h : Holding) → IsFresh false local h → StandsUnselected local (λ r. no_deeds) (begin h)
   unselected_first h fresh = grind (arith, fresh_sure, none_open, stage_is, stands_first Right local h fresh)
 
@@ -99,7 +98,7 @@ module _ (local : Local) (proper : AllProper) where
     unselected_own_begins old new (some, none, is) courses few h =
         let mid : Joint = record old { begun = true; course = packet_begins Right old.course } in
         subst Stands (sym is) (record {
-          stands = stands_own_begins Right local proper deeds old mid (some, none, refl) courses few h.stands;
+          stands = stands_own_begins Right local deeds old mid (some, none, refl) courses few h.stands;
           sure = sure_claim.begins Right old.course h.sure;
           class = h.class;
           quiet = h.quiet;
@@ -111,7 +110,7 @@ module _ (local : Local) (proper : AllProper) where
     unselected_other_begins old new is h =
         let mid : Joint = record old { course = packet_begins Left old.course } in
         subst Stands (sym is) (record {
-          stands = stands_other_begins Right local proper deeds old mid refl h.stands;
+          stands = stands_other_begins Right local deeds old mid refl h.stands;
           sure = sure_claim.begins Left old.course h.sure;
           class = h.class;
           quiet = h.quiet;
@@ -135,9 +134,11 @@ module _ (local : Local) (proper : AllProper) where
           none = right.none;
           links = firm_links Right v old.course.traffic right.firm h.sure.judged right.goes right.none;
         } in
-        let class : mid.course.traffic.course.class ≡ None = grind (arith, unit_knows, selects_none) in
+        let class : mid.course.traffic.course.class ≡ None =
+        ap (λ (s : State). s.course.class) (unit_knows Right at v old.course) ∙ selects_none way.Right v old.course.traffic plain
+        ∙ h.class in
         subst Stands (sym is) (record {
-          stands = stands_own_passes Right local tt proper deeds at v old mid (read, octets, put, begun, refl) fine
+          stands = stands_own_passes Right local tt deeds at v old mid (read, octets, put, begun, refl) fine
               (going_on old.course.traffic.course
               (record { sure = firm; two = λ zero_is. none_some old.course.traffic.course.class Zero h.class zero_is })) h.stands;
           sure = sure_claim.passes Right at v old.course h.sure;
@@ -158,7 +159,7 @@ module _ (local : Local) (proper : AllProper) where
         let after = units_unselected deeds old.holding.end.carrier old.put old.begun at units (units_in old.coming) old.course passed
         (unselected_so local deeds old h) in
         subst Stands (sym is) (record {
-          stands = stands_other_passes Right local tt proper deeds at packet units old mid (octets, read, refl)
+          stands = stands_other_passes Right local tt deeds at packet units old mid (octets, read, refl)
               (fine_of at units old.course h.class passed) h.stands;
           sure = after.sure;
           class = after.class;
@@ -172,10 +173,10 @@ module _ (local : Local) (proper : AllProper) where
   module _ (turn : Turn) (old new : Joint) (t : TakesTurn turn old new) (deeds : ℕ → Deeds) (does : TurnDoes false deeds turn old new t)
       (firm : IsFirm old.course.traffic.course) (h : StandsUnselected local deeds old) where
     abbrev put : List Marked
-    put = does.of.on.put
+    put = does.on.put
 
     abbrev then_deeds : ℕ → Deeds
-    then_deeds = λ r. then_did (deeds r) (does.of.on.more r)
+    then_deeds = λ r. then_did (deeds r) (does.on.more r)
 
     turn_put : new.put ≡ old.put ++ all_units put
     turn_put = t.put ∙ ap (λ (l : List Value). old.put ++ l) does.units
@@ -183,36 +184,35 @@ module _ (local : Local) (proper : AllProper) where
     clear : IsClear old.course.traffic.course
     clear = record { sure = firm; two = λ zero_is. none_some old.course.traffic.course.class Zero h.class zero_is }
 
-    has_cc : (q : ℕ) → 0 < q → WasOpen false q (stage_at q old.holding.end.carrier) does.of.on.took put → (n : ℕ) × HasCc n q new.put
+    has_cc : (q : ℕ) → 0 < q → WasOpen false q (stage_at q old.holding.end.carrier) does.on.took put → (n : ℕ) × HasCc n q new.put
     has_cc q some (open_before m is) =
         let (n, has) = h.shut q m some is in
         (n, subst (HasCc n q) (sym turn_put) (has_front n q old.put (all_units put) has))
     has_cc q some (puts_cc called m x front later source is) =
         (m, subst (HasCc m q) (sym turn_put) (has_back m q old.put (all_units put) (grind (arith, all_units_more, has_back))))
     has_cc q some (takes_cc may x front later is) =
-        no_cc_taken local proper turn old new t deeds does.of.on does.of.life does.units q q x front later h.quiet may is
+        no_cc_taken local turn old new t deeds does q q x front later h.quiet may is
 
     none_turns : AllByRecursion AnswersTwo new.put → StandsUnselected local then_deeds new
     none_turns two = record {
-      stands = answers_turn local proper turn old new t deeds does.of.on does.of.life does.units does.of.on.can two
+      stands = answers_turn local turn old new t deeds does two
           (going_on old.course.traffic.course clear) h.stands;
       sure = subst Sure (sym t.course) h.sure;
       class = ap (λ (c : Passed). c.traffic.course.class) t.course ∙ h.class;
       quiet = all_back IsQuiet (units_in t.used) (units_in new.coming)
           (subst (AllByRecursion IsQuiet) (turn_leaves turn old new t) h.quiet);
       uncalled = subst (λ (c : Passed). AreUncalled c.sessions) (sym t.course) h.uncalled;
-      shut = λ q peer some is. has_cc q some (then_open false turn old new deeds does.of.on does.of.life q peer some is);
+      shut = λ q peer some is. has_cc q some (then_open false turn old new t deeds does q peer some is);
     }
 
     turn_by : AllByRecursion AnswersTwo new.put
-        ⊎ Selecting local (turns_ahead Right (first local) proper turn old new t h.stands.own.ahead).ahead.followed.whole →
+        ⊎ Selecting local (turns_ahead Right (first local) turn old new t h.stands.own.ahead).ahead.followed.whole →
         StandsUnselected local then_deeds new ⊎ StandsAnswering local then_deeds new
     turn_by (inl two) = inl (none_turns two)
-    turn_by (inr z) = inr (turns_selecting local proper turn old new t deeds does.of.on does.of.life does.units firm h z)
+    turn_by (inr z) = inr (turns_selecting local turn old new t deeds does firm h z)
 
     pub unselected_turns : StandsUnselected local then_deeds new ⊎ StandsAnswering local then_deeds new
     unselected_turns =
-        turn_by (answers_or_selects local new (turns_ahead Right (first local) proper turn old new t h.stands.own.ahead).ahead.followed
-        (subst (AllByRecursion CanBeWritten) (sym turn_put) (all_more old.put (all_units put) h.stands.can does.of.on.can))
+        turn_by (answers_or_selects local new (turns_ahead Right (first local) turn old new t h.stands.own.ahead).ahead.followed
         (subst (λ (c : Passed). IsOngoing c.traffic.course) (sym t.course) (going_on old.course.traffic.course clear))
         (subst Agree (sym t.course) h.stands.standing.all.places))

@@ -2,7 +2,7 @@
 -- For the law that no session of an end is blamed first: of an end that doesn't offer class 2, and of one that has selected class 0 by a
 -- CC that has not passed.
 use Rattle.osi_blameless.proofs.Vocabulary.{[], Bool, false, inl, inr, List, Some, subst, sym, ℕ, ◌∙◌, ◌∷◌, ◌≡◌, ◌⊎◌, slice_get, Value}
-use Rattle.osi_blameless.proofs.Vocabulary.{Zero, Local, meaning_if, meant, Traffic as State, takes, other, Direction, AllProper, Deeds}
+use Rattle.osi_blameless.proofs.Vocabulary.{Zero, Local, meaning_if, meant, Traffic as State, takes, other, Direction, Deeds}
 use Rattle.osi_blameless.proofs.Vocabulary.{all_begin, asked, Joined, Sessions, spoken, taken, unit_passes, units_pass, way_of, Room}
 use Rattle.osi_blameless.proofs.Vocabulary.{after_add, after_set, IsOngoing, begins_other, begins_own, Joint, passes_other, passes_own}
 use Rattle.osi_blameless.proofs.Vocabulary.{Step, Steps, calls_from, arith, Course, TakesTurn, Turn, ap}
@@ -92,7 +92,7 @@ pub record KeepsSilent (d : Direction) (local : Local) (Why : Joint → Type 0) 
       IsOngoing old.course.traffic.course → (new.course.traffic.course.class ≡ Some Zero → ⊥) → HasSaidNothing d local Why deeds old →
       (is_part v ≡ false) × Why new
 
-module _ (proper : AllProper) (d : Direction) (local : Local) (Why : Joint → Type 0) (k : KeepsSilent d local Why) where
+module _ (d : Direction) (local : Local) (Why : Joint → Type 0) (k : KeepsSilent d local Why) where
   abbrev Said : (ℕ → Deeds) → Joint → Type 0
   Said = HasSaidNothing d local Why
 

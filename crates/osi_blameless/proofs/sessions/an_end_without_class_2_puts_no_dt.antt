@@ -1,7 +1,6 @@
 -- As long as both sides are judged, a calling end that doesn't offer class 2 puts no DT unless class 0 is selected.
 -- For the law that no session of an end is blamed first.
-use Rattle.osi_blameless.proofs.Vocabulary.{false, true, ℕ, ◌≡◌, Local, Left, Value, Joint, Steps, passes_own, IsOngoing, arith}
-use Rattle.osi_blameless.proofs.Vocabulary.{◌∙◌, ◌∷◌}
+use Rattle.osi_blameless.proofs.Vocabulary.{false, true, ℕ, ◌≡◌, Local, Left, Value, Joint, Steps, passes_own, IsOngoing, arith, ◌∙◌, ◌∷◌}
 use Rattle.osi_fair.specs.Wholes.{begin}
 use Rattle.osi_blameless.proofs.steps_are_events.{IsFollowed}
 use Rattle.osi_blameless.proofs.sessions.what_stands_of_a_connection.{is_part}

@@ -1,9 +1,8 @@
 -- The CCs among the units that wait: for which references they are, in which order they come, and that no two give one reference.
 -- For all connections of a called end and a judge.
 use Rattle.osi_blameless.proofs.Vocabulary.{[], arith, inl, inr, List, refl, Some, subst, true, ℕ, ◌++◌, ◌<◌, ◌∙◌, ◌∷◌, ◌≡◌, ◌⊎◌}
-use Rattle.osi_blameless.proofs.Vocabulary.{AllByRecursion, acknowledge, confirm, Connect, data0, data2, disconnect, disconnected, error}
-use Rattle.osi_blameless.proofs.Vocabulary.{request, Value, AreAbove, picked_rest, is_false}
-use Rattle.osi_blameless.proofs.Vocabulary.{sym}
+use Rattle.osi_blameless.proofs.Vocabulary.{AllByRecursion, confirm, Connect, Right, Rise, rise_from, Value, picked_rest, is_false, sym}
+use Rattle.osi_blameless.proofs.sessions.units_that_wait_give_references_above_those_that_passed.{given_among}
 use Rattle.osi_blameless.proofs.sessions.what_stands_of_a_connection.{is_for, waiting_for}
 
 -- ---- CCs among units
@@ -56,42 +55,25 @@ first_not_zero m x us vs e zero_is two =
 
 -- ---- references of those that wait
 
-pub has_above : (given b n r : ℕ) (vs : List Value) → AreAbove given b vs → HasCc n r vs → b < r
-has_above given b n r [] a h = absurd h
-has_above given b n r (confirm m x ∷ vs) (above, a) (inl (mine, source)) = omega (arith, above, source)
-has_above given b n r (confirm m x ∷ vs) (above, a) (inr h) = grind (arith, has_above given x.source n r vs a h)
-has_above given b n r (request x ∷ vs) a (inl h) = absurd h
-has_above given b n r (request x ∷ vs) a (inr h) = has_above given b n r vs a h
-has_above given b n r (disconnect m source reason user ∷ vs) a (inl h) = absurd h
-has_above given b n r (disconnect m source reason user ∷ vs) a (inr h) = has_above given b n r vs a h
-has_above given b n r (disconnected m source ∷ vs) a (inl h) = absurd h
-has_above given b n r (disconnected m source ∷ vs) a (inr h) = has_above given b n r vs a h
-has_above given b n r (data0 end user ∷ vs) a (inl h) = absurd h
-has_above given b n r (data0 end user ∷ vs) a (inr h) = has_above given b n r vs a h
-has_above given b n r (data2 m number end user ∷ vs) a (inl h) = absurd h
-has_above given b n r (data2 m number end user ∷ vs) a (inr h) = has_above given b n r vs a h
-has_above given b n r (acknowledge credit m number ∷ vs) a (inl h) = absurd h
-has_above given b n r (acknowledge credit m number ∷ vs) a (inr h) = has_above given b n r vs a h
-has_above given b n r (error m cause ∷ vs) a (inl h) = absurd h
-has_above given b n r (error m cause ∷ vs) a (inr h) = has_above given b n r vs a h
+among : (P : ℕ → Type 0) (n r : ℕ) (vs : List Value) → AllByRecursion P (given_among Right vs) → HasCc n r vs → P r
+among P n r [] all h = absurd h
+among P n r (confirm m x ∷ vs) all (inl (mine, source)) = subst P source all.0
+among P n r (confirm m x ∷ vs) all (inr h) = among P n r vs all.1 h
+among P n r (v ∷ vs) all (inl h) = absurd h
+among P n r (v ∷ vs) all (inr h) = among P n r vs all h
+
+rise_all : (b : ℕ) (rs : List ℕ) → Rise b rs → AllByRecursion (λ (r : ℕ). b < r) rs
+rise_all b [] rise = tt
+rise_all b (r ∷ rs) (above, rise) = (above, rise_all b rs (rise_from b r rs (omega (arith, above)) rise))
+
+pub has_above : (b n r : ℕ) (vs : List Value) → Rise b (given_among Right vs) → HasCc n r vs → b < r
+has_above b n r vs rise h = among (λ (q : ℕ). b < q) n r vs (rise_all b (given_among Right vs) rise) h
 
 -- no two give the same one
-pub not_twice : {A : Type 0} (given b m n r : ℕ) (xs ys : List Value) → AreAbove given b (xs ++ ys) → HasCc m r xs → HasCc n r ys → A
-not_twice given b m n r [] ys a h k = absurd h
-not_twice given b m n r (confirm i x ∷ xs) ys (above, a) (inl (mine, source)) k =
-    let more = has_above given x.source n r (xs ++ ys) a (has_back n r xs ys k) in absurd (omega (arith, more, source))
-not_twice given b m n r (confirm i x ∷ xs) ys (above, a) (inr h) k = not_twice given x.source m n r xs ys a h k
-not_twice given b m n r (request x ∷ xs) ys a (inl h) k = absurd h
-not_twice given b m n r (request x ∷ xs) ys a (inr h) k = not_twice given b m n r xs ys a h k
-not_twice given b m n r (disconnect i source reason user ∷ xs) ys a (inl h) k = absurd h
-not_twice given b m n r (disconnect i source reason user ∷ xs) ys a (inr h) k = not_twice given b m n r xs ys a h k
-not_twice given b m n r (disconnected i source ∷ xs) ys a (inl h) k = absurd h
-not_twice given b m n r (disconnected i source ∷ xs) ys a (inr h) k = not_twice given b m n r xs ys a h k
-not_twice given b m n r (data0 end user ∷ xs) ys a (inl h) k = absurd h
-not_twice given b m n r (data0 end user ∷ xs) ys a (inr h) k = not_twice given b m n r xs ys a h k
-not_twice given b m n r (data2 i number end user ∷ xs) ys a (inl h) k = absurd h
-not_twice given b m n r (data2 i number end user ∷ xs) ys a (inr h) k = not_twice given b m n r xs ys a h k
-not_twice given b m n r (acknowledge credit i number ∷ xs) ys a (inl h) k = absurd h
-not_twice given b m n r (acknowledge credit i number ∷ xs) ys a (inr h) k = not_twice given b m n r xs ys a h k
-not_twice given b m n r (error i cause ∷ xs) ys a (inl h) k = absurd h
-not_twice given b m n r (error i cause ∷ xs) ys a (inr h) k = not_twice given b m n r xs ys a h k
+pub not_twice : {A : Type 0} (b m n r : ℕ) (xs ys : List Value) → Rise b (given_among Right (xs ++ ys)) → HasCc m r xs → HasCc n r ys → A
+not_twice b m n r [] ys rise h k = absurd h
+not_twice b m n r (confirm i x ∷ xs) ys rise (inl (mine, source)) k =
+    let more = has_above x.source n r (xs ++ ys) rise.1 (has_back n r xs ys k) in absurd (omega (arith, more, source))
+not_twice b m n r (confirm i x ∷ xs) ys rise (inr h) k = not_twice x.source m n r xs ys rise.1 h k
+not_twice b m n r (v ∷ xs) ys rise (inl h) k = absurd h
+not_twice b m n r (v ∷ xs) ys rise (inr h) k = not_twice b m n r xs ys rise h k

@@ -3,11 +3,10 @@
 use Rattle.osi_blameless.proofs.Vocabulary.{◌≡◌, ◌∙◌, ◌⊎◌, inl, inr, refl, sym, ap, subst, ℕ, ◌<◌, ◌≤◌, Bool, false, List, [], ◌∷◌, ◌++◌}
 use Rattle.osi_blameless.proofs.Vocabulary.{Holding, IsFresh, Local, begin, calls_from, length, Option, Some, None, arith, slice_get}
 use Rattle.osi_blameless.proofs.Vocabulary.{AllByRecursion, Connect, Value, confirm, request, Direction, Left, Right, other, State}
-use Rattle.osi_blameless.proofs.Vocabulary.{meaning_if, meant, takes, Event, HappenAlong, Whole, after_add, after_set, Turn, AllProper}
+use Rattle.osi_blameless.proofs.Vocabulary.{meaning_if, meant, takes, Whole, after_add, after_set, Turn}
 use Rattle.osi_blameless.proofs.Vocabulary.{Room, Joined, Sessions, all_begin, asked, reference_of, taken, Course, unit_passes, units_pass}
 use Rattle.osi_blameless.proofs.Vocabulary.{way_of, Joint, Step, Steps, TakesTurn, begins_other, begins_own, passes_other, passes_own}
-use Rattle.osi_blameless.proofs.Vocabulary.{turns, HaveSamePlaces, AreAbove as RiseAbove, CanBeWritten}
-use Rattle.osi_carrier.specs.State.{State as Carrier}
+use Rattle.osi_blameless.proofs.Vocabulary.{turns, HaveSamePlaces}
 use Rattle.osi_fair.specs.Wholes as wholes
 use Rattle.osi_judge.specs.Connections.{packet_begins}
 use Rattle.osi_judge.specs.Connections as joined
@@ -15,9 +14,7 @@ use Rattle.osi_blameless.proofs.a_carrier_does_events.{happen_join}
 use Rattle.osi_blameless.proofs.steps_are_events.{IsFollowed, begin_followed, step_followed}
 use Rattle.osi_blameless.proofs.sessions.all_connections_stand.{map_of}
 use Rattle.osi_blameless.proofs.sessions.connections_have_the_same_places.{unit_agrees, unit_joins, unit_knows}
-use Rattle.osi_blameless.proofs.small_facts_that_many_lemmas_use.{same_one}
-use Rattle.osi_blameless.proofs.sessions.ccs_that_wait_are_above_those_that_passed as ccs
-use Rattle.osi_blameless.proofs.sessions.crs_that_wait_are_above_those_that_passed as crs
+use Rattle.osi_blameless.proofs.sessions.units_that_wait_give_references_above_those_that_passed.{AreAbove, above_along, gives, passes_given}
 use Rattle.osi_blameless.proofs.sessions.references_of_an_end_are_distinct.{GivesNew, IsUnused}
 use Rattle.osi_blameless.proofs.sessions.what_a_unit_does_at_its_place.{Does, asks_again, asks_more, nowhere, somewhere, unit_does}
 use Rattle.osi_blameless.proofs.sessions.what_stands_of_a_connection.{named_begun}
@@ -102,12 +99,6 @@ units_up d e b at (v ∷ vs) c places up h =
 
 -- ---- what gives a reference
 
--- a CR of left gives this one, and a CC of right
-abbrev pub gives : Direction → Value → Option ℕ
-gives Left (request x) = Some x.source
-gives Right (confirm n x) = Some x.source
-gives d v = None
-
 none_up : (d : Direction) (b : ℕ) (v : Value) → gives d v ≡ None → IsUpTo d b v
 none_up d b v none = grind arith
 
@@ -124,43 +115,17 @@ some_new d v r t given unused = grind arith
 pub above_unused : (d : Direction) (b r : ℕ) (t : Sessions) → AreUpTo d b t → b < r → IsUnused d r t
 above_unused d b r t up less = grind arith
 
--- the references of the units that wait are above this one, and rise
-abbrev pub WaitAbove : Direction → ℕ → Whole → Type 0
-WaitAbove Left b w = crs.AreAbove b w
-WaitAbove Right b w = ccs.AreAboveAt b w
-
-above_along : (d : Direction) (b : ℕ) (events : List Event) (old new : Whole) → HappenAlong (way_of d) old events new →
-    WaitAbove d b old → WaitAbove d b new
-above_along Left b events old new along a = crs.above_along b events old new along a
-above_along Right b events old new along a = ccs.above_along b events old new along a
-
--- the next of them passes
-above_passes : (d : Direction) (b r : ℕ) (v : Value) (put : List Value) (w next : Whole) → gives d v ≡ Some r → w.put ≡ v ∷ put →
-    next.put ≡ put → next.end ≡ w.end → WaitAbove d b w → (b < r) × WaitAbove d r next
-above_passes Left b r (request x) put w next given is same end a =
-    let k = crs.passes_asked b x put w next is same end a in
-    subst (λ (n : ℕ). (b < n) × WaitAbove Left n next) (same_one x.source r given) (k.new_is, k.above)
-above_passes Right b r (confirm m x) put w next given is same end a =
-    let (less, above) = ccs.passes_confirmed b m x put w is a in
-    subst (λ (n : ℕ). (b < n) × WaitAbove Right n next) (same_one x.source r given) (
-      less,
-      subst (λ (l : List Value). RiseAbove next.end.given x.source l) (sym same)
-          (subst (λ (e : Carrier). RiseAbove e.given x.source put) (sym end) above),
-    )
-above_passes d b r v put w next given is same end a = grind arith
-
 -- ---- an end and a judge
 
 -- All references at the judge are up to this one, and those of the units that have not passed are above it.
 pub record IsAhead (d : Direction) (first : Whole) (j : Joint) : Type 0 where
   pub followed : IsFollowed d first j
   pub bound : ℕ
-  pub above : WaitAbove d bound followed.whole
+  pub above : AreAbove d bound followed.whole
   pub below : AreUpTo d bound j.course.sessions
 
-first_above : (d : Direction) (local : Local) → WaitAbove d 0 (wholes.begin (calls_from d) local)
-first_above Left local = record { rise = tt; up = tt; given = omega arith }
-first_above Right local = omega arith
+first_above : (d : Direction) (local : Local) → AreAbove d 0 (wholes.begin (calls_from d) local)
+first_above d local = record { rise = tt; up = tt; given = omega arith }
 
 pub first_ahead : (d : Direction) (local : Local) (h : Holding) → IsFresh (calls_from d) local h →
     IsAhead d (wholes.begin (calls_from d) local) (begin h)
@@ -201,17 +166,15 @@ module _ (d : Direction) (first : Whole) where
     judge = f.judge;
     coming = f.coming;
     like = f.like;
-    can = f.can;
-    links = f.links;
   }
 
   -- ---- each step
 
-  goes_on : AllProper → (step : Step) (old new : Joint) → Steps d step old new → (h : IsAhead d first old) →
+  goes_on : (step : Step) (old new : Joint) → Steps d step old new → (h : IsAhead d first old) →
       AreUpTo d h.bound new.course.sessions → GoesOn d first h.bound new
-  goes_on proper step old new does h up =
+  goes_on step old new does h up =
       let f = h.followed in
-      let g : IsFollowed d f.whole new = step_followed d f.whole proper step old new does (from_here old f) in
+      let g : IsFollowed d f.whole new = step_followed d f.whole step old new does (from_here old f) in
       let ahead : IsAhead d first new = record {
         followed = record {
           whole = g.whole;
@@ -222,8 +185,6 @@ module _ (d : Direction) (first : Whole) where
           judge = g.judge;
           coming = g.coming;
           like = g.like;
-          can = g.can;
-          links = g.links;
         };
         bound = h.bound;
         above = above_along d h.bound g.events f.whole g.whole g.along h.above;
@@ -232,28 +193,28 @@ module _ (d : Direction) (first : Whole) where
       record { ahead = ahead; rises = omega arith }
 
   -- a turn leaves all references at the judge
-  pub turns_ahead : AllProper → (turn : Turn) (old new : Joint) → (t : TakesTurn turn old new) → (h : IsAhead d first old) →
+  pub turns_ahead : (turn : Turn) (old new : Joint) → (t : TakesTurn turn old new) → (h : IsAhead d first old) →
       GoesOn d first h.bound new
-  turns_ahead proper turn old new t h =
-      goes_on proper (turns turn) old new t h (subst (λ (c : Course). AreUpTo d h.bound c.sessions) (sym t.course) h.below)
+  turns_ahead turn old new t h =
+      goes_on (turns turn) old new t h (subst (λ (c : Course). AreUpTo d h.bound c.sessions) (sym t.course) h.below)
 
-  pub begins_own_ahead : AllProper → (old new : Joint) → Steps d begins_own old new → (h : IsAhead d first old) →
+  pub begins_own_ahead : (old new : Joint) → Steps d begins_own old new → (h : IsAhead d first old) →
       GoesOn d first h.bound new
-  begins_own_ahead proper old new step h =
-      goes_on proper begins_own old new step h
+  begins_own_ahead old new step h =
+      goes_on begins_own old new step h
       (subst (λ (j : Joint). AreUpTo d h.bound j.course.sessions) (sym step.2) (begins_up d d h.bound old.course.sessions h.below))
 
-  pub begins_other_ahead : AllProper → (old new : Joint) → Steps d begins_other old new → (h : IsAhead d first old) →
+  pub begins_other_ahead : (old new : Joint) → Steps d begins_other old new → (h : IsAhead d first old) →
       GoesOn d first h.bound new
-  begins_other_ahead proper old new step h =
-      goes_on proper begins_other old new step h
+  begins_other_ahead old new step h =
+      goes_on begins_other old new step h
       (subst (λ (j : Joint). AreUpTo d h.bound j.course.sessions) (sym step) (begins_up d (other d) h.bound old.course.sessions h.below))
 
   -- the units of the other side give no reference
-  pub passes_other_ahead : AllProper → (at : ℕ) (packet : List ℕ) (units : List Value) (old new : Joint) →
+  pub passes_other_ahead : (at : ℕ) (packet : List ℕ) (units : List Value) (old new : Joint) →
       Steps d (passes_other at packet units) old new → (h : IsAhead d first old) → AreUpTo d h.bound new.course.sessions →
       GoesOn d first h.bound new
-  passes_other_ahead proper at packet units old new step h up = goes_on proper (passes_other at packet units) old new step h up
+  passes_other_ahead at packet units old new step h up = goes_on (passes_other at packet units) old new step h up
 
   pub other_up : (at b : ℕ) (packet : List ℕ) (units : List Value) (old new : Joint) → Steps d (passes_other at packet units) old new →
       HaveSamePlaces old.course.traffic.connections old.course.sessions.live → AllByRecursion (IsUpTo d b) units →
@@ -269,7 +230,7 @@ module _ (d : Direction) (first : Whole) where
   passes_above at v r given old new (read, octets, put, begun, is) h =
       let w = h.followed.whole in
       let s : h.followed.whole.put ≡ v ∷ new.put = h.followed.put ∙ put in
-      (above_passes d h.bound r v new.put w (record w { put = new.put }) given s refl refl h.above).0
+      (passes_given d h.bound r v new.put w (record w { put = new.put }) given s refl refl h.above).new_is
 
   pub gives_new : (at : ℕ) (v : Value) (old new : Joint) → Steps d (passes_own at v) old new → IsAhead d first old →
       GivesNew d v old.course.sessions
@@ -287,7 +248,8 @@ module _ (d : Direction) (first : Whole) where
       let f = h.followed in
       let s : f.whole.put ≡ v ∷ new.put = f.put ∙ put in
       let next : Whole = record f.whole { put = new.put; begun = false; judge = (takes (way_of d) v f.whole.judge).state } in
-      let (less, above) = above_passes d h.bound r v new.put f.whole next given s refl refl h.above in
+      let k = passes_given d h.bound r v new.put f.whole next given s refl refl h.above in
+      let less = k.new_is in
       let mid : Joint = record old { put = new.put; begun = false; course = units_pass d at (v ∷ []) old.course } in
       let ahead : IsAhead d first mid = record {
         followed = record {
@@ -300,31 +262,29 @@ module _ (d : Direction) (first : Whole) where
           judge = ap (λ (t : State). (takes (way_of d) v t).state) f.judge ∙ sym (unit_knows d at v old.course);
           coming = f.coming;
           like = f.like;
-          can = (subst (AllByRecursion CanBeWritten) s f.can).1;
-          links = f.links;
         };
         bound = r;
-        above = above;
+        above = k.above;
         below = unit_up d d r at v old.course places (some_up d r r v given (omega (arith, less)) (omega arith))
             (up_higher d h.bound r old.course.sessions (omega (arith, less)) h.below);
       } in
       subst (GivesHighest d first h.bound r) (sym is) (record { higher = less; ahead = ahead; bound = refl })
 
-  passes_another : AllProper → (at : ℕ) (v : Value) (old new : Joint) → Steps d (passes_own at v) old new →
+  passes_another : (at : ℕ) (v : Value) (old new : Joint) → Steps d (passes_own at v) old new →
       HaveSamePlaces old.course.traffic.connections old.course.sessions.live → (h : IsAhead d first old) → gives d v ≡ None →
       PassesOn d first h.bound v new
-  passes_another proper at v old new step places h none =
-      let g = goes_on proper (passes_own at v) old new step h
+  passes_another at v old new step places h none =
+      let g = goes_on (passes_own at v) old new step h
       (subst (λ (j : Joint). AreUpTo d h.bound j.course.sessions) (sym step.4)
       (unit_up d d h.bound at v old.course places (none_up d h.bound v none) h.below)) in
       record { on = g; up = none_up d g.ahead.bound v none }
 
-  pub passes_own_ahead : AllProper → (at : ℕ) (v : Value) (old new : Joint) → Steps d (passes_own at v) old new →
+  pub passes_own_ahead : (at : ℕ) (v : Value) (old new : Joint) → Steps d (passes_own at v) old new →
       HaveSamePlaces old.course.traffic.connections old.course.sessions.live → (h : IsAhead d first old) → PassesOn d first h.bound v new
-  passes_own_ahead proper at v old new step places h = by (gives d v) refl
+  passes_own_ahead at v old new step places h = by (gives d v) refl
     where
       by : (o : Option ℕ) → gives d v ≡ o → PassesOn d first h.bound v new
-      by None none = passes_another proper at v old new step places h none
+      by None none = passes_another at v old new step places h none
       by (Some r) given =
           let k = passes_highest at v r given old new step places h in
           let less = k.higher in

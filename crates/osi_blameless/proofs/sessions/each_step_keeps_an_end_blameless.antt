@@ -5,7 +5,7 @@ use Rattle.osi_blameless.proofs.sessions.steps_of_either_class_leave_all_standin
 use Rattle.osi_blameless.proofs.Vocabulary.{◌≡◌, ◌∙◌, ◌⊎◌, inl, inr, refl, sym, ap, subst, ℕ, ◌^◌, ◌<◌, false, Ok, List, [], ◌∷◌, ◌++◌}
 use Rattle.osi_blameless.proofs.Vocabulary.{length, Option, Some, append_assoc, append-nil, arith, slice_get, IsOctets, units_of, Value}
 use Rattle.osi_blameless.proofs.Vocabulary.{Class, Local, Capture, other, Direction, Finding, is_applied, reach_of, class_for, takes}
-use Rattle.osi_blameless.proofs.Vocabulary.{stops_last, Holding, Deeds, all_did, no_deeds, IsFresh, Turn, AllProper, Joined, spoken, heard}
+use Rattle.osi_blameless.proofs.Vocabulary.{stops_last, Holding, Deeds, all_did, no_deeds, IsFresh, Turn, Joined, spoken, heard}
 use Rattle.osi_blameless.proofs.Vocabulary.{unit_passes, units_pass, way_of, comes_to, Joint, Step, Steps, StepsAlong, TakesTurn, begin}
 use Rattle.osi_blameless.proofs.Vocabulary.{begins_other, begins_own, passes_other, passes_own, turns, TurnsBad, calls_from}
 use Rattle.osi_rules.specs.declared.findings.Reach.TheVariants as reach
@@ -77,13 +77,13 @@ pub data Comes (barred : Class) (d : Direction) (Rest : Joint → Type 0) (at : 
   is_done : IsDone d (unit_passes (other d) at v c) → Comes barred d Rest at v c new
   is_rest : Rest new → Comes barred d Rest at v c new
 
-module _ (proper : AllProper) (barred : Class) (d : Direction) (local : Local) (Inv : (ℕ → Deeds) → Joint → Type 0)
+module _ (barred : Class) (d : Direction) (local : Local) (Inv : (ℕ → Deeds) → Joint → Type 0)
     (k : Keeps barred d local Inv) (Rest : Joint → Type 0) where
   abbrev first : wholes.Whole
   first = wholes.begin (calls_from d) local
 
   abbrev pub Judging : (ℕ → Deeds) → Joint → Type 0
-  Judging deeds j = Goes proper barred d local Inv k deeds j
+  Judging deeds j = Goes barred d local Inv k deeds j
 
   -- It holds from such a unit on; and each step keeps it.
   pub record RestsSo : Type 0 where
@@ -116,7 +116,7 @@ module _ (proper : AllProper) (barred : Class) (d : Direction) (local : Local) (
         then_rests : Rest new → Passing
 
       followed : IsFollowed d first new
-      followed = step_followed d first proper (passes_other at octets units) old new (all, read, refl) g.followed
+      followed = step_followed d first (passes_other at octets units) old new (all, read, refl) g.followed
 
       module _ (front back : List Value) (v : Value) (is : units ≡ front ++ v ∷ back) (so : SoFar barred d at front old.course) where
         abbrev next : Passed
@@ -184,7 +184,7 @@ module _ (proper : AllProper) (barred : Class) (d : Direction) (local : Local) (
 
       other_by : Passing → Stays deeds new
       other_by (all_taken so) =
-          goes (other_goes proper barred d local Inv k deeds at octets units old new
+          goes (other_goes barred d local Inv k deeds at octets units old new
           (all, read, refl) g so.passed so.not so.judged so.never)
       other_by (then_done s) = ended s
       other_by (then_rests r) = rested r
@@ -204,7 +204,7 @@ module _ (proper : AllProper) (barred : Class) (d : Direction) (local : Local) (
 
         by : ((takes (way_of d) v old.course.traffic).told.reach ≡ reach.Nothing)
             ⊎ ((takes (way_of d) v old.course.traffic).told.reach ≡ reach.Everything) → Stays deeds new
-        by (inl far) = goes (own_goes proper barred d local Inv k deeds at v old new step g was_not not none far)
+        by (inl far) = goes (own_goes barred d local Inv k deeds at v old new step g was_not not none far)
         by (inr far) = ended (subst (λ (j : Joint). IsDone d j.course) (sym step.4) (all_done d d at v old.course far g.never))
 
     -- ---- each step
@@ -215,8 +215,8 @@ module _ (proper : AllProper) (barred : Class) (d : Direction) (local : Local) (
 
     turn_so : (turn : Turn) (old new : Joint) (t : TakesTurn turn old new) (deeds : ℕ → Deeds)
         (does : TurnDoes (calls_from d) deeds turn old new t) → Judging deeds old → IsWithout barred old.course →
-        Stays (all_did deeds does.of.on.more) new
-    turn_so turn old new t deeds does g within = goes (turn_goes proper barred d local Inv k turn old new t deeds does g within.not)
+        Stays (all_did deeds does.on.more) new
+    turn_so turn old new t deeds does g within = goes (turn_goes barred d local Inv k turn old new t deeds does g within.not)
 
     -- what passes
     judge_so : (step : Step) → IsOfJudge step → (old new : Joint) → Steps d step old new → IsWithout barred new.course →
@@ -224,9 +224,9 @@ module _ (proper : AllProper) (barred : Class) (d : Direction) (local : Local) (
     judge_so (turns turn) judge old new t within deeds g = absurd judge
     judge_so begins_own judge old new step within deeds g =
         let was = step_without barred d begins_own old new step within in
-        goes (own_begins_goes proper barred d local Inv k old new step (few_so deeds old g was) deeds g)
+        goes (own_begins_goes barred d local Inv k old new step (few_so deeds old g was) deeds g)
     judge_so begins_other judge old new step within deeds g =
-        goes (other_begins_goes proper barred d local Inv k old new step deeds g)
+        goes (other_begins_goes barred d local Inv k old new step deeds g)
     judge_so (passes_own at v) judge old new step within deeds g =
         own_so deeds at v old new step g (step_without barred d (passes_own at v) old new step within).not within.not
     judge_so (passes_other at octets units) judge old new (all, read, is) within deeds g =
@@ -259,8 +259,8 @@ module _ (proper : AllProper) (barred : Class) (d : Direction) (local : Local) (
     along_so [] deeds old new is does within s = (deeds, subst (Stays deeds) (sym is) s)
     along_so (turns turn ∷ steps) deeds old new (mid, t, more) (does, rest) within s =
         let now = along_within steps mid new more within in
-        along_so steps (all_did deeds does.of.on.more) mid new more rest within
-        (step_stays (turns turn) deeds (all_did deeds does.of.on.more) old mid t now
+        along_so steps (all_did deeds does.on.more) mid new more rest within
+        (step_stays (turns turn) deeds (all_did deeds does.on.more) old mid t now
         (λ g. turn_so turn old mid t deeds does g (subst (IsWithout barred) t.course now)) s)
     along_so (begins_own ∷ steps) deeds old new (mid, one, more) does within s =
         along_so steps deeds mid new more does within
@@ -289,7 +289,7 @@ module _ (proper : AllProper) (barred : Class) (d : Direction) (local : Local) (
     at_last h capture fresh comes within = (
       last,
       along_so comes.steps (λ r. no_deeds) (begin h) comes.last comes.along comes.does last
-          (goes (first_goes proper barred d local Inv k h fresh)),
+          (goes (first_goes barred d local Inv k h fresh)),
     )
       where
         from : ((comes_to capture).course ≡ comes.last.course) ⊎ TurnsBad d capture comes.last.course → IsWithout barred comes.last.course

@@ -1,14 +1,13 @@
 -- Each DT and each AK that a called end of class 2 puts in a turn is for a connection that the judge knows by its references and that this
 -- end has not closed there, or for one whose CC has not passed; each other unit is for none.
 -- For all connections of an end and a judge.
-use Rattle.osi_blameless.proofs.Vocabulary.{[], ap, append_assoc, false, List, None, Option, refl, Some, subst, sym, true, ℕ, ◌++◌}
-use Rattle.osi_blameless.proofs.Vocabulary.{◌∙◌, ◌∷◌, ◌≡◌, AllByRecursion, slice_get, confirm, Connect, disconnect, request, Value}
-use Rattle.osi_blameless.proofs.Vocabulary.{Standing, Local, value_at, linked, Carrier, is_open, is_refused, uses, silent_half}
-use Rattle.osi_blameless.proofs.Vocabulary.{Traffic as State, Connection, Phase, Left, Right, Answers, Begins, is_shut, Opens, opens}
-use Rattle.osi_blameless.proofs.Vocabulary.{Continues, Deeds, all_units, Marked, Turn, Joined, reference_of, Sessions, answering as answers}
-use Rattle.osi_blameless.proofs.Vocabulary.{Asked, Called, comes, refuses, runs, Untagged, Placed}
-use Rattle.osi_blameless.proofs.Vocabulary.{values, open_link, ◌<◌, Whole, Joint, TakesTurn, HaveSamePlaces, named_by}
-use Rattle.osi_blameless.proofs.Vocabulary.{arith, each_sound, AreApart, differ}
+use Rattle.osi_blameless.proofs.Vocabulary.{[], ap, append_assoc, false, List, None, Option, refl, Some, subst, sym, true, ℕ, ◌++◌, ◌∙◌}
+use Rattle.osi_blameless.proofs.Vocabulary.{◌∷◌, ◌≡◌, AllByRecursion, slice_get, confirm, Connect, disconnect, request, Value, Standing}
+use Rattle.osi_blameless.proofs.Vocabulary.{Local, value_at, linked, Carrier, is_open, is_refused, uses, silent_half, Traffic as State}
+use Rattle.osi_blameless.proofs.Vocabulary.{Connection, Phase, Left, Right, Answers, Begins, is_shut, Opens, opens, Continues, Deeds}
+use Rattle.osi_blameless.proofs.Vocabulary.{all_units, Marked, Turn, Joined, reference_of, Sessions, answering as answers, Asked, Called}
+use Rattle.osi_blameless.proofs.Vocabulary.{comes, refuses, runs, Untagged, Placed, values, open_link, ◌<◌, Whole, Joint, TakesTurn}
+use Rattle.osi_blameless.proofs.Vocabulary.{HaveSamePlaces, named_by, arith, each_sound, AreApart, differ}
 use Rattle.osi_rules.specs.declared.directions.Direction.TheVariants as way
 use Rattle.osi_fair.specs.Wholes.{begin}
 use Rattle.osi_fair.proofs.each_connection_of_a_called_end.{Row, past}

@@ -5,10 +5,10 @@ use Rattle.osi_blameless.proofs.Vocabulary.{[], ap, append_assoc, arith, Bool, f
 use Rattle.osi_blameless.proofs.Vocabulary.{sym, true, ℕ, ◌++◌, ◌<◌, ◌==◌, ◌∙◌, ◌∷◌, ◌≡◌, eq-eqb, AllByRecursion, slice_get, confirm}
 use Rattle.osi_blameless.proofs.Vocabulary.{Connect, disconnect, request, Value, Standing, Local, value_at, closing, Live}
 use Rattle.osi_blameless.proofs.Vocabulary.{linked, Carrier, has_given, Traffic as State, Connection, Left, amid, early, Life, opens_by}
-use Rattle.osi_blameless.proofs.Vocabulary.{past, Time as Stage, stage_at, stays, all_units_more, Opens, Continues, Deeds, all_units}
+use Rattle.osi_blameless.proofs.Vocabulary.{past, Time as Stage, stage_at, stays, all_units_more, Opens, Deeds, all_units}
 use Rattle.osi_blameless.proofs.Vocabulary.{Marked, Turn, Sessions, Followed, is_tracked, IsOwned, Row, Tracked, each_picked, first_kept}
 use Rattle.osi_blameless.proofs.Vocabulary.{is_dc, IsDc, IsOngoing, names, those, those_join, Line, Whole, Joint, TakesTurn, HaveSamePlaces}
-use Rattle.osi_blameless.proofs.Vocabulary.{AreGiven, AreApart, BeforeOpen, WhileOpen, stage_by, Awaiting, FirstOf, HasNoCc, asked_so, goes}
+use Rattle.osi_blameless.proofs.Vocabulary.{AreGiven, AreApart, BeforeOpen, WhileOpen, stage_by, Awaiting, HasNoCc, asked_so, goes}
 use Rattle.osi_blameless.proofs.Vocabulary.{le-leb, lt-ltb, awaits}
 use Rattle.osi_carrier.specs.State.{asked}
 use Rattle.osi_fair.specs.Wholes.{begin}
@@ -20,9 +20,11 @@ use Rattle.osi_blameless.proofs.sessions.a_turn_does_what_its_deeds_say.{turn_us
 use Rattle.osi_blameless.proofs.sessions.a_whole_end_runs_along.{whole_followed}
 use Rattle.osi_blameless.proofs.sessions.connections_have_the_same_places.{at_same}
 use Rattle.osi_blameless.proofs.sessions.each_unit_of_a_turn_has_one_connection.{HasHome, IsMarked, known}
-use Rattle.osi_blameless.proofs.sessions.nothing_is_done_before_a_cr_passes.{IsNotCc, same_units}
+use Rattle.osi_blameless.proofs.sessions.nothing_is_done_before_a_cr_passes.{IsNotCc}
+use Rattle.osi_blameless.proofs.small_facts_that_many_lemmas_use.{same_units}
 use Rattle.osi_blameless.proofs.sessions.what_a_turn_puts_goes_to_its_peer.{GoesTo, IsPutFor, all_so, goes_to, one_of, turn_puts}
 use Rattle.osi_blameless.proofs.sessions.what_a_turn_puts_goes_to_its_peer.{IsNotZero, turn_marked, whole_lasts}
+use Rattle.osi_blameless.proofs.what_the_turns_among_steps_do.{TurnDoes}
 
 -- ---- a connection that is open at the judge has a home there
 
@@ -111,10 +113,7 @@ linked_by false given (Some (linked q link)) peer is =
     amid_same m n e = cc
 
 module _ (local : Local) (two : local.class2 ≡ true) (deeds : ℕ → Deeds) (turn : Turn) (old new : Joint) (step : TakesTurn turn old new)
-    (on : Continues true deeds old.holding turn new.holding) (units : step.units ≡ all_units on.put)
-    (life : (r : ℕ) → 0 < r → Life true r (stage_at r old.holding.end.carrier) on.took on.put (stage_at r new.holding.end.carrier))
-    (opening : (r : ℕ) → 0 < r → FirstOf true r old.holding.end.carrier on.took on.put new.holding.end.carrier)
-    (f : IsFollowed Left (begin true local) old)
+    (does : TurnDoes true deeds turn old new step) (f : IsFollowed Left (begin true local) old)
     (g : IsFollowed Left (begin true local) new) (clear : IsOngoing old.course.traffic.course)
     (places : HaveSamePlaces old.course.traffic.connections old.course.sessions.live) where
   abbrev s : State
@@ -127,7 +126,7 @@ module _ (local : Local) (two : local.class2 ≡ true) (deeds : ℕ → Deeds) (
   carrier = old.holding.end.carrier
 
   abbrev IsPut : ℕ → Type 0
-  IsPut q = IsPutFor Left true (begin true local) deeds turn old new step on f q f.whole.judge t
+  IsPut q = IsPutFor Left true (begin true local) deeds turn old new step does.on f q f.whole.judge t
 
   followed : Followed local f.whole
   followed = whole_followed local two old f clear
@@ -135,32 +134,32 @@ module _ (local : Local) (two : local.class2 ≡ true) (deeds : ℕ → Deeds) (
   places_so : HaveSamePlaces f.whole.judge.connections t.live
   places_so = subst (λ (x : State). HaveSamePlaces x.connections t.live) (sym f.judge) places
 
-  no_zero : AllByRecursion IsNotZero (all_units on.put)
+  no_zero : AllByRecursion IsNotZero (all_units does.on.put)
   no_zero =
       let all = (whole_followed local two new g (subst (λ (c : Passed). IsOngoing c.traffic.course) (sym step.course) clear)).owned in
-      turn_puts Left (begin true local) turn old new step (all_units on.put) units g IsNotZero
+      turn_puts Left (begin true local) turn old new step (all_units does.on.put) does.units g IsNotZero
       (all_so (IsOwned g.whole.judge) IsNotZero (owned_two g.whole.judge) g.whole.put all)
 
   -- ---- the connection that a unit is put for
 
-  module _ (lasts : carrier.ended ≡ None) (q : ℕ) (positive : 0 < q) (some : AreApart q on.put → ⊥) where
+  module _ (lasts : carrier.ended ≡ None) (q : ℕ) (positive : 0 < q) (some : AreApart q does.on.put → ⊥) where
     wholes : f.whole.end.ended ≡ None
-    wholes = whole_lasts Left true (begin true local) deeds turn old new step on f lasts
+    wholes = whole_lasts Left true (begin true local) deeds turn old new step does.on f lasts
 
     -- what it put while it was open
     gives_so : (peer : ℕ) (before put_later later : List Marked) (t : Stage) (w : WhileOpen q peer later put_later t) → AreApart q before →
-        on.put ≡ before ++ put_later → AllByRecursion (GoesTo q peer) on.put
+        does.on.put ≡ before ++ put_later → AllByRecursion (GoesTo q peer) does.on.put
     gives_so peer before put_later later t w apart is =
-        goes_to q on.put peer (grind arith) w.gives
+        goes_to q does.on.put peer (grind arith) w.gives
 
     -- all that the end took, and what is left
-    comes_so : (front : List Marked) (unit : Value) (later : List Marked) → on.took ≡ front ++ (0, unit) ∷ later →
+    comes_so : (front : List Marked) (unit : Value) (later : List Marked) → does.on.took ≡ front ++ (0, unit) ∷ later →
         (rest : List Value) × (f.whole.coming ≡ all_units front ++ unit ∷ rest)
     comes_so front unit later is =
         grind (
           arith,
           append_assoc,
-          turn_uses turn old new step true deeds on lasts,
+          turn_uses turn old new step true deeds does.on lasts,
           same_units old.coming,
           all_units_more front ((0, unit) ∷ later),
         )
@@ -170,7 +169,7 @@ module _ (local : Local) (two : local.class2 ≡ true) (deeds : ℕ → Deeds) (
     units_not_cc (m ∷ front) h = (h.0, units_not_cc front h.1)
 
     opens_home : (peer : ℕ) (unit : Value) → Opens true q peer unit → (front later : List Marked) → HasNoCc q front →
-        on.took ≡ front ++ (0, unit) ∷ later → value_at q carrier.live ≡ Some asked → HasHome Left q peer f.whole.judge t
+        does.on.took ≡ front ++ (0, unit) ∷ later → value_at q carrier.live ≡ Some asked → HasHome Left q peer f.whole.judge t
     opens_home peer (confirm n x) (mine, theirs) front later none is waits =
         let (rest, come) = comes_so front (confirm n x) later is in
         subst (λ (k : ℕ). HasHome Left q k f.whole.judge t) theirs
@@ -181,7 +180,7 @@ module _ (local : Local) (two : local.class2 ≡ true) (deeds : ℕ → Deeds) (
     opens_home peer (disconnect n source reason user) o front later none is waits = absurd o
     opens_home peer _ o front later none is waits = absurd o
 
-    by_opening : (given : Bool) (u : Stage) → value_at q carrier.live ≡ Some asked → Awaiting true q on.took on.put given u → IsPut q
+    by_opening : (given : Bool) (u : Stage) → value_at q carrier.live ≡ Some asked → Awaiting true q does.on.took does.on.put given u → IsPut q
     by_opening given u waits (awaits a b none has is) = absurd (some b)
     by_opening given u waits (goes a b is) = absurd (some b)
     by_opening given u waits (opens_so peer unit o front later apart none is others answer put_later apart_too no_answer ans so w) =
@@ -195,7 +194,7 @@ module _ (local : Local) (two : local.class2 ≡ true) (deeds : ℕ → Deeds) (
 
     -- no CC has come for a reference that was not given
     not_given : {A : Type 0} (peer : ℕ) (unit : Value) → Opens true q peer unit → (front later : List Marked) →
-        on.took ≡ front ++ (0, unit) ∷ later → has_given q carrier ≡ false → A
+        does.on.took ≡ front ++ (0, unit) ∷ later → has_given q carrier ≡ false → A
     not_given peer (confirm n x) (mine, theirs) front later is free =
         let (rest, come) = comes_so front (confirm n x) later is in
         let few = one_of (AreGiven f.whole.end.given) (all_units front) rest (confirm n x)
@@ -206,18 +205,18 @@ module _ (local : Local) (two : local.class2 ≡ true) (deeds : ℕ → Deeds) (
     not_given peer (disconnect n source reason user) o front later is free = absurd o
     not_given peer _ o front later is free = absurd o
 
-    by_free : (u : Stage) → has_given q carrier ≡ false → BeforeOpen true q on.took on.put u → IsPut q
+    by_free : (u : Stage) → has_given q carrier ≡ false → BeforeOpen true q does.on.took does.on.put u → IsPut q
     by_free u free (stays a b is) = absurd (some b)
     by_free u free (opens_by peer unit o front later apart is others answer put_later apart_too no_answer ans so w) =
         not_given peer unit o front later is free
 
-    by_stage : (x : Stage) → stage_at q carrier ≡ x → Life true q x on.took on.put (stage_at q new.holding.end.carrier) → IsPut q
+    by_stage : (x : Stage) → stage_at q carrier ≡ x → Life true q x does.on.took does.on.put (stage_at q new.holding.end.carrier) → IsPut q
     by_stage past is w = absurd (some w.none_put)
     by_stage (amid peer) is w =
         let (link, here) = linked_by (is_some carrier.ended) (has_given q carrier) (value_at q carrier.live) peer is in
         record {
           peer = peer;
-          goes = gives_so peer [] on.put on.took (stage_at q new.holding.end.carrier) w tt refl;
+          goes = gives_so peer [] does.on.put does.on.took (stage_at q new.holding.end.carrier) w tt refl;
           homed = known (linked_home local f.whole t followed places_so wholes q peer link ((grind (arith, wholes)) ∙ here));
         }
     by_stage early is w = by (has_given q carrier) refl
@@ -225,12 +224,12 @@ module _ (local : Local) (two : local.class2 ≡ true) (deeds : ℕ → Deeds) (
         by : (b : Bool) → has_given q carrier ≡ b → IsPut q
         by true has =
             by_opening (has_given q new.holding.end.carrier) (stage_at q new.holding.end.carrier) (asked_so q carrier has is).1
-            (opening q positive has is)
+            (does.first q positive has is)
         by false free = by_free (stage_at q new.holding.end.carrier) free w
 
     is_put : IsPut q
-    is_put = by_stage (stage_at q carrier) refl (life q positive)
+    is_put = by_stage (stage_at q carrier) refl (does.life q positive)
 
-  pub calling_marked : AllByRecursion (IsMarked Left s t) on.put
+  pub calling_marked : AllByRecursion (IsMarked Left s t) does.on.put
   calling_marked =
-      turn_marked Left true (begin true local) deeds turn old new step on f s t no_zero (grind (arith, is_put, goes))
+      turn_marked Left true (begin true local) deeds turn old new step does.on f s t no_zero (grind (arith, is_put, goes))

@@ -52,12 +52,12 @@ module _ (known : Known) (laws : SessionLaws) (local : Local) (capture : Capture
   in_zero : (d : Direction) → NeverIf d (selected ≡ Some Zero)
   in_zero d begin fresh comes few zero =
       by_class_0 d zero
-      (ends_well known d local (StandsUntilTwo d local) (keeps_until_two local known.proper laws d)
+      (ends_well known d local (StandsUntilTwo d local) (keeps_until_two local laws d)
       (begun_until_two d local) begin capture fresh comes (record { not = λ two. zero_two selected zero two; few = few }))
 
   without : (d : Direction) → NeverIf d (selected ≡ Some Zero → ⊥)
   without d begin fresh comes few not =
-      never_to_blame known.proper d local (UnlessZero d local) (keeps_unless_zero local known.proper laws d) begin
+      never_to_blame d local (UnlessZero d local) (keeps_unless_zero local laws d) begin
       capture fresh comes (record { not = not; few = few })
 
   -- ---- so an end is blameless
@@ -68,6 +68,6 @@ module _ (known : Known) (laws : SessionLaws) (local : Local) (capture : Capture
       let comes = capture_steps known d (calls_from d) local begin end turns capture fresh run octets seen in
       record {
         never = zero_by selected (in_zero d begin fresh comes few) (without d begin fresh comes few);
-        transport = capture_unblamed d capture (always_unbroken d known.proper local begin capture fresh
+        transport = capture_unblamed d capture (always_unbroken d local begin capture fresh
             (comes_by_steps d (calls_from d) capture begin comes));
       }

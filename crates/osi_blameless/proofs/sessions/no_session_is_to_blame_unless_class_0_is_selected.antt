@@ -2,7 +2,7 @@
 -- stands also after a connection of class 2 has lost its judgement.
 -- For the law that no session of an end is to blame after a break.
 use Rattle.osi_blameless.proofs.Vocabulary.{◌≡◌, ◌∙◌, ◌⊎◌, inl, inr, refl, sym, subst, ℕ, List, arith, [], Option, Value, Class, Zero}
-use Rattle.osi_blameless.proofs.Vocabulary.{Local, Capture, other, Direction, Reach, class_for, takes, Deeds, Holding, IsFresh, AllProper}
+use Rattle.osi_blameless.proofs.Vocabulary.{Local, Capture, other, Direction, Reach, class_for, takes, Deeds, Holding, IsFresh}
 use Rattle.osi_blameless.proofs.Vocabulary.{Cause, units_pass, unread, way_of, comes_to, Joint, Step, calls_from, LaterAlong, spoilt, Some}
 use Rattle.osi_rules.specs.declared.findings.Reach.TheVariants as reach
 use Rattle.osi_fair.specs.Pieces.{units_in}
@@ -22,7 +22,7 @@ use Rattle.osi_blameless.proofs.sessions.what_is_asked_of_what_holds_at_each_ste
 abbrev NoRest : Joint → Type 0
 NoRest j = ⊥
 
-module _ (proper : AllProper) (d : Direction) (local : Local) (Inv : (ℕ → Deeds) → Joint → Type 0) (k : Keeps Zero d local Inv) where
+module _ (d : Direction) (local : Local) (Inv : (ℕ → Deeds) → Joint → Type 0) (k : Keeps Zero d local Inv) where
   -- ---- a unit of the other side
 
   module _ (at : ℕ) (front : List Value) (v : Value) (old : Passed) (so : SoFar Zero d at front old) (new : Joint) where
@@ -51,7 +51,7 @@ module _ (proper : AllProper) (d : Direction) (local : Local) (Inv : (ℕ → De
     one_by reach.Side far = absurd (so.not (side_known (other d) at v c far (so.sure.agrees Zero)))
     one_by reach.Everything far = is_done (all_done d (other d) at v c far so.never)
 
-  so_rests : RestsSo proper Zero d local Inv k NoRest
+  so_rests : RestsSo Zero d local Inv k NoRest
   so_rests = record {
     unit = λ deeds old g at octets front back v all read so followed.
         one_by at front v old.course so _ (takes (way_of (other d)) v (units_pass (other d) at front old.course).traffic).told.reach refl;
@@ -61,7 +61,7 @@ module _ (proper : AllProper) (d : Direction) (local : Local) (Inv : (ℕ → De
   -- ---- the capture
 
   abbrev StoodAt : Joint → Type 0
-  StoodAt j = Stood proper Zero d local Inv k NoRest so_rests j
+  StoodAt j = Stood Zero d local Inv k NoRest so_rests j
 
   never_so : (j : Joint) → StoodAt j → NeverToBlame d j.course
   never_so j (deeds, goes g) = g.never
@@ -96,7 +96,7 @@ module _ (proper : AllProper) (d : Direction) (local : Local) (Inv : (ℕ → De
   never_to_blame h capture fresh comes within = by comes.on
     where
       last : IsWithout Zero comes.last.course × StoodAt comes.last
-      last = at_last proper Zero d local Inv k NoRest so_rests h capture fresh comes within
+      last = at_last Zero d local Inv k NoRest so_rests h capture fresh comes within
 
       by : ((comes_to capture).course ≡ comes.last.course) ⊎ GoesOn d capture comes.last → NeverToBlame d (comes_to capture).course
       by (inl is) = subst (NeverToBlame d) (sym is) (never_so comes.last last.1)

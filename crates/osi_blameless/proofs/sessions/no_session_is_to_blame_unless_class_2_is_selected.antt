@@ -49,7 +49,7 @@ not_many closed many = let no : Broke rule.Closed ≡ TooMany = sym closed ∙ m
 module _ (known : Known) (d : Direction) (local : Local) (Inv : (ℕ → Deeds) → Joint → Type 0)
     (k : Keeps Two d local Inv) (has_begun : HasBegun d Inv) where
   abbrev Judging : (ℕ → Deeds) → Joint → Type 0
-  Judging deeds j = Goes known.proper Two d local Inv k deeds j
+  Judging deeds j = Goes Two d local Inv k deeds j
 
   -- it goes on as if no break had come
   abbrev GoesWithout : Bool → Joint → Type 0
@@ -144,7 +144,7 @@ module _ (known : Known) (d : Direction) (local : Local) (Inv : (ℕ → Deeds) 
       (λ no. absurd (let n : false ≡ true = no in cc)) few a in
       inr (now, never_alone known d local Inv k has_begun false step old new later a now never)
 
-  so_rests : RestsSo known.proper Two d local Inv k Rest
+  so_rests : RestsSo Two d local Inv k Rest
   so_rests = record {
     unit = λ deeds old g at octets front back v all read so followed. one deeds old g at octets front back v all read so followed;
     step = rest_step;
@@ -157,7 +157,7 @@ module _ (known : Known) (d : Direction) (local : Local) (Inv : (ℕ → Deeds) 
   EndsWell c = NeverToBlame d c ⊎ IsLoose c
 
   abbrev StoodAt : Joint → Type 0
-  StoodAt j = Stood known.proper Two d local Inv k Rest so_rests j
+  StoodAt j = Stood Two d local Inv k Rest so_rests j
 
   ends_so : (j : Joint) → StoodAt j → EndsWell j.course
   ends_so j (deeds, goes g) = inl g.never
@@ -211,7 +211,7 @@ module _ (known : Known) (d : Direction) (local : Local) (Inv : (ℕ → Deeds) 
   ends_well h capture fresh comes within = by comes.on
     where
       last : IsWithout Two comes.last.course × StoodAt comes.last
-      last = at_last known.proper Two d local Inv k Rest so_rests h capture fresh comes within
+      last = at_last Two d local Inv k Rest so_rests h capture fresh comes within
 
       by : ((comes_to capture).course ≡ comes.last.course) ⊎ GoesOn d capture comes.last → EndsWell (comes_to capture).course
       by (inl is) = subst EndsWell (sym is) (ends_so comes.last last.1)

@@ -3,8 +3,7 @@
 use Rattle.osi_blameless.proofs.Vocabulary.{arith, ◌≡◌, ◌∙◌, refl, sym, ap, subst, ℕ, Bool, true, List, [], ◌∷◌, ◌++◌, Some, append_assoc}
 use Rattle.osi_blameless.proofs.Vocabulary.{AllByRecursion, append-nil, HasFieldsInRange, Value, acknowledge, confirm, data0, data2}
 use Rattle.osi_blameless.proofs.Vocabulary.{disconnect, disconnected, error, Connect, request, Local, Left, Right, is_applied, State, takes}
-use Rattle.osi_blameless.proofs.Vocabulary.{Whole, next_joined, IsOwned, IsOngoing, Deeds, CanBeWritten, Course, unit_passes, units_pass}
-use Rattle.osi_blameless.proofs.Vocabulary.{HaveSamePlaces}
+use Rattle.osi_blameless.proofs.Vocabulary.{Whole, next_joined, IsOwned, IsOngoing, Deeds, Course, unit_passes, units_pass, HaveSamePlaces}
 use Rattle.osi_rules.specs.declared.directions.Direction.TheVariants as way
 use Rattle.osi_fair.specs.Wholes as wholes
 use Rattle.osi_fair.proofs.a_calling_end_is_fair_in_class_2.{Joined as Follows}
@@ -42,7 +41,7 @@ pub record IsBehind (local : Local) (put : List Value) (c : Course) : Type 0 whe
   pub judge : whole.judge ≡ c.traffic
   pub same : whole.put ≡ put
 
-module _ (local : Local) (put : List Value) (can : AllByRecursion CanBeWritten put) where
+module _ (local : Local) (put : List Value) where
   -- no unit waits for the reference that a CC gives
   cc_heard : (n : ℕ) (x : Connect) (c : Course) → IsHeardOn Left (confirm n x) c → IsBehind local put c →
       HaveSamePlaces c.traffic.connections c.sessions.live →

@@ -1,15 +1,14 @@
 -- Nothing is done at a connection of a calling end before its CR has passed; and then the CR may pass.
 -- For all connections of an end and a judge.
 use Rattle.osi_blameless.proofs.Vocabulary.{◌≡◌, ◌∙◌, refl, sym, ap, subst, ℕ, ◌<◌, ◌≤◌, Bool, true, false, List, [], ◌∷◌, ◌++◌, Option}
-use Rattle.osi_blameless.proofs.Vocabulary.{Some, None, arith, inl, inr, is_some, ◌⊎◌, le-leb, lt-ltb, AllByRecursion, units_of, Connect}
+use Rattle.osi_blameless.proofs.Vocabulary.{Some, None, arith, inl, inr, is_some, ◌⊎◌, le-leb, lt-ltb, AllByRecursion, Connect}
 use Rattle.osi_blameless.proofs.Vocabulary.{Value, acknowledge, confirm, data0, data2, destination_of, disconnect, disconnected, error}
 use Rattle.osi_blameless.proofs.Vocabulary.{request, Local, EndReason, Left, State, Whole, AreGiven, Followed, IsAnswer, IsAsking, Tracked}
-use Rattle.osi_blameless.proofs.Vocabulary.{IsDc, is_dc, first_kept, first_left, names, picked_rest, those, AreApart, Opens, Continues}
+use Rattle.osi_blameless.proofs.Vocabulary.{IsDc, is_dc, first_kept, first_left, names, picked_rest, those, AreApart, Opens}
 use Rattle.osi_blameless.proofs.Vocabulary.{Deeds, then_did, units_in, units_taken, Marked, all_units, units_at, Turn, Life, amid, early}
 use Rattle.osi_blameless.proofs.Vocabulary.{opens_by, past, stage_at, stage_over, stays, asked_so, taken_more, has_given, Sessions, Joint}
 use Rattle.osi_blameless.proofs.Vocabulary.{TakesTurn, HaveSamePlaces}
 use Rattle.osi_carrier.specs.State.{State as Carrier}
-use Rattle.osi_fair.specs.Pieces as pieces
 use Rattle.osi_honest.proofs.courses.how_long_a_connection_is_open.{Stage}
 use Rattle.osi_blameless.proofs.a_carrier_does_events.{none_of}
 use Rattle.osi_blameless.proofs.steps_are_events.{IsFollowed}
@@ -21,6 +20,8 @@ use Rattle.osi_blameless.proofs.sessions.what_is_left_for_an_end.{known_left, le
 use Rattle.osi_blameless.proofs.sessions.what_passes_leaves_all_standing.{IsReady}
 use Rattle.osi_blameless.proofs.sessions.what_stands_of_a_connection.{Known, is_for, waiting_for}
 use Rattle.osi_blameless.proofs.small_facts_that_many_lemmas_use.{all_left}
+use Rattle.osi_blameless.proofs.what_the_turns_among_steps_do.{TurnDoes}
+use Rattle.osi_blameless.proofs.small_facts_that_many_lemmas_use.{same_units}
 
 -- ---- one connection
 
@@ -76,30 +77,25 @@ never_early : {A : Type 0} (s : Stage) → s ≡ past → s ≡ early → A
 never_early s e h = absurd (cc (sym e ∙ h))
 
 pub turn_undone : (b : ℕ) (turn : Turn) (old new : Joint) (t : TakesTurn turn old new) (deeds : ℕ → Deeds)
-    (on : Continues true deeds old.holding turn new.holding) →
-    ((r : ℕ) → 0 < r → Life true r (stage_at r old.holding.end.carrier) on.took on.put (stage_at r new.holding.end.carrier)) →
+    (does : TurnDoes true deeds turn old new t) →
     (old.holding.end.carrier.ended ≡ None → (r : ℕ) → b < r → stage_at r old.holding.end.carrier ≡ early →
     AllByRecursion (IsNotCc r) (units_in old.coming)) → AreUndone b deeds old.holding.end.carrier →
-    AreUndone b (λ r. then_did (deeds r) (on.more r)) new.holding.end.carrier
-turn_undone b turn old new t deeds on life none u r less =
+    AreUndone b (λ r. then_did (deeds r) (does.on.more r)) new.holding.end.carrier
+turn_undone b turn old new t deeds does none u r less =
     let some : 0 < r = omega (arith, less) in
-    life_undone r (deeds r) (on.more r) on.took on.put (on.own r some) (on.taken r some) (stage_at r old.holding.end.carrier)
-    (stage_at r new.holding.end.carrier) (life r some) (λ is. by old.holding.end.carrier.ended refl is) (u r less)
+    life_undone r (deeds r) (does.on.more r) does.on.took does.on.put (does.on.own r some) (does.on.taken r some) (stage_at r old.holding.end.carrier)
+    (stage_at r new.holding.end.carrier) (does.life r some) (λ is. by old.holding.end.carrier.ended refl is) (u r less)
   where
     by : (o : Option EndReason) → old.holding.end.carrier.ended ≡ o → stage_at r old.holding.end.carrier ≡ early →
-        AllByRecursion (IsNotCc r) (all_units on.took)
+        AllByRecursion (IsNotCc r) (all_units does.on.took)
     by None lasts is =
-        let s = turn_uses turn old new t true deeds on lasts in
-        all_left (IsNotCc r) (all_units on.took) (s.left ++ units_in new.coming)
+        let s = turn_uses turn old new t true deeds does.on lasts in
+        all_left (IsNotCc r) (all_units does.on.took) (s.left ++ units_in new.coming)
         (subst (AllByRecursion (IsNotCc r)) s.coming (none lasts r less is))
     by (Some reason) over is =
         never_early (stage_at r old.holding.end.carrier) (stage_over r old.holding.end.carrier (ap is_some over)) is
 
 -- ---- what has come, as the whole end has it
-
-pub same_units : (packets : List (List ℕ)) → pieces.units_in packets ≡ units_in packets
-same_units [] = refl
-same_units (p ∷ packets) = ap (λ (l : List Value). pieces.units_by (units_of p) ++ l) (same_units packets)
 
 -- Each CC that has come for a reference above those of the judge is for one that was not given, or at which no CC is awaited.
 given_or : (r : ℕ) (end : Carrier) → (has_given r end ≡ false) ⊎ (has_given r end ≡ true)

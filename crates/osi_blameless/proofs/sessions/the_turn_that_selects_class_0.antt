@@ -2,12 +2,11 @@
 -- connection is open. For the session of the connection of an end in class 0.
 use Rattle.osi_blameless.proofs.Vocabulary.{◌≡◌, ◌∙◌, refl, sym, ap, subst, ℕ, ◌<◌, Bool, true, false, List, [], ◌∷◌, ◌++◌, Some, None}
 use Rattle.osi_blameless.proofs.Vocabulary.{arith, AllByRecursion, Connect, Value, confirm, Zero, Local, acceptance, Right, State}
-use Rattle.osi_blameless.proofs.Vocabulary.{Selecting, IsClear, IsFirm, Continues, Deeds, then_did, units_in, all_units, Turn, AllProper}
-use Rattle.osi_blameless.proofs.Vocabulary.{Life, amid, stage_at, all_units_more, CanBeWritten, Sessions, Joint, TakesTurn, parts_of}
-use Rattle.osi_blameless.proofs.Vocabulary.{going_on}
+use Rattle.osi_blameless.proofs.Vocabulary.{Selecting, IsClear, IsFirm, Deeds, then_did, units_in, all_units, Turn}
+use Rattle.osi_blameless.proofs.Vocabulary.{amid, stage_at, all_units_more, Sessions, Joint, TakesTurn, parts_of, going_on}
 use Rattle.osi_carrier.specs.State.{State as Carrier}
 use Rattle.osi_blameless.proofs.steps_are_events.{IsFollowed}
-use Rattle.osi_blameless.proofs.small_facts_that_many_lemmas_use.{can_more as all_more, none_some}
+use Rattle.osi_blameless.proofs.small_facts_that_many_lemmas_use.{none_some}
 use Rattle.osi_blameless.proofs.sessions.an_end_is_ready_for_each_cc_that_passes.{waits_above}
 use Rattle.osi_blameless.proofs.sessions.a_whole_end_runs_along.{has_lines}
 use Rattle.osi_blameless.proofs.sessions.a_turn_after_which_a_cc_of_class_0_waits.{dts_after, no_cc_taken, turns_waiting}
@@ -26,6 +25,7 @@ use Rattle.osi_blameless.proofs.sessions.what_a_turn_puts_goes_to_its_peer.{all_
 use Rattle.osi_blameless.proofs.sessions.what_is_in_flight_to_an_end.{parts_taken}
 use Rattle.osi_blameless.proofs.sessions.what_stands_of_a_connection.{Known, waiting_for}
 use Rattle.osi_blameless.proofs.sessions.what_the_stage_of_a_whole_end_says.{IsDt0}
+use Rattle.osi_blameless.proofs.what_the_turns_among_steps_do.{TurnDoes}
 
 -- ---- connections without a reference of the end
 
@@ -81,10 +81,8 @@ IsFor r v = (m : ℕ) (y : Connect) → v ≡ confirm m y → y.source ≡ r
 same_cc : (n m : ℕ) (x y : Connect) → confirm n x ≡ confirm m y → y.source ≡ x.source
 same_cc n m x y e = cc
 
-module _ (local : Local) (proper : AllProper) (turn : Turn) (old new : Joint) (t : TakesTurn turn old new) (deeds : ℕ → Deeds)
-    (on : Continues false deeds old.holding turn new.holding)
-    (life : (r : ℕ) → 0 < r → Life false r (stage_at r old.holding.end.carrier) on.took on.put (stage_at r new.holding.end.carrier))
-    (units : t.units ≡ all_units on.put) (sure : IsFirm old.course.traffic.course) (all : StandsUnselected local deeds old) where
+module _ (local : Local) (turn : Turn) (old new : Joint) (t : TakesTurn turn old new) (deeds : ℕ → Deeds)
+    (does : TurnDoes false deeds turn old new t) (sure : IsFirm old.course.traffic.course) (all : StandsUnselected local deeds old) where
   abbrev h : StandsInTwo Right local deeds old
   h = all.stands
 
@@ -92,13 +90,10 @@ module _ (local : Local) (proper : AllProper) (turn : Turn) (old new : Joint) (t
   end = old.holding.end.carrier
 
   abbrev pub ahead : GoesOn Right (first local) h.own.ahead.bound new
-  ahead = turns_ahead Right (first local) proper turn old new t h.own.ahead
+  ahead = turns_ahead Right (first local) turn old new t h.own.ahead
 
   abbrev f : IsFollowed Right (first local) new
   f = ahead.ahead.followed
-
-  pub then_can : AllByRecursion CanBeWritten new.put
-  then_can = grind (arith, all_more)
 
   clear : IsClear old.course.traffic.course
   clear = record { sure = sure; two = λ zero_is. none_some old.course.traffic.course.class Zero all.class zero_is }
@@ -121,8 +116,8 @@ module _ (local : Local) (proper : AllProper) (turn : Turn) (old new : Joint) (t
         none_two z.x.source answer z.more old.put t.units (put_is ∙ t.put) refl
         h.own.holds.two
 
-    all_put : all_units on.put ≡ confirm starts.n x ∷ starts.rest
-    all_put = sym units ∙ ap (λ (l : List Value). l ++ t.units) (sym empty) ∙ sym t.put ∙ starts.is
+    all_put : all_units does.on.put ≡ confirm starts.n x ∷ starts.rest
+    all_put = sym does.units ∙ ap (λ (l : List Value). l ++ t.units) (sym empty) ∙ sym t.put ∙ starts.is
 
     less : h.own.ahead.bound < x.source
     less = search (arith, waits_above, first, starts)
@@ -130,31 +125,31 @@ module _ (local : Local) (proper : AllProper) (turn : Turn) (old new : Joint) (t
     dts : AllByRecursion IsDt0 starts.rest
     dts = dts_after local new f starts.n x starts.rest starts.is z
 
-    all_for : AllByRecursion (IsFor x.source) (all_units on.put)
+    all_for : AllByRecursion (IsFor x.source) (all_units does.on.put)
     all_for =
         subst (AllByRecursion (IsFor x.source)) (sym all_put) (
           (λ m y is. same_cc starts.n m x y is),
           all_so IsDt0 (IsFor x.source) (λ v w m y is. absurd (subst IsDt0 is w)) starts.rest dts,
         )
 
-    is_x : (q : ℕ) → 0 < q → WasOpen false q (stage_at q end) on.took on.put → q ≡ x.source
+    is_x : (q : ℕ) → 0 < q → WasOpen false q (stage_at q end) does.on.took does.on.put → q ≡ x.source
     is_x q more (open_before peer is) = (let (n, has) = all.shut q peer more is in absurd (subst (HasCc n q) empty has))
     is_x q more (puts_cc called m y front later source is) =
         sym source
         ∙ one_of (IsFor x.source) (all_units front) (all_units later) (confirm m y)
         (grind (arith, all_units_more, all_for)) m y refl
     is_x q more (takes_cc may y front later is) =
-        no_cc_taken local proper turn old new t deeds on life units q q y front later all.quiet may is
+        no_cc_taken local turn old new t deeds does q q y front later all.quiet may is
 
     some : old.begun ≡ true → old.put ≡ [] → ⊥
     some begun =
         let g = h.own.ahead.followed in
-        let lines = has_lines local old g (going_on old.course.traffic.course clear) h.can h.own.holds.two in
+        let lines = has_lines local old g (going_on old.course.traffic.course clear) h.own.holds.two in
         λ none. lines.called.some (g.begun ∙ begun) (sym lines.called.put ∙ g.put ∙ none)
 
-    pub turns_selecting : StandsAnswering local (λ r. then_did (deeds r) (on.more r)) new
+    pub turns_selecting : StandsAnswering local (λ r. then_did (deeds r) (does.on.more r)) new
     turns_selecting =
-        turns_waiting local proper turn old new t deeds on life units ahead.ahead then_can starts.n x starts.rest starts.is starts.not_two
+        turns_waiting local turn old new t deeds does ahead.ahead starts.n x starts.rest starts.is starts.not_two
         (grind (arith, less)) (unselected_so local deeds old all) some
         ((grind (arith, less, empty)) ∙ ap (waiting_for (Some starts.n)) (sym empty))
         (parts_taken (deeds x.source).calls ∙ ap parts_of (h.own.holds.unheard x.source less)) dts is_x

@@ -1,16 +1,17 @@
 -- What an end puts in a turn at a connection is put at one that was open before the turn or has opened in it: so in class 0 it is put at
 -- its one connection, and waits there.
 -- For the session of the connection of an end in class 0.
-use Rattle.osi_blameless.proofs.Vocabulary.{◌≡◌, ◌∙◌, refl, sym, ap, ℕ, zero, suc, ◌<◌, Bool, true, false, List, [], ◌∷◌, ◌++◌, Option}
-use Rattle.osi_blameless.proofs.Vocabulary.{arith, is_some, append_assoc, inl, inr, ◌⊎◌, ◌==◌, nat_lt, AllByRecursion, eq-eqb, lt-ltb}
-use Rattle.osi_blameless.proofs.Vocabulary.{Connect, Value, confirm, request, AreApart, Answers, Opens, Continues, Deeds, Marked, all_units}
-use Rattle.osi_blameless.proofs.Vocabulary.{is_of_link, Turn, Life, amid, early, opens_by, past, stage_at, stays, none_mark, Joint, differ}
-use Rattle.osi_blameless.proofs.Vocabulary.{Time}
+use Rattle.osi_blameless.proofs.Vocabulary.{TakesTurn, ◌≡◌, ◌∙◌, refl, sym, ap, ℕ, zero, suc, ◌<◌, Bool, true, false, List, [], ◌∷◌, ◌++◌}
+use Rattle.osi_blameless.proofs.Vocabulary.{Option, arith, is_some, append_assoc, inl, inr, ◌⊎◌, ◌==◌, nat_lt, AllByRecursion, eq-eqb}
+use Rattle.osi_blameless.proofs.Vocabulary.{lt-ltb, Connect, Value, confirm, request, AreApart, Answers, Opens, Deeds, Marked}
+use Rattle.osi_blameless.proofs.Vocabulary.{all_units, is_of_link, Turn, Life, amid, early, opens_by, past, stage_at, stays, none_mark}
+use Rattle.osi_blameless.proofs.Vocabulary.{Joint, differ, Time}
 use Rattle.osi_blameless.proofs.small_facts_that_many_lemmas_use.{amid_not}
 use Rattle.osi_blameless.proofs.sessions.what_a_turn_puts_goes_to_its_peer.{none_for, one_of}
 use Rattle.osi_blameless.proofs.sessions.what_a_turn_puts_waits.{Agree}
 use Rattle.osi_blameless.proofs.sessions.what_stands_of_a_connection.{is_for}
 use Rattle.osi_blameless.proofs.sessions.what_the_stage_of_a_whole_end_says.{IsDt0}
+use Rattle.osi_blameless.proofs.what_the_turns_among_steps_do.{TurnDoes}
 
 -- ---- small facts
 
@@ -70,31 +71,31 @@ past_apart calls q s t took put e w = grind (arith, past_amid)
 
 -- ---- the marks of what is put
 
-module _ (calls : Bool) (turn : Turn) (old new : Joint) (deeds : ℕ → Deeds) (on : Continues calls deeds old.holding turn new.holding)
-    (life : (r : ℕ) → 0 < r → Life calls r (stage_at r old.holding.end.carrier) on.took on.put (stage_at r new.holding.end.carrier)) where
+module _ (calls : Bool) (turn : Turn) (old new : Joint) (t : TakesTurn turn old new) (deeds : ℕ → Deeds)
+    (does : TurnDoes calls deeds turn old new t) where
   abbrev pub WasOpenThen : ℕ → Type 0
-  WasOpenThen q = WasOpen calls q (stage_at q old.holding.end.carrier) on.took on.put
+  WasOpenThen q = WasOpen calls q (stage_at q old.holding.end.carrier) does.on.took does.on.put
 
   pub then_open : (q peer : ℕ) → 0 < q → stage_at q new.holding.end.carrier ≡ amid peer → WasOpenThen q
   then_open q peer some is =
-      open_so calls q peer (stage_at q old.holding.end.carrier) (stage_at q new.holding.end.carrier) on.took on.put (life q some) is
+      open_so calls q peer (stage_at q old.holding.end.carrier) (stage_at q new.holding.end.carrier) does.on.took does.on.put (does.life q some) is
 
-  marked_apart : {A : Type 0} (front rest : List Marked) (m : Marked) → on.put ≡ front ++ m ∷ rest → AreApart m.0 on.put → A
+  marked_apart : {A : Type 0} (front rest : List Marked) (m : Marked) → does.on.put ≡ front ++ m ∷ rest → AreApart m.0 does.on.put → A
   marked_apart front rest m is apart = grind (arith, differ, eq-eqb, one_of)
 
-  put_open : (front rest : List Marked) (m : Marked) → on.put ≡ front ++ m ∷ rest → 0 < m.0 → WasOpenThen m.0
+  put_open : (front rest : List Marked) (m : Marked) → does.on.put ≡ front ++ m ∷ rest → 0 < m.0 → WasOpenThen m.0
   put_open front rest m is some =
-      by (put_so calls m.0 (stage_at m.0 old.holding.end.carrier) (stage_at m.0 new.holding.end.carrier) on.took on.put (life m.0 some))
+      by (put_so calls m.0 (stage_at m.0 old.holding.end.carrier) (stage_at m.0 new.holding.end.carrier) does.on.took does.on.put (does.life m.0 some))
     where
-      by : AreApart m.0 on.put ⊎ WasOpenThen m.0 → WasOpenThen m.0
+      by : AreApart m.0 does.on.put ⊎ WasOpenThen m.0 → WasOpenThen m.0
       by (inl apart) = marked_apart front rest m is apart
       by (inr was) = was
 
   -- if one alone is open in the turn
-  pub all_marked : (r : ℕ) → ((q : ℕ) → 0 < q → WasOpenThen q → q ≡ r) → AllByRecursion (λ (m : Marked). (m.0 ≡ 0) ⊎ (m.0 ≡ r)) on.put
-  all_marked r is_r = each_of (λ (m : Marked). (m.0 ≡ 0) ⊎ (m.0 ≡ r)) [] on.put (λ front rest m is. by front rest m is m.0 refl)
+  pub all_marked : (r : ℕ) → ((q : ℕ) → 0 < q → WasOpenThen q → q ≡ r) → AllByRecursion (λ (m : Marked). (m.0 ≡ 0) ⊎ (m.0 ≡ r)) does.on.put
+  all_marked r is_r = each_of (λ (m : Marked). (m.0 ≡ 0) ⊎ (m.0 ≡ r)) [] does.on.put (λ front rest m is. by front rest m is m.0 refl)
     where
-      by : (front rest : List Marked) (m : Marked) → on.put ≡ front ++ m ∷ rest → (k : ℕ) → m.0 ≡ k → (m.0 ≡ 0) ⊎ (m.0 ≡ r)
+      by : (front rest : List Marked) (m : Marked) → does.on.put ≡ front ++ m ∷ rest → (k : ℕ) → m.0 ≡ k → (m.0 ≡ 0) ⊎ (m.0 ≡ r)
       by front rest m is zero at = inl at
       by front rest m is (suc k) at = let some : 0 < m.0 = omega (arith, at) in inr (is_r m.0 some (put_open front rest m is some))
 

@@ -2,21 +2,20 @@
 -- opens in the turn had come: so each DT and each AK of the turn has a home at a judge if the connection has.
 -- For calling and called ends.
 use Rattle.osi_blameless.proofs.Vocabulary.{◌≡◌, ◌∙◌, refl, sym, ap, subst, ℕ, suc, zero, ◌<◌, Bool, true, false, List, [], ◌∷◌, ◌++◌}
-use Rattle.osi_blameless.proofs.Vocabulary.{Option, Some, None, is_some, IsSome, Result, append_assoc, arith, ◌==◌, nat_lt, AllByRecursion}
-use Rattle.osi_blameless.proofs.Vocabulary.{eq-eqb, eqb-true, append-nil, units_of, Value, data0, TpduFault, Standing, link_of, open_link}
-use Rattle.osi_blameless.proofs.Vocabulary.{value_at, linked, packets, EndReason, Direction, State, units_by, Whole, AreApart, GivesTo}
+use Rattle.osi_blameless.proofs.Vocabulary.{Option, Some, None, is_some, IsSome, append_assoc, arith, ◌==◌, nat_lt, AllByRecursion}
+use Rattle.osi_blameless.proofs.Vocabulary.{eq-eqb, eqb-true, append-nil, Value, data0, Standing, link_of, open_link}
+use Rattle.osi_blameless.proofs.Vocabulary.{value_at, linked, packets, EndReason, Direction, State, Whole, AreApart, GivesTo}
 use Rattle.osi_blameless.proofs.Vocabulary.{Lives, Parts, Continues, Deeds, Marked, all_units, is_of_link, over_acts, all_units_more, Turn}
 use Rattle.osi_blameless.proofs.Vocabulary.{Sessions, Joint, TakesTurn, differ}
 use Rattle.osi_carrier.specs.State.{Connection as Live, State as Carrier}
-use Rattle.osi_fair.specs.Pieces.{units_in}
 use Rattle.osi_honest.specs.Arriving as arriving
-use Rattle.osi_honest.specs.Courses as courses
 use Rattle.osi_blameless.proofs.a_carrier_does_events.{none_of, units_join}
 use Rattle.osi_blameless.proofs.steps_are_events.{IsFollowed}
 use Rattle.osi_blameless.proofs.the_packets_that_an_end_took_come_first.{are_first}
 use Rattle.osi_blameless.proofs.sessions.each_unit_of_a_turn_has_one_connection.{IsFor, IsHomed, IsMarked, of_none, of_one}
 use Rattle.osi_blameless.proofs.sessions.what_stands_of_a_connection.{is_for}
 use Rattle.osi_blameless.proofs.small_facts_that_many_lemmas_use.{all_front, all_join}
+use Rattle.osi_blameless.proofs.small_facts_that_many_lemmas_use.{same_units}
 
 -- ---- lists
 
@@ -49,14 +48,6 @@ IsThere v coming = (P : Value → Type 0) → AllByRecursion P coming → P v
 pub link_is : (o : Option Live) (peer : ℕ) (link : Standing) → ◌≡◌ {A = Option (ℕ × Standing)} (link_of o) (Some (peer, link)) →
     o ≡ Some (linked peer link)
 link_is o peer link e = grind arith
-
-by_read : (r : Result (List Value) TpduFault) → courses.units_read r ≡ units_by r
-by_read r = grind arith
-
--- the units of packets, as a turn has them and as a whole end has them
-pub same_units : (us : List (List ℕ)) → courses.units_in us ≡ units_in us
-same_units [] = refl
-same_units (u ∷ us) = λ i. by_read (units_of u) i ++ same_units us i
 
 -- no DT of class 0
 abbrev pub IsNotZero : Value → Type 0

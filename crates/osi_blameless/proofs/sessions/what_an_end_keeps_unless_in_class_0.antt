@@ -2,9 +2,9 @@
 -- Then nobody of the end is to blame, also after a connection has lost its judgement.
 -- For the law that no session of an end is blamed first.
 use Rattle.osi_fair.specs.Wholes as wholes
-use Rattle.osi_blameless.proofs.Vocabulary.{AllByRecursion, AllProper, Bool, CanBeWritten, Connection, Deeds, Direction, Holding, IsFresh}
+use Rattle.osi_blameless.proofs.Vocabulary.{AllByRecursion, Bool, Connection, Deeds, Direction, Holding, IsFresh}
 use Rattle.osi_blameless.proofs.Vocabulary.{IsOngoing, Joint, Left, List, Local, None, Right, Selecting, Sessions, Some, State, Steps}
-use Rattle.osi_blameless.proofs.Vocabulary.{TakesTurn, Tracked, Turn, Two, Value, Zero, [], acceptance, all_units, ap, arith, begin}
+use Rattle.osi_blameless.proofs.Vocabulary.{TakesTurn, Tracked, Turn, Two, Value, Zero, [], acceptance, ap, arith, begin}
 use Rattle.osi_blameless.proofs.Vocabulary.{begins_other, begins_own, calls_from, early, false, firm_unless_two, inl, inr, is_closing}
 use Rattle.osi_blameless.proofs.Vocabulary.{no_deeds, other, passes_other, passes_own, refl, selecting_passes, slice_get, stage_at, subst}
 use Rattle.osi_blameless.proofs.Vocabulary.{sym, then_did, true, turns, unit_passes, units_in, ℕ, ◌++◌, ◌<◌, ◌∙◌, ◌∷◌, ◌≡◌, ◌⊎◌}
@@ -31,7 +31,7 @@ use Rattle.osi_blameless.proofs.sessions.ccs_among_units.{AnswersTwo, first_not_
 use Rattle.osi_blameless.proofs.sessions.what_has_come_before_a_cc.{AreQuiet, begin_quiet, begins_other_quiet, begins_own_quiet}
 use Rattle.osi_blameless.proofs.sessions.what_has_come_before_a_cc.{passes_other_quiet, passes_own_quiet, turns_quiet}
 use Rattle.osi_blameless.proofs.sessions.what_is_asked_of_what_holds_at_each_step.{ArePassed, Keeps, Leads, leads_either}
-use Rattle.osi_blameless.proofs.small_facts_that_many_lemmas_use.{all_front, can_more, none_some}
+use Rattle.osi_blameless.proofs.small_facts_that_many_lemmas_use.{all_front, none_some}
 use Rattle.osi_blameless.proofs.steps_are_events.{IsFollowed, begin_followed}
 use Rattle.osi_blameless.proofs.what_passes_keeps_a_claim.{step_kept}
 use Rattle.osi_blameless.proofs.what_the_turns_among_steps_do.{TurnDoes}
@@ -87,7 +87,7 @@ besides_other_passes Right local deeds at octets units old new step fine h =
 -- It doesn't offer class 2; or it has selected class 0, and its CC that says so has not passed.
 abbrev Silent : Direction → Local → Joint → Type 0
 Silent Left local j = local.class2 ≡ false
-Silent Right local j = AllByRecursion CanBeWritten j.put × (AllByRecursion AnswersTwo j.put → ⊥)
+Silent Right local j = AllByRecursion AnswersTwo j.put → ⊥
 
 abbrev pub UnlessZero : Direction → Local → (ℕ → Deeds) → Joint → Type 0
 UnlessZero d local deeds j = StandsBeside d local deeds j ⊎ HasSaidNothing d local (Silent d local) deeds j
@@ -100,10 +100,10 @@ module _ (local : Local) where
   none_passes : {A : Type 0} (deeds : ℕ → Deeds) (at : ℕ) (v : Value) (old new : Joint) → Steps Right (passes_own at v) old new →
       IsOngoing old.course.traffic.course → (new.course.traffic.course.class ≡ Some Zero → ⊥) → HasSelected deeds old → A
   none_passes deeds at v old new (read, octets, put, begun, is) clear then_two h =
-      absurd (by (answers_or_selects local old h.followed h.why.0 clear h.places))
+      absurd (by (answers_or_selects local old h.followed clear h.places))
     where
       by : AllByRecursion AnswersTwo old.put ⊎ Selecting local h.followed.whole → ⊥
-      by (inl two) = h.why.1 two
+      by (inl two) = h.why two
       by (inr z) =
           let f = h.followed in
           let w = f.whole in
@@ -121,20 +121,10 @@ module _ (local : Local) where
     none_put = λ deeds at v old new step clear not h. (puts_no_dt local h.why at v old new step h.followed clear, h.why);
   }
   silent_so Right = record {
-    still = λ old new same why.
-        (subst (AllByRecursion CanBeWritten) (sym same) why.0, λ two. why.1 (subst (AllByRecursion AnswersTwo) same two));
-    turns = λ turn old new t deeds does why. (
-      then_can turn old new t deeds does why.0,
-      λ two. why.1 (all_front AnswersTwo old.put t.units (subst (AllByRecursion AnswersTwo) t.put two)),
-    );
+    still = λ old new same why two. why (subst (AllByRecursion AnswersTwo) same two);
+    turns = λ turn old new t deeds does why two. why (all_front AnswersTwo old.put t.units (subst (AllByRecursion AnswersTwo) t.put two));
     none_put = λ deeds at v old new step clear not h. none_passes deeds at v old new step clear not h;
   }
-    where
-      then_can : (turn : Turn) (old new : Joint) (t : TakesTurn turn old new) (deeds : ℕ → Deeds) → TurnDoes false deeds turn old new t →
-          AllByRecursion CanBeWritten old.put → AllByRecursion CanBeWritten new.put
-      then_can turn old new t deeds does can =
-          subst (AllByRecursion CanBeWritten) (sym (t.put ∙ ap (λ (l : List Value). old.put ++ l) does.units))
-          (can_more old.put (all_units does.of.on.put) can does.of.on.can)
 
 -- ---- a turn
 
@@ -145,41 +135,35 @@ all_mute : (deeds : ℕ → Deeds) (known : Known) (put : List Value) (b : Bool)
 all_mute deeds known put b s t a firm uncalled = grind (arith, there_too)
 
 -- A called end may select class 0 in it.
-turn_beside : (d : Direction) (local : Local) (proper : AllProper) (turn : Turn) (old new : Joint) (t : TakesTurn turn old new)
+turn_beside : (d : Direction) (local : Local) (turn : Turn) (old new : Joint) (t : TakesTurn turn old new)
     (deeds : ℕ → Deeds) (does : TurnDoes (calls_from d) deeds turn old new t) → IsFollowed d (wholes.begin (calls_from d) local) old →
     IsFollowed d (wholes.begin (calls_from d) local) new → IsOngoing old.course.traffic.course → StandsBeside d local deeds old →
-    UnlessZero d local (λ r. then_did (deeds r) (does.of.on.more r)) new
-turn_beside Left local proper turn old new t deeds does f g clear h =
-    let on = does.of.on in
+    UnlessZero d local (λ r. then_did (deeds r) (does.on.more r)) new
+turn_beside Left local turn old new t deeds does f g clear h =
     inl (record {
       two = h.two;
-      stands = asks_turn local h.two proper turn old new t deeds on does.of.life does.units on.can
-          (calling_marked local h.two deeds turn old new t on does.units does.of.life does.of.first f g clear h.stands.standing.all.places)
+      stands = asks_turn local h.two turn old new t deeds does
+          (calling_marked local h.two deeds turn old new t does f g clear h.stands.standing.all.places)
           (λ r some may. (h.besides clear).before r (some, may)) (closed_so h.besides) clear h.stands;
-      besides = turns_quiet turn old new t deeds on does.of.life h.besides;
+      besides = turns_quiet turn old new t deeds does h.besides;
     })
   where
     closed_so : AreQuiet old → (i : ℕ) (c : Connection) → slice_get old.course.traffic.connections i ≡ Some c →
         is_closing c.right.phase ≡ true → 0 < c.left.reference → stage_at c.left.reference old.holding.end.carrier ≡ early →
         Tracked old.course.traffic.connections c.left.reference
     closed_so quiet i c there closing some may = let q = quiet clear in grind arith
-turn_beside Right local proper turn old new t deeds does f g clear h =
-    by (answers_or_selects local new g can (subst (λ (c : Passed). IsOngoing c.traffic.course) (sym t.course) clear)
+turn_beside Right local turn old new t deeds does f g clear h =
+    by (answers_or_selects local new g (subst (λ (c : Passed). IsOngoing c.traffic.course) (sym t.course) clear)
     (subst Agree (sym t.course) h.stands.standing.all.places))
   where
-    can : AllByRecursion CanBeWritten new.put
-    can =
-        subst (AllByRecursion CanBeWritten) (sym (t.put ∙ ap (λ (l : List Value). old.put ++ l) does.units))
-        (can_more old.put (all_units does.of.on.put) h.stands.can does.of.on.can)
-
     uncalled : UncalledUntil new.course
     uncalled = step_kept UncalledUntil uncalled_claim Right (turns turn) old new t h.besides
 
     by : AllByRecursion AnswersTwo new.put ⊎ Selecting local g.whole →
-        UnlessZero Right local (λ r. then_did (deeds r) (does.of.on.more r)) new
+        UnlessZero Right local (λ r. then_did (deeds r) (does.on.more r)) new
     by (inl two) = inl (record {
       two = tt;
-      stands = answers_turn local proper turn old new t deeds does.of.on does.of.life does.units does.of.on.can two clear h.stands;
+      stands = answers_turn local turn old new t deeds does two clear h.stands;
       besides = uncalled;
     })
     by (inr z) =
@@ -195,40 +179,37 @@ turn_beside Right local proper turn old new t deeds does f g clear h =
           mute = subst (λ (c : Passed). IsMute Right c.sessions) (sym t.course)
               (all_mute deeds (known_at old) old.put old.begun old.course.traffic old.course.sessions h.stands.standing.all firm
               (h.besides no_class));
-          why = (
-            can,
-            λ two. first_not_zero z.x.source (acceptance Zero z.size z.x local z.r) z.more new.put (sym z.put ∙ g.put) refl two,
-          );
+          why = λ two. first_not_zero z.x.source (acceptance Zero z.size z.x local z.r) z.more new.put (sym z.put ∙ g.put) refl two;
         })
 
 -- ---- as it is asked for
 
-module _ (local : Local) (proper : AllProper) where
+module _ (local : Local) where
   beside_leads : (d : Direction) → Leads Zero d local (StandsBeside d local) (UnlessZero d local)
   beside_leads d = record {
     own_begins = λ deeds old new step courses few h. inl (record {
       two = h.two;
-      stands = stands_own_begins d local proper deeds old new step courses few h.stands;
+      stands = stands_own_begins d local deeds old new step courses few h.stands;
       besides = besides_own_begins d old new step h.besides;
     });
     other_begins = λ deeds old new step h. inl (record {
       two = h.two;
-      stands = stands_other_begins d local proper deeds old new step h.stands;
+      stands = stands_other_begins d local deeds old new step h.stands;
       besides = besides_other_begins d old new step h.besides;
     });
     own_passes = λ deeds at v old new step fine clear then_two h. inl (record {
       two = h.two;
-      stands = stands_own_passes d local h.two proper deeds at v old new step fine clear h.stands;
+      stands = stands_own_passes d local h.two deeds at v old new step fine clear h.stands;
       besides = besides_own_passes d local deeds at v old new step h;
     });
     other_passes = λ deeds at octets units old new step taken not h.
         let fine = fine_of d at units old.course taken in
         inl (record {
           two = h.two;
-          stands = stands_other_passes d local h.two proper deeds at octets units old new step fine h.stands;
+          stands = stands_other_passes d local h.two deeds at octets units old new step fine h.stands;
           besides = besides_other_passes d local deeds at octets units old new step fine h;
         });
-    turn = λ turn old new t deeds does f g clear h. turn_beside d local proper turn old new t deeds does f g clear h;
+    turn = λ turn old new t deeds does f g clear h. turn_beside d local turn old new t deeds does f g clear h;
     stands = λ deeds j h. all_stand (known_at j) h.stands.standing.all;
     stands_amid = λ deeds at octets front back old new step taken not h.
         all_stand (known_from (may_take old.holding.end.carrier) (units_in old.coming ++ front))
@@ -251,6 +232,6 @@ module _ (local : Local) (proper : AllProper) where
     begins = begins_unless d;
     leads = leads_either Zero d local (StandsBeside d local) (HasSaidNothing d local (Silent d local)) (UnlessZero d local) (beside_leads d)
         (leads_more Zero d local (HasSaidNothing d local (Silent d local)) (HasSaidNothing d local (Silent d local)) (UnlessZero d local)
-        (λ deeds j h. inr h) (mute_leads proper d local (Silent d local) (silent_so local d)));
+        (λ deeds j h. inr h) (mute_leads d local (Silent d local) (silent_so local d)));
     laws = laws;
   }

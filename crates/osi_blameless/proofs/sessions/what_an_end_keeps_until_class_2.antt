@@ -1,6 +1,6 @@
 -- What holds of an end until class 2 is selected is as it is asked for, calling or called: nobody of the end is to blame, as long as all is
 -- judged. For the laws that no session of an end is blamed first, nor after a break of the other side.
-use Rattle.osi_blameless.proofs.Vocabulary.{◌≡◌, ◌⊎◌, inl, inr, ℕ, None, Two, Local, Direction, Left, Right, AllProper, Deeds, Holding}
+use Rattle.osi_blameless.proofs.Vocabulary.{◌≡◌, ◌⊎◌, inl, inr, ℕ, None, Two, Local, Direction, Left, Right, Deeds, Holding}
 use Rattle.osi_blameless.proofs.Vocabulary.{IsFresh, Joint, begin, calls_from, no_deeds, List, Value, units_in, units_pass, ◌++◌}
 use Rattle.osi_blameless.proofs.sessions.a_turn_after_which_a_cc_of_class_0_waits.{turns_answering}
 use Rattle.osi_blameless.proofs.sessions.a_turn_before_the_cc_comes.{unanswered_turns}
@@ -37,7 +37,7 @@ none_selected Right local deeds j (inr h) = h.none.class
 abbrev pub StandsUntilTwo : Direction → Local → (ℕ → Deeds) → Joint → Type 0
 StandsUntilTwo d local deeds j = StandsBefore d local deeds j ⊎ StandsInZero d local deeds j
 
-module _ (local : Local) (proper : AllProper) where
+module _ (local : Local) where
   abbrev Until : Direction → (ℕ → Deeds) → Joint → Type 0
   Until d = StandsUntilTwo d local
 
@@ -50,13 +50,13 @@ module _ (local : Local) (proper : AllProper) where
 
   zero_leads : (d : Direction) → Leads Two d local (StandsInZero d local) (Until d)
   zero_leads d = record {
-    own_begins = λ deeds old new step courses few h. inr (zero_own_begins d local proper deeds old new step courses few h);
-    other_begins = λ deeds old new step h. inr (zero_other_begins d local proper deeds old new step h);
-    own_passes = λ deeds at v old new step own lasts not h. inr (zero_own_passes d local proper deeds at v old new step own.0 lasts.0 h);
+    own_begins = λ deeds old new step courses few h. inr (zero_own_begins d local deeds old new step courses few h);
+    other_begins = λ deeds old new step h. inr (zero_other_begins d local deeds old new step h);
+    own_passes = λ deeds at v old new step own lasts not h. inr (zero_own_passes d local deeds at v old new step own.0 lasts.0 h);
     other_passes = λ deeds at octets units old new step passed not h.
-        inr (zero_other_passes d local proper deeds at octets units old new step passed h);
+        inr (zero_other_passes d local deeds at octets units old new step passed h);
     turn = λ turn old new t deeds does f g lasts h.
-        inr (zero_turns d local proper turn old new t deeds does.of.on does.of.life does.units lasts.0 h);
+        inr (zero_turns d local turn old new t deeds does lasts.0 h);
     stands = λ deeds j h. all_stand (known_at j) h.zero.all;
     stands_amid = λ deeds at octets front back old new step passed not h.
         all_stand (known_then old front)
@@ -65,13 +65,13 @@ module _ (local : Local) (proper : AllProper) where
 
   unanswered_leads : Leads Two Left local (StandsUnanswered local) (Until Left)
   unanswered_leads = record {
-    own_begins = λ deeds old new step courses few h. inl (unanswered_own_begins local proper deeds old new step courses few h);
-    other_begins = λ deeds old new step h. inl (unanswered_other_begins local proper deeds old new step h);
-    own_passes = λ deeds at v old new step own lasts not h. inl (unanswered_own_passes local proper deeds at v old new step own.0 h);
+    own_begins = λ deeds old new step courses few h. inl (unanswered_own_begins local deeds old new step courses few h);
+    other_begins = λ deeds old new step h. inl (unanswered_other_begins local deeds old new step h);
+    own_passes = λ deeds at v old new step own lasts not h. inl (unanswered_own_passes local deeds at v old new step own.0 h);
     other_passes = λ deeds at octets units old new step passed not h.
-        unanswered_other_passes local proper deeds at octets units old new step passed not h;
+        unanswered_other_passes local deeds at octets units old new step passed not h;
     turn = λ turn old new t deeds does f g lasts h.
-        inl (unanswered_turns local proper turn old new t deeds does.of.on does.of.life does.units h);
+        inl (unanswered_turns local turn old new t deeds does h);
     stands = λ deeds j h. all_stand (known_at j) h.none.all;
     stands_amid = λ deeds at octets front back old new step passed not h.
         all_stand (known_then old front)
@@ -81,13 +81,13 @@ module _ (local : Local) (proper : AllProper) where
 
   unselected_leads : Leads Two Right local (StandsUnselected local) (Until Right)
   unselected_leads = record {
-    own_begins = λ deeds old new step courses few h. inl (inl (unselected_own_begins local proper deeds old new step courses few h));
-    other_begins = λ deeds old new step h. inl (inl (unselected_other_begins local proper deeds old new step h));
+    own_begins = λ deeds old new step courses few h. inl (inl (unselected_own_begins local deeds old new step courses few h));
+    other_begins = λ deeds old new step h. inl (inl (unselected_other_begins local deeds old new step h));
     own_passes = λ deeds at v old new step own lasts not h.
-        inl (inl (unselected_own_passes local proper deeds at v old new step own.0 lasts.0 not h));
+        inl (inl (unselected_own_passes local deeds at v old new step own.0 lasts.0 not h));
     other_passes = λ deeds at octets units old new step passed not h.
-        inl (inl (unselected_other_passes local proper deeds at octets units old new step passed h));
-    turn = λ turn old new t deeds does f g lasts h. inl (unselected_turns local proper turn old new t deeds does lasts.0 h);
+        inl (inl (unselected_other_passes local deeds at octets units old new step passed h));
+    turn = λ turn old new t deeds does f g lasts h. inl (unselected_turns local turn old new t deeds does lasts.0 h);
     stands = λ deeds j h. all_stand (known_at j) (unselected_so local deeds j h).all;
     stands_amid = λ deeds at octets front back old new step passed not h.
         all_stand (known_then old front)
@@ -97,13 +97,13 @@ module _ (local : Local) (proper : AllProper) where
 
   answering_leads : Leads Two Right local (StandsAnswering local) (Until Right)
   answering_leads = record {
-    own_begins = λ deeds old new step courses few h. inl (inr (answering_own_begins local proper deeds old new step courses few h));
-    other_begins = λ deeds old new step h. inl (inr (answering_other_begins local proper deeds old new step h));
-    own_passes = λ deeds at v old new step own lasts not h. inr (answering_own_passes local proper deeds at v old new step own.0 h);
+    own_begins = λ deeds old new step courses few h. inl (inr (answering_own_begins local deeds old new step courses few h));
+    other_begins = λ deeds old new step h. inl (inr (answering_other_begins local deeds old new step h));
+    own_passes = λ deeds at v old new step own lasts not h. inr (answering_own_passes local deeds at v old new step own.0 h);
     other_passes = λ deeds at octets units old new step passed not h.
-        inl (inr (answering_other_passes local proper deeds at octets units old new step passed h));
+        inl (inr (answering_other_passes local deeds at octets units old new step passed h));
     turn = λ turn old new t deeds does f g lasts h.
-        inl (inr (turns_answering local proper turn old new t deeds does.of.on does.of.life does.units lasts.0 h));
+        inl (inr (turns_answering local turn old new t deeds does lasts.0 h));
     stands = λ deeds j h. all_stand (known_at j) h.none.all;
     stands_amid = λ deeds at octets front back old new step passed not h.
         all_stand (known_then old front)
@@ -124,4 +124,4 @@ module _ (local : Local) (proper : AllProper) where
     where
       begins_by : (d : Direction) (h : Holding) → IsFresh (calls_from d) local h → Until d (λ r. no_deeds) (begin h)
       begins_by Left h fresh = inl (unanswered_first local h fresh)
-      begins_by Right h fresh = inl (inl (unselected_first local proper h fresh))
+      begins_by Right h fresh = inl (inl (unselected_first local h fresh))

@@ -10,7 +10,7 @@ use Rattle.osi_blameless.proofs.Vocabulary.{connection_after, found, found_on, j
 use Rattle.osi_blameless.proofs.Vocabulary.{before_going, applied_judged, each_sound, Followed, IsAnswer, Tracked, all_so, is_tracked, both}
 use Rattle.osi_blameless.proofs.Vocabulary.{left_open, IsIdle, comes_for, HoldsOfEach, after_add, after_map, after_set, Sound, left_then}
 use Rattle.osi_blameless.proofs.Vocabulary.{own_stays, right_passes, IsOngoing, is_name, each_picked, names, picked_join, picked_other}
-use Rattle.osi_blameless.proofs.Vocabulary.{those, those_join, Continues, Deeds, units_in, units_read, Turn, Life, early, past, stage_at}
+use Rattle.osi_blameless.proofs.Vocabulary.{those, those_join, Deeds, units_in, units_read, Turn, early, past, stage_at}
 use Rattle.osi_blameless.proofs.Vocabulary.{asked_so, has_given, Holding, Joined, Sessions, Course, unit_passes, units_pass, Joint, Steps}
 use Rattle.osi_blameless.proofs.Vocabulary.{TakesTurn, begin, begins_other, begins_own, passes_other, passes_own, HaveSamePlaces, IsOneOf}
 use Rattle.osi_blameless.proofs.Vocabulary.{named_by}
@@ -30,16 +30,18 @@ use Rattle.osi_blameless.proofs.sessions.a_whole_end_runs_along.{first, whole_jo
 use Rattle.osi_blameless.proofs.sessions.an_end_of_class_2_goes_on.{OwnInTwo}
 use Rattle.osi_blameless.proofs.sessions.a_calling_end_takes_nothing_before_its_cc.{HasCc, has_cc}
 use Rattle.osi_blameless.proofs.small_facts_that_many_lemmas_use.{early_lasts}
-use Rattle.osi_blameless.proofs.sessions.a_turn_does_what_its_deeds_say.{turn_leaves, units_join}
+use Rattle.osi_blameless.proofs.sessions.a_turn_does_what_its_deeds_say.{turn_leaves}
 use Rattle.osi_blameless.proofs.sessions.a_unit_after_a_dr_is_for_a_closing_connection.{not_over}
 use Rattle.osi_blameless.proofs.sessions.a_unit_is_joined_where_it_is_named.{named_there, names_there}
 use Rattle.osi_blameless.proofs.sessions.connections_have_the_same_places.{unit_knows}
-use Rattle.osi_blameless.proofs.sessions.nothing_is_done_before_a_cr_passes.{IsNoZero, same_units}
+use Rattle.osi_blameless.proofs.sessions.nothing_is_done_before_a_cr_passes.{IsNoZero}
+use Rattle.osi_blameless.proofs.small_facts_that_many_lemmas_use.{same_units, units_join}
 use Rattle.osi_blameless.proofs.sessions.what_a_turn_puts_goes_to_its_peer.{one_of}
 use Rattle.osi_blameless.proofs.small_facts_that_many_lemmas_use.{all_front, same_one}
 use Rattle.osi_blameless.proofs.sessions.what_a_unit_does_at_its_place.{Does, asks_again, asks_more, nowhere, somewhere, unit_does}
 use Rattle.osi_blameless.proofs.sessions.what_passes_leaves_all_standing.{AllGoesOn}
 use Rattle.osi_blameless.proofs.sessions.what_stands_of_a_connection.{is_for, waiting_for}
+use Rattle.osi_blameless.proofs.what_the_turns_among_steps_do.{TurnDoes}
 
 -- ---- what is so
 
@@ -395,11 +397,9 @@ module _ (local : Local) (two : local.class2 ≡ true) where
       (units_quiet local at units f.whole old.course fine clear ranges (whole_joined local two old f) f.judge
       (to_whole old f (q (ongoing_first at units old.course fine clear)))))
 
-pub turns_quiet : (turn : Turn) (old new : Joint) (t : TakesTurn turn old new) (deeds : ℕ → Deeds)
-    (on : Continues true deeds old.holding turn new.holding) →
-    ((r : ℕ) → 0 < r → Life true r (stage_at r old.holding.end.carrier) on.took on.put (stage_at r new.holding.end.carrier)) →
-    AreQuiet old → AreQuiet new
-turns_quiet turn old new t deeds on life q clear =
+pub turns_quiet : (turn : Turn) (old new : Joint) (t : TakesTurn turn old new) (deeds : ℕ → Deeds) →
+    TurnDoes true deeds turn old new t → AreQuiet old → AreQuiet new
+turns_quiet turn old new t deeds does q clear =
     let now = q (subst (λ (c : Course). IsOngoing c.traffic.course) t.course clear) in
     subst (λ (c : Course). IsQuiet new.holding.end.carrier (units_in new.coming) c.traffic) (sym t.course) (record {
       before = λ r may. by r (now.before r (was r may));

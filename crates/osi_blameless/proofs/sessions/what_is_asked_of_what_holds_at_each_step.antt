@@ -93,7 +93,7 @@ pub record Leads (barred : Class) (d : Direction) (local : Local) (Inv Then : (�
   pub turn : (turn : Turn) (old new : Joint) (t : TakesTurn turn old new) (deeds : ℕ → Deeds)
       (does : TurnDoes (calls_from d) deeds turn old new t) → IsFollowed d (wholes.begin (calls_from d) local) old →
       IsFollowed d (wholes.begin (calls_from d) local) new → Lasts barred old.course → Inv deeds old →
-      Then (λ r. then_did (deeds r) (does.of.on.more r)) new
+      Then (λ r. then_did (deeds r) (does.on.more r)) new
   pub stands : (deeds : ℕ → Deeds) (j : Joint) → Inv deeds j → StandsOrSilent d deeds j.put j.begun j.course
   pub stands_amid : (deeds : ℕ → Deeds) (at : ℕ) (octets : List ℕ) (front back : List Value) (old new : Joint) →
       Steps d (passes_other at octets (front ++ back)) old new → ArePassed barred d at front old.course →

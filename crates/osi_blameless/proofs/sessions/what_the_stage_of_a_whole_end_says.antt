@@ -7,7 +7,7 @@ use Rattle.osi_blameless.proofs.Vocabulary.{has_given, Traffic as State, takes, 
 use Rattle.osi_blameless.proofs.Vocabulary.{one, answered, Calling, known, quiet, refused, begun_by, anyhow, zero_puts, PutsData}
 use Rattle.osi_blameless.proofs.Vocabulary.{calm_judge, done_takes, GoesOn, Waits, Whole, arith, ended, waits, Stage as CalledStage}
 use Rattle.osi_blameless.proofs.Vocabulary.{Direction, Left, Carrier, calls_from, IsFirm, Joint, Event, HappenAlong, Holds, holds_first}
-use Rattle.osi_blameless.proofs.Vocabulary.{holds_next, IsInZero, lines, selected, selecting, stage_there, ◌≤◌, ◌<◌, AreAbove, is_some}
+use Rattle.osi_blameless.proofs.Vocabulary.{holds_next, IsInZero, lines, selected, selecting, stage_there, ◌≤◌, ◌<◌, is_some}
 use Rattle.osi_blameless.proofs.Vocabulary.{units_in, Steps, passes_own, Disconnects}
 use Rattle.osi_rules.specs.declared.directions.Direction.TheVariants.{Right}
 use Rattle.osi_rules.specs.declared.directions.Direction.TheVariants as way
@@ -18,8 +18,8 @@ use Rattle.osi_blameless.proofs.small_facts_that_many_lemmas_use.{early_lasts, g
 use Rattle.osi_blameless.proofs.small_facts_that_many_lemmas_use as small
 use Rattle.osi_blameless.proofs.steps_are_events.{IsFollowed}
 use Rattle.osi_blameless.proofs.sessions.a_whole_end_runs_along.{called_joined}
-use Rattle.osi_blameless.proofs.sessions.each_reference_of_an_end_is_new.{IsAhead, IsWithin, WaitAbove}
-use Rattle.osi_blameless.proofs.sessions.nothing_is_done_before_a_cr_passes.{same_units}
+use Rattle.osi_blameless.proofs.sessions.each_reference_of_an_end_is_new.{IsAhead, IsWithin}
+use Rattle.osi_blameless.proofs.small_facts_that_many_lemmas_use.{same_units}
 use Rattle.osi_blameless.proofs.a_carrier_does_events.{none_of}
 use Rattle.osi_blameless.proofs.sessions.units_of_class_0_come_after_its_cc.{HasCc}
 
@@ -127,12 +127,6 @@ module _ (local : Local) (w : Whole) where
 
 -- ---- of a called end
 
--- DTs alone wait, and CCs that wait would give references up to the last one
-given_after : (given b : ℕ) (units : List Value) → AreAbove given b units → AllByRecursion IsDt0 units → b ≤ given
-given_after given b [] a h = a
-given_after given b (data0 end user ∷ units) a h = given_after given b units a h.1
-given_after given b _ a h = absurd h.0
-
 -- its connection is open, or over
 open_or_over : (limit begun r : ℕ) (s : Carrier) (units : List Value) → IsInZero limit s begun units → 0 < r → r ≤ s.given →
     s.ended ≡ None → stage_at r s ≡ early → ⊥
@@ -185,10 +179,6 @@ own_is_dt local d at v old new step f firm class =
     (subst (AllByRecursion IsDt0) s
     (zero_put d local f.whole (ap (λ (t : State). t.course.class) f.judge ∙ class) (stage_of d local old f firm))).0
 
-up_to_last : (d : Direction) (b : ℕ) (w : Whole) → AllByRecursion IsDt0 w.put → WaitAbove d b w → b ≤ w.end.given
-up_to_last side.Left b w dts a = a.given
-up_to_last side.Right b w dts a = given_after w.end.given b w.put a dts
-
 -- The CC has come for a connection that may still open. A called end has none such: it opens the connection with its own CC.
 abbrev pub AwaitsCc : Direction → List Value → Type 0
 AwaitsCc side.Left coming = HasCc coming
@@ -211,6 +201,6 @@ zero_awaits d local j a r firm class within may =
     let stage = stage_of d local j f firm in
     let zero_is : w.judge.course.class ≡ Some Zero = ap (λ (s : State). s.course.class) f.judge ∙ class in
     let given : r ≤ w.end.given =
-    (let low = up_to_last d a.bound w (zero_put d local w zero_is stage) a.above in let up = within.1 in omega (arith, low, up)) in
+    (let low = a.above.given in let up = within.1 in omega (arith, low, up)) in
     subst (AwaitsCc d) (f.coming lasts ∙ same_units j.coming)
     (awaits_by d local w r zero_is within.0 given whole_lasts (ap (stage_at r) (f.like.lasts whole_lasts) ∙ may) stage)
