@@ -1,34 +1,23 @@
--- The map of these proofs, in reading order. `Vocabulary` has the names that come from elsewhere.
+-- The map of these proofs, in reading order: each folder has a map of its files. `Vocabulary` has the names that come from elsewhere.
 mod Vocabulary
 pub mod small_facts_that_many_lemmas_use
--- a capture is steps
-pub mod what_the_first_octets_are
-pub mod turns_are_taken_late
-pub mod what_the_turns_among_steps_do
-pub mod what_an_octet_does
-pub mod how_an_end_stands_to_what_has_passed
-pub mod what_follows_what_cannot_be_read
-pub mod a_capture_is_steps
--- how much a judge still judges, and what stays so whatever passes
-pub mod all_is_judged_or_nothing
-pub mod what_passes_keeps_a_claim
-pub mod what_passes_keeps_a_claim_on_two_courses
--- steps are events of a whole end
-pub mod what_waits_changes_nothing
-pub mod what_a_carrier_puts_can_be_written
-pub mod what_packets_and_short_tsdus_keep_a_turn_keeps
-pub mod a_carrier_does_events
-pub mod the_packets_that_an_end_took_come_first
-pub mod steps_are_events
--- so no unit of the end is a break
-pub mod no_unit_of_a_whole_end_is_a_break
-pub mod what_a_taker_passes_over
-pub mod sessions
--- whatever the other side breaks
-pub mod a_break_ends_no_judging_or_all
-pub mod what_is_halted_stays_halted
-pub mod later_steps_are_events
-pub mod in_class_0_one_side_alone_is_judged
-pub mod an_end_that_is_judged_alone_stays_so
-pub mod what_is_judged_beside_a_halted_side
-pub mod no_unit_of_an_end_breaks_a_rule
+-- A capture of an end is steps of the end and of the judge.
+pub mod steps
+-- No unit of an end breaks a rule of transport, whatever the other side breaks.
+pub mod transport
+-- What a judge has joined of a connection, beside what was done at the end; the session is not to blame for that.
+pub mod shown
+-- All connections stand at a judge, as units pass and as the end takes a turn.
+pub mod standing
+-- What is in flight to an end, and what it takes of that.
+pub mod coming
+-- What an end puts: its references, its CRs and CCs, and for which connection each unit is.
+pub mod putting
+-- An end of class 2 and a judge, and what an end keeps unless class 0 is selected.
+pub mod in_class_2
+-- An end in class 0 and a judge, and what an end keeps until class 2 is selected.
+pub mod in_class_0
+-- A break of the other side in class 0: an end and a judge go on as if it had not come.
+pub mod breaking
+-- The induction over steps, and so nobody of an end is ever to blame.
+pub mod blaming

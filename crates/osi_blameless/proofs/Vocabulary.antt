@@ -1,87 +1,69 @@
 -- What the proofs of this crate take from the library, from the crates below and from its own definitions.
-pub use Rattle.std.proofs.Common.{Bool, Err, IfSome, IsSome, List, None, Ok, Option, Result, Some, [], ap, append_assoc, arith, drop, false}
-pub use Rattle.std.proofs.Common.{if◌then◌else◌, inl, inr, is_some, leb, length, map, nat_le, nat_lt, not, option_map, position, refl, set}
-pub use Rattle.std.proofs.Common.{slice_get, slice_set, subst, suc, sym, take, true, zero, ℕ, ◌&&◌, ◌*◌, ◌++◌, ◌+◌, ◌-◌, ◌/◌, ◌<◌, ◌==◌}
+pub use Rattle.std.proofs.Common.{Bool, Err, IsSome, List, None, Ok, Option, Result, Some, [], ap, append_assoc, arith, false}
+pub use Rattle.std.proofs.Common.{if◌then◌else◌, inl, inr, is_some, leb, length, map, nat_le, nat_lt, not, option_to_list, position, refl}
+pub use Rattle.std.proofs.Common.{set, slice_get, slice_set, subst, suc, sym, take, true, zero, ℕ, ◌&&◌, ◌*◌, ◌++◌, ◌+◌, ◌-◌, ◌<◌, ◌==◌}
 pub use Rattle.std.proofs.Common.{◌^◌, ◌||◌, ◌∙◌, ◌∷◌, ◌≡◌, ◌≢◌, ◌≤◌, ◌⊎◌}
 pub use Rattle.std.proofs.Math.Seq.{take-append_seam}
 pub use Rattle.std.proofs.lemmas.Bool.{eq-eqb, eqb-true, le-leb, le-ltb, leb-false, leb-true, lt-ltb, ltb-false, ltb-true}
-pub use Rattle.std.proofs.lemmas.Bool.Decides.{leb_tells, nat_tests}
+pub use Rattle.std.proofs.lemmas.Bool.Decides.{leb_tells}
 pub use Rattle.std.proofs.lemmas.Grind.{flat_map-append}
 pub use Rattle.std.proofs.lemmas.List.{append-nil, append_cancel_left, length-append, length-map, map-append, take-append-drop, take_all}
 pub use Rattle.std.proofs.lemmas.List.{take_at}
 pub use Rattle.std.proofs.lemmas.Option.{slice_get-map, slice_get_past, slice_get_within}
-pub use Rattle.std.specs.List.{AllByRecursion, list_all, list_any}
+pub use Rattle.std.specs.List.{AllByRecursion, flat_map, list_all}
 pub use Rattle.osi_unit.proofs.lists_of_octets_stay_octets.{octets_append, octets_cons, octets_left, octets_nil, octets_right}
 pub use Rattle.osi_unit.specs.Octets.{IsOctets}
 pub use Rattle.osi_tpkt.proofs.a_prefix_of_a_packet.{empty_partial}
 pub use Rattle.osi_tpkt.proofs.a_stream_is_cut_in_one_way.{end_no_packet, some_cut}
 pub use Rattle.osi_tpkt.specs.Packet.{IsPacket, packet_of}
 pub use Rattle.osi_tpkt.specs.Stream.{ArePackets, Ending, EndsAt, offset_of}
-pub use Rattle.osi_tpkt.specs.declared.cutting.Fed.{Fed}
 pub use Rattle.osi_tpkt.specs.declared.faults.TpktFault.{TpktFault}
 pub use Rattle.osi_tpdu.proofs.the_units_of_a_packet.{units_fit, units_found, units_only}
 pub use Rattle.osi_tpdu.proofs.the_written_form_spells_its_value.{written_spells}
-pub use Rattle.osi_tpdu.specs.Limits.{tsap_octets}
 pub use Rattle.osi_tpdu.specs.Packet.{AreUnits, units_of}
-pub use Rattle.osi_tpdu.specs.Value.{Connect, HasFieldsInRange, IsConnect, Value, acknowledge, confirm, data0, data2, destination_of}
-pub use Rattle.osi_tpdu.specs.Value.{disconnect, disconnected, error, may_be_followed, request}
+pub use Rattle.osi_tpdu.specs.Value.{Connect, HasFieldsInRange, Value, acknowledge, confirm, data0, data2, destination_of, disconnect}
+pub use Rattle.osi_tpdu.specs.Value.{disconnected, error, may_be_followed, request}
 pub use Rattle.osi_tpdu.specs.Writing.{Fits, written}
 pub use Rattle.osi_tpdu.specs.declared.faults.TpduFault.{TpduFault}
-pub use Rattle.osi_tpdu.specs.declared.tsaps.Tsap.{Tsap}
 pub use Rattle.osi_class.proofs.between.parts_stay_in_order.{at_some}
 pub use Rattle.osi_class.proofs.bounds.what_a_call_preserves.{move_keeps, takes_run}
 pub use Rattle.osi_class.proofs.giving.what_calls_send.{all}
 pub use Rattle.osi_class.specs.Ends.{Ends}
 pub use Rattle.osi_class.specs.Flow.{Flow}
-pub use Rattle.osi_class.specs.Giving.{all_given}
 pub use Rattle.osi_class.specs.Limits.{longest_tsdu}
-pub use Rattle.osi_class.specs.Link.{Given, Standing, ack, part0, part2, unit_of, with_tsdu}
+pub use Rattle.osi_class.specs.Link.{Given, Standing, ack, part0, part2, unit_of}
 pub use Rattle.osi_class.specs.Negotiation.{Selection, accept, refuse, selected_by}
 pub use Rattle.osi_class.specs.Runs.{Move, Moves, MovesAlong, give_out, given_parts, hand_in, hand_out, part_out, parts_in, parts_out}
 pub use Rattle.osi_class.specs.Runs.{take_in, tsdus_in, tsdus_out, unit_parts}
 pub use Rattle.osi_class.specs.Tsdus.{Part, tsdus, tsdus_after, uncut}
-pub use Rattle.osi_class.specs.declared.faults.LinkFault.{LinkFault}
 pub use Rattle.osi_class.specs.declared.terms.Class.{Class}
 pub use Rattle.osi_class.specs.declared.terms.Class.TheVariants.{Two, Zero}
 pub use Rattle.osi_class.specs.declared.terms.Local.{Local}
-pub use Rattle.osi_carrier.proofs.effects.what_is_in_front_changes_nothing.{apart_all}
-pub use Rattle.osi_carrier.proofs.stream.a_piece_is_read_packet_by_packet.{acts_cases}
 pub use Rattle.osi_carrier.proofs.effects.units_one_after_the_other.{react_over}
-pub use Rattle.osi_carrier.proofs.written.what_is_put_is_written.{call_written, state_is, unit_written}
-pub use Rattle.osi_carrier.specs.Calls.{asks, closed_on, closed_with, ended_by, link_of, may_connect, open_link, send_all_error, sent}
-pub use Rattle.osi_carrier.specs.Calls.{put_closing, put_sent, put_together, sent_all}
+pub use Rattle.osi_carrier.proofs.effects.what_is_in_front_changes_nothing.{apart_all}
+pub use Rattle.osi_carrier.proofs.written.what_is_put_is_written.{outcome_over, state_is}
+pub use Rattle.osi_carrier.specs.Calls.{closed_on, closed_with, ended_by, link_of, may_connect, open_link, put_closing, put_sent}
+pub use Rattle.osi_carrier.specs.Calls.{put_together, sent, sent_all}
 pub use Rattle.osi_carrier.specs.Fetching.{IsNoFront}
 pub use Rattle.osi_carrier.specs.Happenings.{Happening}
 pub use Rattle.osi_carrier.specs.Negotiation.{acceptance, opened_link, unit_octets}
-pub use Rattle.osi_carrier.specs.Orderly.{RiseFrom, connection_by}
-pub use Rattle.osi_carrier.specs.Pump.{written_by}
-pub use Rattle.osi_carrier.specs.React.{answers, before_class, denies, handed_out, has_peer, in_class, in_two, in_zero, is_full, pumps}
-pub use Rattle.osi_carrier.specs.React.{outcome, put_for, react, react_by, reacts, taking, to_connection, to_linked, to_only, to_reference}
+pub use Rattle.osi_carrier.specs.Orderly.{RiseFrom}
+pub use Rattle.osi_carrier.specs.React.{answers, answers_request, before_class, denies, in_class, in_two, outcome, put_for, react, react_by}
+pub use Rattle.osi_carrier.specs.React.{to_connection, to_linked, to_only}
 pub use Rattle.osi_carrier.specs.Rows.{Rows, value_at}
 pub use Rattle.osi_carrier.specs.Runs.{UserCall, breaks, closes, connects, put_back, put_by, sends, sends_all, user, user_does}
 pub use Rattle.osi_carrier.specs.State.{State as Carrier, Connection as Live, closing, ends, linked, packets}
 pub use Rattle.osi_carrier.specs.declared.ends.EndReason.{EndReason}
-pub use Rattle.osi_carrier.specs.declared.ends.EndReason.TheVariants.{NoMemory}
 pub use Rattle.osi_carrier.specs.declared.faults.OpenError.{OpenError}
 pub use Rattle.osi_carrier.specs.declared.faults.OpenError.TheVariants.{Ended, NotCaller}
 pub use Rattle.osi_session.proofs.tsdu.what_is_sent_is_taken_as_meant.{said_again}
-pub use Rattle.osi_session.specs.Listening.{Input, Listener}
+pub use Rattle.osi_session.specs.Listening.{Listener}
 pub use Rattle.osi_session.specs.Standing.{Seen}
 pub use Rattle.osi_stack.proofs.called.what_is_sent_is_short.{SpduLaws}
-pub use Rattle.osi_stack.proofs.carried.events_one_after_the_other.{concluded_carrier}
-pub use Rattle.osi_stack.proofs.carried.packets_without_events.{lasting_of, packet_is, quiet_stops}
-pub use Rattle.osi_stack.proofs.carried.what_each_step_preserves.{events_heard}
-pub use Rattle.osi_stack.proofs.given_up.the_invariant_stays.{disconnect_carrier}
-pub use Rattle.osi_stack.proofs.stream.an_end_is_what_its_packets_make.{none_ended}
-pub use Rattle.osi_stack.proofs.stream.the_room_for_a_packet.{found_how}
-pub use Rattle.osi_stack.specs.Calls.{after_open, has_given}
-pub use Rattle.osi_stack.specs.Feeding.{Feeds, Goes, TakesPackets, uses_all}
-pub use Rattle.osi_stack.specs.Hearing.{RunsOut, Starves, after_packet, hears_times, with_carrier, with_events}
-pub use Rattle.osi_stack.specs.Messages.{AreShort}
-pub use Rattle.osi_stack.specs.Moving.{carrier_by, to_session}
-pub use Rattle.osi_stack.specs.Runs.{Call, Calls, carried_in, used_in}
+pub use Rattle.osi_stack.proofs.carried.packets_without_events.{lasting_of}
+pub use Rattle.osi_stack.specs.Calls.{has_given}
+pub use Rattle.osi_stack.specs.Feeding.{TakesPackets}
 pub use Rattle.osi_stack.specs.State.{End, Holding}
-pub use Rattle.osi_stack.specs.declared.connecting.ConnectError.{ConnectError}
 pub use Rattle.osi_rules.proofs.a_stop_is_said.{stops_are_said, stops_last}
 pub use Rattle.osi_rules.specs.Reaches.{is_applied, reach_of}
 pub use Rattle.osi_rules.specs.Rows.{Test, acknowledge_tests, confirm_tests, data0_tests, first_failed, given_again}
@@ -130,6 +112,7 @@ pub use Rattle.osi_honest.proofs.courses.how_long_a_connection_is_open.{stage_ov
 pub use Rattle.osi_honest.proofs.courses.the_first_cc_opens_a_connection.{Awaiting, FirstOf, HasNoCc, asked_so, awaits, goes}
 pub use Rattle.osi_honest.proofs.courses.units_of_each_connection.{all_units_more, none_mark, units_more}
 pub use Rattle.osi_honest.proofs.courses.what_a_run_does_to_it.{TurnOf, TurnsOf, fresh_course, fresh_turns, turn_continues}
+pub use Rattle.osi_honest.proofs.courses.what_a_session_puts.{unlinked_put}
 pub use Rattle.osi_honest.proofs.courses.what_calls_of_a_link_say.{fresh_of, none_said, out_more, said_more, taken_more}
 pub use Rattle.osi_honest.proofs.courses.what_sessions_hear_of_it.{Known}
 pub use Rattle.osi_honest.proofs.courses.what_units_do_to_a_course.{no_calls}
@@ -139,14 +122,8 @@ pub use Rattle.osi_honest.proofs.ends.the_cn_of_a_request_fits.{can_begin}
 pub use Rattle.osi_honest.proofs.ends.what_a_session_answers_fits.{all_proper}
 pub use Rattle.osi_honest.proofs.ends.what_a_session_sends_fits.{AllProper}
 pub use Rattle.osi_honest.proofs.ends.what_class_0_does_not_take_ends_the_end.{AreHard, IsHard, IsHardPacket, IsLast, IsZeroAt, hard_ends}
-pub use Rattle.osi_honest.proofs.keeping.what_holds_of_each_connection_stays.{row_at, row_more, row_put, row_without}
-pub use Rattle.osi_honest.proofs.reading.a_written_form_is_of_one_unit.{packets_once}
-pub use Rattle.osi_honest.proofs.reading.a_cr_and_a_cc_can_be_written.{cc_plain, cr_by, size_in_range}
-pub use Rattle.osi_honest.proofs.reading.how_much_of_a_piece_is_used.{all_octets, more_used, stopped_within}
 pub use Rattle.osi_honest.proofs.reading.two_readings_of_a_stream_agree.{GoesBeyond, first, packets_on, packets_then, front_of as part_of}
 pub use Rattle.osi_honest.proofs.reading.two_readings_of_a_stream_agree.{second, two_readings}
-pub use Rattle.osi_honest.proofs.reading.what_a_link_gives_can_be_written.{AreNumbered, IsNumbered, gives_written, link_opens}
-pub use Rattle.osi_honest.proofs.reading.what_a_link_gives_can_be_written.{taken_numbered}
 pub use Rattle.osi_honest.proofs.reading.what_is_written_is_read_again.{CanBeWritten, packets_joined, read_again}
 pub use Rattle.osi_honest.proofs.sessions.a_history_is_a_run.{history_runs}
 pub use Rattle.osi_honest.proofs.sessions.the_session_of_a_request_is_a_caller.{opens_so}
@@ -155,13 +132,13 @@ pub use Rattle.osi_honest.specs.Courses.{AreCalls, Continues, Deeds, Gone, IsFre
 pub use Rattle.osi_honest.specs.Courses.{then_did, units_given, units_in, units_read, units_taken}
 pub use Rattle.osi_honest.specs.Courses.Course.{awaited, is_gone, unknown}
 pub use Rattle.osi_honest.specs.Courses.Gone.{closed, never, over}
+pub use Rattle.osi_honest.specs.Doing.{Makes}
 pub use Rattle.osi_honest.specs.Marked.{Marked, all_units, is_of_link, units_at}
 pub use Rattle.osi_honest.specs.Parts.{ends_whole}
 pub use Rattle.osi_honest.specs.Seeing.{IsFresh, IsPrefix, IsSeen, PassAfter, put_along, used_along}
 pub use Rattle.osi_honest.specs.Showing.{Shows}
 pub use Rattle.osi_honest.specs.Talking.{Said, octets_said, told_of}
-pub use Rattle.osi_honest.specs.Turns.{Run, Takes, Turn, carried_by, used_by}
-pub use Rattle.osi_honest.specs.Turns.Act.{serving, using}
+pub use Rattle.osi_honest.specs.Turns.{Run, Takes, Turn}
 pub use Rattle.osi_judge.proofs.a_capture_has_one_first_break.{first_held}
 pub use Rattle.osi_judge.proofs.a_piece_comes_to_what_its_octets_do.{after_more, going, looks}
 pub use Rattle.osi_judge.proofs.no_break_was_before_the_first.{marked_past, noted_past}
@@ -186,7 +163,7 @@ pub use Rattle.osi_judge.specs.declared.marks.Mark.{Mark}
 pub use Rattle.osi_judge.specs.declared.marks.Marks.{Marks}
 pub use Rattle.osi_judge.specs.declared.rooms.Room.{Room}
 pub use Rattle.osi_judge.specs.declared.rooms.Room.TheVariants.{All, Octets}
-pub use Rattle.osi_fair.proofs.a_called_end_is_fair.{Stage, all_joined, called_fair, lines, selected, selecting}
+pub use Rattle.osi_fair.proofs.a_called_end_is_fair.{Stage, called_fair, lines, selected, selecting}
 pub use Rattle.osi_fair.proofs.a_called_end_is_fair_in_class_0.{called_fair_in_class_0}
 pub use Rattle.osi_fair.proofs.a_called_end_selects_class_zero.{Selecting}
 pub use Rattle.osi_fair.proofs.a_calling_end_is_fair.{calling_fair, calling_fair_in_class_0}
@@ -218,12 +195,11 @@ pub use Rattle.osi_fair.proofs.small_facts_that_many_lemmas_use.{first_is, is_fa
 pub use Rattle.osi_fair.proofs.small_facts_that_many_lemmas_use.{unequal}
 pub use Rattle.osi_fair.proofs.the_end_is_judged_as_the_other_side_is.{side_zero}
 pub use Rattle.osi_fair.proofs.units_by_their_place.{Placed, at_first, at_join, first_at, values}
-pub use Rattle.osi_fair.proofs.what_a_called_end_does_to_its_lines.{above_more}
 pub use Rattle.osi_fair.proofs.what_a_carrier_puts.{alone, connected}
 pub use Rattle.osi_fair.proofs.what_a_link_does.{begun_by, gives_so, takes_so}
 pub use Rattle.osi_fair.proofs.what_an_end_does_in_class_zero.{IsInZero, anyhow, zero_puts}
 pub use Rattle.osi_fair.proofs.what_an_end_puts_in_class_zero.{PutsData}
-pub use Rattle.osi_fair.proofs.what_becomes_of_a_called_end.{IsCalled, above_up, closing_no_cc, confirms_no_cc, given_no_cc, none_by_call}
+pub use Rattle.osi_fair.proofs.what_becomes_of_a_called_end.{IsCalled, closing_no_cc, confirms_no_cc, given_no_cc, none_by_call}
 pub use Rattle.osi_fair.proofs.what_becomes_of_a_connection.{IsIdle, comes_for}
 pub use Rattle.osi_fair.proofs.what_holds_of_one_item.{HoldsOfEach, after_add, after_map, after_set, each_add, each_map, each_set}
 pub use Rattle.osi_fair.proofs.what_holds_of_one_item.{first_true, none_true, one_added, one_changed, one_mapped, one_put}
@@ -233,7 +209,6 @@ pub use Rattle.osi_fair.proofs.what_lasts_at_the_judge.{lasts_passing}
 pub use Rattle.osi_fair.proofs.what_stays_of_each_connection.{left_then, own_stays, right_passes}
 pub use Rattle.osi_fair.proofs.what_the_other_side_closes.{IsClear, IsFirm, IsOngoing, going_on, is_name}
 pub use Rattle.osi_fair.proofs.which_requests_are_put.{asked_among, call_asks, unit_asks}
-pub use Rattle.osi_fair.proofs.which_unit_comes_to_a_called_end.{IsCalm}
 pub use Rattle.osi_fair.proofs.which_units_are_for_a_connection.{IsDc, each_picked, first_kept, first_left, names_in as is_at, is_dc, keep}
 pub use Rattle.osi_fair.proofs.which_units_are_for_a_connection.{leads, names, picked, picked_first, picked_join, picked_other, picked_rest}
 pub use Rattle.osi_fair.proofs.which_units_are_for_a_connection.{those, those_join}

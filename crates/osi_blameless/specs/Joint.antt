@@ -7,10 +7,12 @@ use Rattle.osi_tpkt.specs.Stream.{ArePackets}
 use Rattle.osi_tpdu.specs.Packet.{units_of}
 use Rattle.osi_tpdu.specs.Value.{Value}
 use Rattle.osi_tpdu.specs.Writing.{written}
-use Rattle.osi_carrier.specs.State.{packets}
+use Rattle.osi_carrier.specs.State.{State, packets}
 use Rattle.osi_side.specs.declared.directions.Direction.{Direction}
 use Rattle.osi_side.specs.Captures.{other}
 use Rattle.osi_stack.specs.State.{Holding}
+use Rattle.osi_fair.specs.Pieces.{units_in}
+use Rattle.osi_honest.specs.Doing.{Makes}
 use Rattle.osi_honest.specs.Turns.{Takes, Turn}
 use Rattle.osi_honest.specs.Writable.{CanBeWritten}
 use Rattle.osi_judge.specs.Courses.{Course, fresh, packet_begins, units_pass}
@@ -40,7 +42,8 @@ pub data Step : Type 0 where
   passes_other : (at : ℕ) → List ℕ → List Value → Step
 
 -- The end takes a turn. It puts these units, each of which can be written, and uses these packets: the next that have passed. As
--- long as it lasts, it holds the octets after them.
+-- long as it lasts, it holds the octets after them. By what was done at its carrier it put those units and took the first units of these
+-- packets: all of them, as long as it lasts.
 pub record TakesTurn (turn : Turn) (old new : Joint) : Type 0 where
   pub takes : Takes old.holding turn new.holding
   pub units : List Value
@@ -55,6 +58,13 @@ pub record TakesTurn (turn : Turn) (old new : Joint) : Type 0 where
   -- an end that is over left no packet in them
   pub all : old.holding.end.carrier.ended ≡ None → new.holding.end.carrier.ended ≢ None →
       (more : List (List ℕ)) (last : List ℕ) → ArePackets more rest last → more ≡ []
+  pub took : List Value
+  pub there : State
+  pub makes : Makes old.holding.end.carrier took units there
+  pub same : new.holding.end.carrier ≡ record there { outgoing = new.holding.end.carrier.outgoing }
+  pub left : List Value
+  pub first : old.holding.end.carrier.ended ≡ None → units_in used ≡ took ++ left
+  pub none_left : new.holding.end.carrier.ended ≡ None → left ≡ []
   pub begun : new.begun ≡ old.begun
   pub course : new.course ≡ old.course
 

@@ -2,8 +2,6 @@
 mod Vocabulary
 -- What holds of an end at any time: what its sessions send fits, and an end that is over does nothing.
 pub mod ends
--- What stays true of an end over each turn.
-pub mod keeping
 -- The packets of a stream, and that what an end puts is read again.
 pub mod reading
 -- What a session took and sent is a run of it.

@@ -7,13 +7,13 @@ pub use Rattle.std.proofs.lemmas.Bool.{eq-eqb, eqb-true, leb-true, ltb-false, no
 pub use Rattle.std.proofs.lemmas.Bool.Decides.{nat_tests}
 pub use Rattle.std.proofs.lemmas.Grind.{flat_map-append}
 pub use Rattle.std.proofs.lemmas.List.{append-nil, append_cancel_left, length-append, length-take, map-append, take-append-drop, take_all}
-pub use Rattle.std.specs.List.{AllByRecursion, flat_map}
+pub use Rattle.std.specs.List.{AllByRecursion, flat_map, list_any}
+pub use Rattle.osi_unit.proofs.lists_of_octets_stay_octets.{octets_left, octets_nil, octets_right}
+pub use Rattle.osi_unit.specs.Octets.{IsOctets}
 pub use Rattle.osi_tpkt.proofs.a_prefix_of_a_packet.{empty_partial}
 pub use Rattle.osi_tpkt.proofs.a_stream_is_cut_in_one_way.{end_no_packet}
-pub use Rattle.osi_unit.proofs.lists_of_octets_stay_octets.{octets_left, octets_nil, octets_right}
 pub use Rattle.osi_tpkt.proofs.no_packet_is_a_prefix_of_another.{one_packet}
 pub use Rattle.osi_tpkt.specs.Held.{Held}
-pub use Rattle.osi_unit.specs.Octets.{IsOctets}
 pub use Rattle.osi_tpkt.specs.Packet.{IsPacket, IsPartial, packet_of}
 pub use Rattle.osi_tpkt.specs.Stream.{ArePackets, Ending, EndsAt, offset_of}
 pub use Rattle.osi_tpkt.specs.Stream.Ending.{Faulty, Rest}
@@ -40,34 +40,32 @@ pub use Rattle.osi_class.specs.Joining.{Joining}
 pub use Rattle.osi_class.specs.Limits.{longest_tsdu}
 pub use Rattle.osi_class.specs.Link.{Given, Standing, ack, given_part, next, next_by, part0, part2, taken, taken_by, unit_of, with_tsdu}
 pub use Rattle.osi_class.specs.Negotiation.{Selection, accept, refuse, selected_by}
-pub use Rattle.osi_class.specs.Runs.{Move, MovesAlong, give_out, hand_in, hand_out, parts_in, parts_out, take_in, tsdu_out, tsdus_in}
+pub use Rattle.osi_class.specs.Runs.{Move, Moves, MovesAlong, give_out, hand_in, hand_out, parts_in, parts_out, take_in, tsdu_out, tsdus_in}
 pub use Rattle.osi_class.specs.Runs.{tsdus_out}
 pub use Rattle.osi_class.specs.Tsdus.{Part, tsdus, uncut}
 pub use Rattle.osi_class.specs.declared.faults.LinkFault.{LinkFault}
 pub use Rattle.osi_class.specs.declared.terms.Class.{Class}
 pub use Rattle.osi_class.specs.declared.terms.Class.TheVariants.{Two, Zero}
 pub use Rattle.osi_class.specs.declared.terms.Local.{Local}
-pub use Rattle.osi_carrier.proofs.effects.a_unit_touches_one_connection.{How, changes_one, effect, orderly_closed, orderly_end}
-pub use Rattle.osi_carrier.proofs.effects.a_unit_touches_one_connection.{orderly_fresh, orderly_same, orderly_sent, orderly_unit}
+pub use Rattle.osi_carrier.proofs.effects.a_unit_touches_one_connection.{How, changes_one, effect, orderly_asks, orderly_closed}
+pub use Rattle.osi_carrier.proofs.effects.a_unit_touches_one_connection.{orderly_end, orderly_fresh, orderly_same, orderly_sent}
+pub use Rattle.osi_carrier.proofs.effects.a_unit_touches_one_connection.{orderly_unit}
 pub use Rattle.osi_carrier.proofs.effects.units_one_after_the_other.{react_over, react_quiet, reacts_over}
 pub use Rattle.osi_carrier.proofs.references.rows_after_a_change.{push_other, put_other}
 pub use Rattle.osi_carrier.proofs.references.what_a_change_leaves_there.{absent, beyond, push_here, put_here, without_here}
 pub use Rattle.osi_carrier.proofs.stream.a_piece_is_read_packet_by_packet.{acts_cases, packets_more}
-pub use Rattle.osi_carrier.proofs.written.what_is_put_is_written.{outcome_quiet, state_is, together_written, unit_written}
-pub use Rattle.osi_carrier.specs.Calls.{put_closing, put_sent, put_together}
-pub use Rattle.osi_carrier.specs.Calls.{class_error, closed_on, closed_with, closes, link_of, may_connect, open_link, or_else, room_error}
-pub use Rattle.osi_carrier.specs.Calls.{send_all_error, sent, sent_all, sent_on}
+pub use Rattle.osi_carrier.proofs.written.what_is_put_is_written.{outcome_over, outcome_quiet, state_is, together_written, unit_written}
+pub use Rattle.osi_carrier.specs.Calls.{asks, class_error, closed_on, closed_with, closes, link_of, may_connect, open_link, or_else}
+pub use Rattle.osi_carrier.specs.Calls.{put_closing, put_sent, put_together, room_error, send_all_error, sent, sent_all, sent_on}
 pub use Rattle.osi_carrier.specs.Happenings.{Happening, opened as told_opened, tsdu}
 pub use Rattle.osi_carrier.specs.Negotiation.{acceptance, agreed_size, confirmed, opened_link, proposal, proposal_by}
 pub use Rattle.osi_carrier.specs.Orderly.{IsOrderly, RiseFrom, connection_by, connection_of, only_of}
 pub use Rattle.osi_carrier.specs.Pump.{pumped, written_by}
-pub use Rattle.osi_carrier.specs.React.{outcome, put_for}
 pub use Rattle.osi_carrier.specs.React.{answers, before_class, breaks, denies, handed_out, has_peer, in_class, in_two, in_zero, is_full}
-pub use Rattle.osi_carrier.specs.React.{leaves, opens as opens_by, react, reacts, settles, taking, to_asked, to_closing, to_connection}
-pub use Rattle.osi_carrier.specs.React.{to_linked, to_only, to_reference, to_unknown}
+pub use Rattle.osi_carrier.specs.React.{leaves, opens as opens_by, outcome, put_for, react, reacts, settles, taking, to_asked, to_closing}
+pub use Rattle.osi_carrier.specs.React.{to_connection, to_linked, to_only, to_reference, to_unknown}
 pub use Rattle.osi_carrier.specs.Rows.{Rows, put, value_at, without}
-pub use Rattle.osi_carrier.specs.State.{Outcome, puts, puts_none}
-pub use Rattle.osi_carrier.specs.State.{Connection, State, asked, closing, linked, packets}
+pub use Rattle.osi_carrier.specs.State.{Connection, Outcome, State, asked, closing, linked, packets, puts, puts_none}
 pub use Rattle.osi_carrier.specs.declared.ends.EndReason.{EndReason}
 pub use Rattle.osi_carrier.specs.declared.ends.EndReason.TheVariants.{Broken, NoMemory}
 pub use Rattle.osi_carrier.specs.declared.faults.OpenError.{OpenError}
@@ -84,9 +82,10 @@ pub use Rattle.osi_session.proofs.runs.what_every_run_preserves.{input_begun}
 pub use Rattle.osi_session.proofs.sent.what_is_sent_can_be_written.{asked_sendable}
 pub use Rattle.osi_session.specs.Allowed.{most_user_data, serial_for}
 pub use Rattle.osi_session.specs.Calls.{HasSerial, Call as SessionCall}
-pub use Rattle.osi_session.specs.Listening.{Input, Listener, after_input, broken, called, came, opened as linked_up, react as session_react}
+pub use Rattle.osi_session.specs.Listening.{Input, Listener, after_input, broken, called, came, opened as linked_up, refused}
+pub use Rattle.osi_session.specs.Listening.{react as session_react}
 pub use Rattle.osi_session.specs.Phases.{is_wait_transport}
-pub use Rattle.osi_session.specs.Sessions.{awaits, refusal_of}
+pub use Rattle.osi_session.specs.Sessions.{awaits, opens, refusal_of}
 pub use Rattle.osi_session.specs.Sides.{offered}
 pub use Rattle.osi_session.specs.Sizes.{limit_of}
 pub use Rattle.osi_session.specs.Standing.{Seen, seen_called, seen_calling}
@@ -103,7 +102,6 @@ pub use Rattle.osi_stack.proofs.carried.what_each_step_preserves.{Carries, event
 pub use Rattle.osi_stack.proofs.carried.what_sessions_leave_of_the_carrier.{hears_keep}
 pub use Rattle.osi_stack.proofs.given_up.the_invariant_stays.{disconnect_attended, disconnect_carrier, disconnect_is, given_other}
 pub use Rattle.osi_stack.proofs.opening.connections_that_units_open.{along_units}
-pub use Rattle.osi_stack.proofs.sound.the_invariant_between_calls.{connect_orderly}
 pub use Rattle.osi_stack.proofs.sound.the_invariant_is_kept.{closed_given, concludes_lasting, open_none, sent_given, units_rise}
 pub use Rattle.osi_stack.proofs.stream.an_end_is_what_its_packets_make.{none_ended}
 pub use Rattle.osi_stack.proofs.stream.the_room_for_a_packet.{found_how}
@@ -112,7 +110,7 @@ pub use Rattle.osi_stack.proofs.stream.what_was_written_is_read.{attended_kept, 
 pub use Rattle.osi_stack.specs.Calls.{asked_for, call_error, called_octets, calling_octets, calls_with, connect_error, connects, has_given}
 pub use Rattle.osi_stack.specs.Calls.{is_long, is_long_address, opening_of, terms_error, without_first}
 pub use Rattle.osi_stack.specs.Disconnecting.{disconnect_error, disconnects}
-pub use Rattle.osi_stack.specs.Feeding.{Feeds, FindsNoMemory, Goes, Refuses, RunsDry, StopsBehind, TakesPackets, uses_all}
+pub use Rattle.osi_stack.specs.Feeding.{Feeds, FindsNoMemory, Goes, Refuses, RunsDry, StopsBehind, TakesPackets, stops, uses_all}
 pub use Rattle.osi_stack.specs.Hearing.{RunsOut, Starves, after_packet, attends, concludes, ends, hears, hears_all, hears_next, hears_times}
 pub use Rattle.osi_stack.specs.Hearing.{opens as opens_line, starves, with_carrier, with_events}
 pub use Rattle.osi_stack.specs.Inputs.{IsAccepted}
@@ -137,6 +135,7 @@ pub use Rattle.osi_honest.specs.Courses.{SoFar, Speaks, all_did, no_deeds, said_
 pub use Rattle.osi_honest.specs.Courses.{units_taken}
 pub use Rattle.osi_honest.specs.Courses.Course.{awaited, is_gone, is_open, unknown}
 pub use Rattle.osi_honest.specs.Courses.Gone.{closed, never, over}
+pub use Rattle.osi_honest.specs.Doing.{Makes}
 pub use Rattle.osi_honest.specs.Marked.{AreByLinks, Marked, all_units, if_of, is_of_link, units_at}
 pub use Rattle.osi_honest.specs.Seeing.{IsFresh, IsPrefix}
 pub use Rattle.osi_honest.specs.Showing.{AreSame, Shows}

@@ -22,6 +22,7 @@ use Rattle.osi_stack.specs.Messages.{kept_at}
 use Rattle.osi_stack.specs.State.{End, Holding}
 use Rattle.osi_stack.specs.declared.connecting.Connect.{Connect}
 use Rattle.osi_honest.specs.Arriving.{Lives}
+use Rattle.osi_honest.specs.Doing.{Makes}
 use Rattle.osi_honest.specs.Marked.{AreByLinks, Marked, all_units, units_at}
 use Rattle.osi_honest.specs.Talking.{History, Said}
 use Rattle.osi_honest.specs.Turns.{Takes, Turn}
@@ -165,6 +166,10 @@ pub record Continues (is_caller : Bool) (deeds : ℕ → Deeds) (old : Holding) 
   pub taken : (r : ℕ) → 0 < r → units_taken (more r).calls ≡ units_at r took
   -- While it is open, its link takes all that is for it.
   pub lives : (r : ℕ) → 0 < r → Lives is_caller r old.end.carrier took put new.end.carrier
+  -- By what was done at the carrier it took and put these units. Then octets may have been handed over.
+  pub there : State
+  pub makes : Makes old.end.carrier (units_in used) (all_units put) there
+  pub same : new.end.carrier ≡ record there { outgoing = new.end.carrier.outgoing }
 
 -- and then more, at each connection
 abbrev pub all_did : (ℕ → Deeds) → (ℕ → Deeds) → ℕ → Deeds

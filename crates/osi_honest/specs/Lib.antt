@@ -6,4 +6,5 @@ pub mod Seeing
 pub mod Marked
 pub mod Writable
 pub mod Arriving
+pub mod Doing
 pub mod Courses

@@ -2,15 +2,15 @@
 -- For what an end does with the packets before a break of the other side.
 use Rattle.osi_honest.proofs.Vocabulary.{[], ap, Bool, false, is_some, List, None, Option, refl, Some, subst, sym, true, ℕ, ◌++◌, ◌∷◌, ◌≡◌}
 use Rattle.osi_honest.proofs.Vocabulary.{ArePackets, packets, Local, EndReason, lasting_of, or_second, TakesPackets, Calls, Call, carrying}
-use Rattle.osi_honest.proofs.Vocabulary.{feeding, telling, End, Holding, waits, Deeds, all_units, IsFresh, Act, Acts, Takes, Turn, arith}
-use Rattle.osi_honest.proofs.Vocabulary.{empty_partial, IsPartial}
-use Rattle.osi_stack.specs.Feeding.{stops}
+use Rattle.osi_honest.proofs.Vocabulary.{feeding, telling, End, Holding, waits, Continues, Deeds, units_in, all_units, IsFresh, Act, Acts}
+use Rattle.osi_honest.proofs.Vocabulary.{Takes, Turn, arith, empty_partial, IsPartial, stops}
 use Rattle.osi_honest.proofs.reading.how_much_of_a_piece_is_used.{all_octets}
 use Rattle.osi_honest.proofs.courses.an_end_takes_packets_up_to_its_last.{dry_to}
 use Rattle.osi_honest.proofs.courses.steps_of_a_course.{HoldEach}
 use Rattle.osi_honest.proofs.courses.what_a_packet_does_to_it.{Between, takes_steps}
-use Rattle.osi_honest.proofs.courses.what_a_run_does_to_it.{act_between, fresh_between}
+use Rattle.osi_honest.proofs.courses.what_a_run_does_to_it.{fresh_between, turn_between}
 use Rattle.osi_honest.proofs.courses.what_sessions_hear_of_it.{CourseAll, Known}
+use Rattle.osi_honest.proofs.courses.what_is_put_is_written.{makes_written}
 
 -- ---- what is held
 
@@ -39,8 +39,12 @@ pub record IsSane (h : Holding) : Type 0 where
   pub between : Between h.end
   pub part : IsPartial h.held.octets
 
-pub turn_sane : (turn : Turn) (old new : Holding) → Takes old turn new → IsSane old → IsSane new
-turn_sane turn old new t s = grind (arith, act_between, part_act)
+pub turn_sane : (is_caller : Bool) (deeds : ℕ → Deeds) (turn : Turn) (old new : Holding) → Continues is_caller deeds old turn new →
+    Takes old turn new → IsSane old → IsSane new
+turn_sane is_caller deeds turn old new on t s = record {
+  between = turn_between is_caller deeds turn old new on t s.between;
+  part = part_act t.act old new t.acts s.part;
+}
 
 pub fresh_sane : (is_caller : Bool) (local : Local) (h : Holding) → IsFresh is_caller local h → IsSane h
 fresh_sane is_caller local h fresh = grind (arith, fresh_between, part_empty)
@@ -64,5 +68,6 @@ leads_to known is_caller deeds old s course u us more r mid quiet cut taken stil
     course taken in
     let g = dry_to old (lasting_of old.end.carrier.ended (waits old.end.lines) quiet)
     (or_second (is_some old.end.carrier.ended) (waits old.end.lines) quiet) s.part (u ∷ us) (packets (all_units steps.put)) u us more r mid
-    cut taken still steps.written in
+    cut taken still
+    (makes_written old.end.carrier mid.carrier (units_in (u ∷ us)) (all_units steps.put) steps.makes) in
     record { turn = g.turn; new = g.new; there = g.there; takes = g.takes; cut = g.cut; held = g.held }

@@ -7,8 +7,7 @@ use Rattle.osi_honest.proofs.Vocabulary.{Ending, EndsAt, offset_of, Faulty, Rest
 use Rattle.osi_honest.proofs.Vocabulary.{found_how, Feeds, FindsNoMemory, Goes as GoesThrough, Refuses, RunsDry, StopsBehind, TakesPackets}
 use Rattle.osi_honest.proofs.Vocabulary.{uses_all, uses_within, ends, after_packet, Starves, carrying, feeding, telling, End, Holding}
 use Rattle.osi_honest.proofs.Vocabulary.{waits, lasting_of, Act, Acts, carried_by, Takes, Turn, used_by, serving, using, empty_partial}
-use Rattle.osi_honest.proofs.Vocabulary.{Held, IsPartial}
-use Rattle.osi_stack.specs.Feeding.{stops}
+use Rattle.osi_honest.proofs.Vocabulary.{Held, IsPartial, stops}
 use Rattle.osi_honest.proofs.ends.an_end_that_is_over_does_nothing.{never_lasts, over_takes}
 use Rattle.osi_honest.proofs.ends.what_class_0_does_not_take_ends_the_end.{IsLast}
 use Rattle.osi_honest.proofs.reading.two_readings_of_a_stream_agree.{GoesBeyond, first, packets_on, packets_then, second, two_readings}

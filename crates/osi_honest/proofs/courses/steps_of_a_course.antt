@@ -1,9 +1,10 @@
 -- Steps of all connections of an end, one after the other, each with the calls of their links and with what was put and taken.
 -- For the course of a connection.
-use Rattle.osi_honest.proofs.Vocabulary.{[], ap, append_assoc, Bool, inl, IsSome, List, map, refl, subst, sym, ℕ, ◌++◌, ◌<◌, ◌∙◌, ◌≡◌}
-use Rattle.osi_honest.proofs.Vocabulary.{append-nil, Value, unit_of, Move, packets, State as Carrier, End, all_did, Deeds, no_deeds}
+use Rattle.osi_honest.proofs.Vocabulary.{[], Bool, inl, IsSome, List, map, refl, subst, sym, ℕ, ◌++◌, ◌<◌, ◌∙◌, ◌≡◌}
+use Rattle.osi_honest.proofs.Vocabulary.{append-nil, Value, unit_of, Move, State as Carrier, End, all_did, Deeds, no_deeds, Makes}
 use Rattle.osi_honest.proofs.Vocabulary.{has_given, then_did, units_given, units_taken, all_units, Marked, units_at, arith}
-use Rattle.osi_honest.proofs.reading.what_is_written_is_read_again.{packets_joined}
+use Rattle.osi_honest.specs.Doing as doing
+use Rattle.osi_honest.proofs.courses.what_is_put_is_written.{makes_after, makes_before}
 use Rattle.osi_honest.proofs.courses.how_long_a_connection_is_open.{Life, Rests, Stage, life_rests, life_then, life_then_rests}
 use Rattle.osi_honest.proofs.courses.how_long_a_connection_is_open.{life_to_past, stage_at, stage_over}
 use Rattle.osi_honest.proofs.courses.how_long_a_connection_is_open.Stage.{early, past}
@@ -54,13 +55,13 @@ States = ℕ → Deeds → End → Type 0
 abbrev pub HoldEach : States → (ℕ → Deeds) → End → Type 0
 HoldEach T deeds e = (r : ℕ) → T r (deeds r) e
 
--- More is done at each connection, after which this holds. What the carrier put is the units of `put`, and the units that it used are
--- those of `took`; each connection gave and took those of its reference.
+-- More is done at each connection, after which this holds. The carrier put the units of `put`, and the units that it used are those of
+-- `took`; each connection gave and took those of its reference.
 pub record StepsBy (is_caller : Bool) (used : List Value) (T : States) (deeds : ℕ → Deeds) (before : Carrier) (e : End) : Type 0 where
   pub more : ℕ → Deeds
   pub there : HoldEach T (all_did deeds more) e
   pub put : List Marked
-  pub written : e.carrier.outgoing ≡ before.outgoing ++ packets (all_units put)
+  pub makes : Makes before used (all_units put) e.carrier
   pub accounted : AreAccounted put
   pub own : (r : ℕ) → 0 < r → (more r).put ≡ units_at r put
   pub took : List Marked
@@ -82,16 +83,15 @@ abbrev pub Steps : Bool → States → (ℕ → Deeds) → Carrier → End → T
 Steps is_caller T deeds before e = StepsBy is_caller [] T deeds before e
 
 pub step_each : (is_caller : Bool) (used : List Value) (T : States) (deeds : ℕ → Deeds) (before : Carrier) (e : End)
-    (put took : List Marked) →
-    e.carrier.outgoing ≡ before.outgoing ++ packets (all_units put) → AreAccounted put → all_units took ≡ used →
+    (put took : List Marked) → Makes before used (all_units put) e.carrier → AreAccounted put → all_units took ≡ used →
     ((r : ℕ) → 0 < r → Life is_caller r (stage_at r before) took put (stage_at r e.carrier)) →
     ((r : ℕ) → 0 < r → FirstOf is_caller r before took put e.carrier) →
     ((r : ℕ) → StepAt r put took (T r) (deeds r) e) → StepsBy is_caller used T deeds before e
-step_each is_caller used T deeds before e put took written accounted all life first each = record {
+step_each is_caller used T deeds before e put took makes accounted all life first each = record {
   more = λ r. (each r).more;
   there = λ r. (each r).there;
   put = put;
-  written = written;
+  makes = makes;
   accounted = accounted;
   own = λ r. (each r).own;
   took = took;
@@ -103,9 +103,9 @@ step_each is_caller used T deeds before e put took written accounted all life fi
 
 -- nothing is done at any, and nothing is put
 pub step_none : (is_caller : Bool) (T : States) (deeds : ℕ → Deeds) (before : Carrier) (e : End) →
-    e.carrier.outgoing ≡ before.outgoing → AllRest before e.carrier → HoldEach T deeds e → Steps is_caller T deeds before e
-step_none is_caller T deeds before e same rest there =
-    step_each is_caller [] T deeds before e [] [] (same ∙ sym (append-nil before.outgoing)) tt refl
+    Makes before [] [] e.carrier → AllRest before e.carrier → HoldEach T deeds e → Steps is_caller T deeds before e
+step_none is_caller T deeds before e makes rest there =
+    step_each is_caller [] T deeds before e [] [] makes tt refl
     (λ r some. life_rests is_caller r (stage_at r before) (stage_at r e.carrier) [] tt (rest r).0)
     (λ r some. first_rests is_caller r before e.carrier [] tt (rest r).0 (rest r).1)
     (λ r. step_idle r [] [] (T r) (deeds r) e (λ some. refl) (λ some. refl) (there r))
@@ -120,7 +120,8 @@ step_then is_caller used others S T deeds before mid new a next =
       more = all_did a.more b.more;
       there = λ r. subst (λ (d : Deeds). T r d new) (then_joined (deeds r) (a.more r) (b.more r)) (b.there r);
       put = a.put ++ b.put;
-      written = grind (arith, append_assoc, packets_joined, all_units_more);
+      makes = subst (λ (l : List Value). Makes before (used ++ others) l new.carrier) (sym (all_units_more a.put b.put))
+          (doing.and_then before mid.carrier new.carrier used others (all_units a.put) (all_units b.put) a.makes b.makes);
       accounted = grind (arith, all_of_both);
       own = grind (arith, units_more);
       took = a.took ++ b.took;
@@ -145,7 +146,8 @@ step_more is_caller used others T deeds before e ended a = record {
   more = a.more;
   there = a.there;
   put = a.put;
-  written = a.written;
+  makes = subst (λ (l : List Value). Makes before (used ++ others) l e.carrier) (append-nil (all_units a.put))
+      (doing.and_then before e.carrier e.carrier used others (all_units a.put) [] a.makes (doing.leaves others e.carrier ended));
   accounted = a.accounted;
   own = a.own;
   took = a.took ++ marked 0 others;
@@ -165,15 +167,15 @@ step_more is_caller used others T deeds before e ended a = record {
       (λ has now. absurd (let both : past ≡ early = sym (stage_over r e.carrier ended) ∙ now in cc)));
 }
 
--- the same with another end that has put as much
+-- the same with another end, for which nothing was put
 pub step_as : (is_caller : Bool) (used : List Value) (S T : States) (deeds : ℕ → Deeds) (before : Carrier) (e new : End) →
-    StepsBy is_caller used S deeds before e → new.carrier.outgoing ≡ e.carrier.outgoing → AllRest e.carrier new.carrier →
+    StepsBy is_caller used S deeds before e → Makes e.carrier [] [] new.carrier → AllRest e.carrier new.carrier →
     ((r : ℕ) (after : Deeds) → S r after e → T r after new) → StepsBy is_caller used T deeds before new
-step_as is_caller used S T deeds before e new a same rest next = record {
+step_as is_caller used S T deeds before e new a makes rest next = record {
   more = a.more;
   there = λ r. next r (then_did (deeds r) (a.more r)) (a.there r);
   put = a.put;
-  written = same ∙ a.written;
+  makes = makes_after before e.carrier new.carrier used (all_units a.put) a.makes makes;
   accounted = a.accounted;
   own = a.own;
   took = a.took;
@@ -183,16 +185,16 @@ step_as is_caller used S T deeds before e new a same rest next = record {
   first = λ r some. first_then_rests is_caller r before e.carrier new.carrier a.took a.put (a.first r some) (rest r).0 (rest r).1;
 }
 
--- the same since another carrier that had put as much
+-- the same since another carrier, from which nothing was put
 pub step_since : (is_caller : Bool) (used : List Value) (T : States) (deeds : ℕ → Deeds) (before other : Carrier) (e : End) →
-    other.outgoing ≡ before.outgoing → ((r : ℕ) → (stage_at r other ≡ stage_at r before) × (has_given r other ≡ has_given r before)) →
+    Makes before [] [] other → ((r : ℕ) → (stage_at r other ≡ stage_at r before) × (has_given r other ≡ has_given r before)) →
     StepsBy is_caller used T deeds other e →
     StepsBy is_caller used T deeds before e
-step_since is_caller used T deeds before other e same as_open a = record {
+step_since is_caller used T deeds before other e makes as_open a = record {
   more = a.more;
   there = a.there;
   put = a.put;
-  written = a.written ∙ ap (λ (l : List ℕ). l ++ packets (all_units a.put)) same;
+  makes = makes_before before other e.carrier used (all_units a.put) makes a.makes;
   accounted = a.accounted;
   own = a.own;
   took = a.took;

@@ -11,7 +11,7 @@ use Rattle.osi_honest.proofs.Vocabulary.{in_class, in_two, in_zero, is_full, lea
 use Rattle.osi_honest.proofs.Vocabulary.{to_connection, to_linked, to_only, to_unknown, put, Rows, value_at, asked, Connection, linked}
 use Rattle.osi_honest.proofs.Vocabulary.{State as Carrier, EndReason, OpenError, Ended, NotCaller, arith, Connect, breaks, react}
 use Rattle.osi_carrier.specs.Calls.{asks as requests}
-use Rattle.osi_honest.proofs.keeping.what_a_unit_keeps_a_turn_keeps.{IsKept}
+use Rattle.osi_honest.proofs.courses.what_a_unit_keeps_a_turn_keeps.{IsKept}
 use Rattle.osi_honest.proofs.reading.what_a_link_gives_can_be_written.{gives_data, taken_zero}
 
 pub data ByClass (c : Carrier) : Type 0 where
@@ -207,14 +207,6 @@ same_class c outgoing (none live) = none live
 same_class c outgoing (asks r class caller live) = asks r class caller live
 same_class c outgoing (zero r peer link class flow live) = zero r peer link class flow live
 
-pub class_kept : IsKept ByClass
-class_kept = record {
-  reacts_to = unit_class;
-  carries = search (arith, sent_class, closed_class);
-  untold = untold_class;
-  ends_so = λ reason c p. none refl;
-}
-
 -- ---- a request
 
 may_by : (caller over : Bool) (by_class room : Option OpenError) →
@@ -237,6 +229,15 @@ pub request_class : (calling called : Option (List ℕ)) (s : Carrier) → may_c
 request_class calling called s may p =
     let h = may_by s.is_caller (is_some s.ended) (class_error s.class s.live) (room_error s) may in
     asked_by calling called s s.class refl h.0 h.1 p
+
+pub class_kept : IsKept ByClass
+class_kept = record {
+  reacts_to = unit_class;
+  carries = search (arith, sent_class, closed_class);
+  asks_for = request_class;
+  untold = untold_class;
+  ends_so = λ reason c p. none refl;
+}
 
 -- ---- what holds of the carrier of an end
 

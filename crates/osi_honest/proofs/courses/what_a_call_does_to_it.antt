@@ -12,6 +12,7 @@ use Rattle.osi_honest.proofs.Vocabulary.{End, fresh_line, session_in, Request as
 use Rattle.osi_honest.proofs.Vocabulary.{said_in, awaited, is_gone, is_open, unknown, closed, Marked, History, said_after, HasSerialIn}
 use Rattle.osi_honest.proofs.Vocabulary.{never, over, put_closing}
 use Rattle.osi_stack.specs.Calls.{breaks}
+use Rattle.osi_honest.specs.Doing as doing
 use Rattle.osi_honest.specs.Talking as history
 use Rattle.osi_honest.proofs.ends.what_a_session_sends_fits.{still_begun, granted_proper}
 use Rattle.osi_honest.proofs.ends.an_end_that_is_over_does_nothing.{never_lasts}
@@ -19,8 +20,8 @@ use Rattle.osi_honest.proofs.courses.a_connection_without_a_unit.{connect_rests,
 use Rattle.osi_honest.proofs.courses.steps_of_a_course.{HasNone, HoldEach, StepAt, Steps, step_each, step_idle}
 use Rattle.osi_honest.proofs.courses.the_first_cc_opens_a_connection.{StaysGiven, first_of, given_more, session_given}
 use Rattle.osi_honest.proofs.courses.units_of_each_connection.{AreAccounted, marked, none_marked, nowhere, unequal}
-use Rattle.osi_honest.proofs.courses.what_a_session_puts.{Puts, closing_accounted, closing_puts, puts_none, session_accounted}
-use Rattle.osi_honest.proofs.courses.what_a_session_puts.{session_others, session_puts, session_written}
+use Rattle.osi_honest.proofs.courses.what_a_session_puts.{Puts, closing_accounted, closing_puts, session_accounted}
+use Rattle.osi_honest.proofs.courses.what_a_session_puts.{session_others, session_puts, session_made}
 use Rattle.osi_honest.proofs.courses.what_sessions_hear_of_it.{CourseAll, course_given}
 use Rattle.osi_honest.proofs.courses.what_a_link_takes_and_is_handed.{closed_leaves, closed_shut, link_shut}
 use Rattle.osi_honest.proofs.courses.what_a_unit_does_to_a_connection.{given_next, next_ungiven}
@@ -191,13 +192,15 @@ module _ (is_caller : Bool) (moves : ℕ → Deeds) (e : End) (lasts : e.carrier
   each_then : (new : End) (put : List Marked) → Puts e.carrier put new.carrier → AreAccounted put →
       ((r : ℕ) → 0 < r → Life is_caller r (stage_at r e.carrier) [] put (stage_at r new.carrier)) →
       ((r : ℕ) → StaysGiven r e.carrier new.carrier) → ((r : ℕ) → StepAt r put [] (Course is_caller r) (moves r) new) → AllThen new
-  each_then new put written accounted life stays each =
-      step_each is_caller [] (CourseAll is_caller) moves e.carrier new put [] written accounted refl life
+  each_then new put made accounted life stays each =
+      step_each is_caller [] (CourseAll is_caller) moves e.carrier new put [] made accounted refl life
       (λ r some. first_of is_caller r e.carrier new.carrier [] put tt (life r some) (λ has was now. (tt, stays r now has))) each
 
   pub user_steps : (call : UserCall) → IsAccepted call e → HasSerialIn call → AllThen (user_does call e)
   user_steps (connecting c) allowed serial =
-      each_then (connects c e) (marked 0 (request_put c e)) refl (
+      each_then (connects c e) (marked 0 (request_put c e))
+      (doing.asks_for (option_map tsap_octets c.calling_tsap) (option_map tsap_octets c.called_tsap) e.carrier
+      (open_none (may_connect e.carrier) (terms_error c) allowed)) (
         grind (arith, cr_by),
         tt,
       )
@@ -205,7 +208,7 @@ module _ (is_caller : Bool) (moves : ℕ → Deeds) (e : End) (lasts : e.carrier
       (λ r now has. given_more r e.carrier.given (e.carrier.given + 1) (omega arith) has)
       (λ r. connect_steps is_caller r (moves r) e lasts c (r == e.carrier.given + 1) refl allowed (course r))
   user_steps (calling q call) allowed serial =
-      each_then (to_session q (called call) e) (session_puts q (called call) e) (session_written q (called call) e)
+      each_then (to_session q (called call) e) (session_puts q (called call) e) (session_made q (called call) e)
       (session_accounted q (called call) e (course_given is_caller q (moves q) e (course q)))
       (λ r some. session_life is_caller q r some (called call) e)
       (λ r now has. ap (λ (n : ℕ). nat_lt 0 r && nat_le r n) (session_given q (called call) e) ∙ has)
@@ -220,7 +223,7 @@ module _ (is_caller : Bool) (moves : ℕ → Deeds) (e : End) (lasts : e.carrier
       (λ r. given_steps is_caller r (moves r) e lasts q (r == q) refl allowed (course r))
   user_steps breaking allowed serial =
       each_then (breaks e) []
-      (subst (λ (x : End). Puts e.carrier [] x.carrier) (sym (break_is is_caller 0 (moves 0) e lasts)) (puts_none e.carrier)) tt
+      (subst (λ (x : End). Puts e.carrier [] x.carrier) (sym (break_is is_caller 0 (moves 0) e lasts)) (doing.ends_so Broken e.carrier)) tt
       (grind (arith, life_rests, stage_at, rests_over, break_is))
       (λ r now has. ap (λ (x : End). has_given r x.carrier) (break_is is_caller 0 (moves 0) e lasts) ∙ has)
       (λ r. break_steps is_caller r (moves r) e lasts (course r))

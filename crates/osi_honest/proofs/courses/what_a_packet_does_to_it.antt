@@ -8,10 +8,11 @@ use Rattle.osi_honest.proofs.Vocabulary.{acts_cases, IsOrderly, reacts, State as
 use Rattle.osi_honest.proofs.Vocabulary.{packet_is, quiet_stops, none_ended, found_how, packets_kept, attended_kept, Feeds, FindsNoMemory}
 use Rattle.osi_honest.proofs.Vocabulary.{Goes as GoesThrough, StopsBehind, TakesPackets, uses_all, after_packet, attends, ends, hears_times}
 use Rattle.osi_honest.proofs.Vocabulary.{RunsOut, Starves, starves, with_carrier, with_events, End, Holding, IsAttended, waits, Deeds}
-use Rattle.osi_honest.proofs.Vocabulary.{units_in, units_read, is_gone, flat_map-append}
+use Rattle.osi_honest.proofs.Vocabulary.{units_in, units_read, is_gone, flat_map-append, if◌then◌else◌, Happening, Makes, all_units, orderly_asks}
 use Rattle.osi_carrier.specs.Packets as carriers
 use Rattle.osi_carrier.specs.State as states
-use Rattle.osi_honest.proofs.ends.an_end_that_is_over_does_nothing.{starves_same, never_lasts}
+use Rattle.osi_honest.specs.Doing as doing
+use Rattle.osi_honest.proofs.ends.an_end_that_is_over_does_nothing.{never_lasts}
 use Rattle.osi_honest.proofs.reading.how_much_of_a_piece_is_used.{all_octets, more_used, stopped_within}
 use Rattle.osi_honest.proofs.courses.steps_of_a_course.{HoldEach, StepsBy, same_rest, step_after, step_as, step_more, step_none, step_then}
 use Rattle.osi_honest.proofs.courses.the_connections_of_each_class.{IsSound, class_kept, sound_unit}
@@ -23,14 +24,14 @@ use Rattle.osi_honest.proofs.courses.what_a_unit_does_to_a_connection.{NoneOf}
 use Rattle.osi_honest.proofs.courses.what_waits_to_be_heard.{waits_over}
 use Rattle.osi_honest.proofs.courses.what_waits_to_be_heard.Waits.{away}
 use Rattle.osi_honest.proofs.reading.two_readings_of_a_stream_agree.{packets_on, packets_then}
-use Rattle.osi_honest.proofs.keeping.what_a_unit_keeps_a_turn_keeps.{IsKept, kept_takes}
+use Rattle.osi_honest.proofs.courses.what_a_unit_keeps_a_turn_keeps.{IsKept, makes_kept}
 use Rattle.osi_honest.proofs.courses.how_long_a_connection_is_open.Stage.{early, past}
 use Rattle.osi_honest.proofs.courses.how_long_a_connection_is_open.{rests_over, stage_at, stage_over}
 
 -- ---- what holds of each carrier
 
 pub orderly_kept : IsKept IsOrderly
-orderly_kept = search (arith, orderly_unit, orderly_sent, orderly_closed, orderly_same, orderly_end)
+orderly_kept = search (arith, orderly_unit, orderly_sent, orderly_closed, orderly_asks, orderly_same, orderly_end)
 
 pub sound_kept : IsKept IsSound
 sound_kept = record {
@@ -42,17 +43,37 @@ sound_kept = record {
     };
     closes = λ r c h. record { orderly = orderly_kept.carries.closes r c h.orderly; by_class = class_kept.carries.closes r c h.by_class };
   };
+  asks_for = λ calling called c may h. record {
+    orderly = orderly_kept.asks_for calling called c may h.orderly;
+    by_class = class_kept.asks_for calling called c may h.by_class;
+  };
   untold = λ events c h. record { orderly = orderly_kept.untold events c h.orderly; by_class = class_kept.untold events c h.by_class };
   ends_so = λ reason c h. record { orderly = orderly_kept.ends_so reason c h.orderly; by_class = class_kept.ends_so reason c h.by_class };
 }
+
+-- memory runs out for an event
+starves_made : (events : List Happening) (e : End) → Makes e.carrier [] [] (starves (with_events events e)).carrier
+starves_made events e = by (is_some e.carrier.ended) e.carrier
+  where
+    by : (b : Bool) (c : Carrier) →
+        Makes c [] [] (if b then record c { events = events } else states.ends NoMemory (record c { events = events }))
+    by true c = doing.hears events c
+    by false c =
+        let untold : Carrier = record c { events = events } in
+        doing.and_then c untold (states.ends NoMemory untold) [] [] [] [] (doing.hears events c) (doing.ends_so NoMemory untold)
 
 -- an end between two packets
 pub record Between (e : End) : Type 0 where
   pub sound : IsSound e.carrier
   pub attended : IsAttended e
 
-pub takes_between : (units : List (List ℕ)) (old new : End) → Between old → TakesPackets old units new → Between new
-takes_between units old new b takes = grind (arith, kept_takes, sound_kept, packets_kept, attended_kept)
+-- it is sound after what was done at its carrier
+then_between : (packets : List (List ℕ)) (took put : List Value) (old new : End) → Makes old.carrier took put new.carrier →
+    TakesPackets old packets new → Between old → Between new
+then_between packets took put old new makes takes b = record {
+  sound = makes_kept IsSound sound_kept old.carrier new.carrier took put makes b.sound;
+  attended = packets_kept IsAttended attended_kept packets old new takes b.attended;
+}
 
 module _ (known : Known) (is_caller : Bool) where
   abbrev CourseSteps : List Value → (ℕ → Deeds) → End → End → Type 0
@@ -71,8 +92,8 @@ module _ (known : Known) (is_caller : Bool) where
       StepsBy is_caller (units_read found) (NowAll is_caller) moves e.carrier (with_carrier (carriers.acts_by found e.carrier) e)
   acted u (Ok units) moves e octets is h calm = units_step is_caller units u (units_found u units octets is) moves e h calm
   acted u (Err fault) moves e octets is h calm =
-      step_none is_caller (NowAll is_caller) moves e.carrier (with_carrier (carriers.acts_by (Err fault) e.carrier) e) refl
-      (grind (arith, rests_over, stage_at, past, early, stage_over))
+      step_none is_caller (NowAll is_caller) moves e.carrier (with_carrier (carriers.acts_by (Err fault) e.carrier) e)
+      (doing.ends_so _ e.carrier) (grind (arith, rests_over, stage_at, past, early, stage_over))
       (λ r. away (calm_over is_caller r (moves r) e (with_carrier (carriers.acts_by (Err fault) e.carrier) e) (calm r) refl))
 
   carried_out : (u : List ℕ) (moves : ℕ → Deeds) (e : End) → IsOctets u → IsSound e.carrier → HoldEach (CalmAll is_caller) moves e →
@@ -92,14 +113,14 @@ module _ (known : Known) (is_caller : Bool) where
   pub takes_steps : (packets : List (List ℕ)) (moves : ℕ → Deeds) (old new : End) → AllByRecursion IsOctets packets → Between old →
       Courses moves old → TakesPackets old packets new → CourseSteps (units_in packets) moves old new
   takes_steps [] moves old new octets b course takes =
-      grind (arith, step_none is_caller (CourseAll is_caller) moves old.carrier old refl (same_rest old.carrier) course)
+      grind (arith, step_none is_caller (CourseAll is_caller) moves old.carrier old (doing.rests old.carrier) (same_rest old.carrier) course)
   takes_steps (u ∷ packets) moves old new octets b course takes =
       let mid = after_packet old u in
       let lasts = lasting_of old.carrier.ended (waits old.lines) takes.0 in
+      let first = packet_steps u moves old octets.0 b lasts course in
+      let now = then_between (u ∷ []) (units_read (units_of u)) (all_units first.put) old mid first.makes (takes.0, refl) b in
       step_then is_caller (units_read (units_of u)) (units_in packets) (CourseAll is_caller) (CourseAll is_caller) moves old.carrier mid new
-      (packet_steps u moves old octets.0 b lasts course)
-      (λ after then_course. takes_steps packets after mid new octets.1 (takes_between (u ∷ []) old mid b (takes.0, refl)) then_course
-      takes.1)
+      first (λ after then_course. takes_steps packets after mid new octets.1 now then_course takes.1)
 
   -- ---- memory runs out
 
@@ -114,8 +135,8 @@ module _ (known : Known) (is_caller : Bool) where
       (subst (λ (l : List Value). StepsBy is_caller l (NowAll is_caller) moves e.carrier over_now) (sym out.all)
       (step_more is_caller out.done (out.next ∷ out.more) (NowAll is_caller) moves e.carrier over_now refl
       (step_as is_caller out.done (CalmAll is_caller) (NowAll is_caller) moves e.carrier before over_now
-      (leads_step is_caller out.done out.next out.more u (subst (λ (l : List Value). AreUnits l u) out.all us) moves e h calm) refl
-      (grind (arith, rests_over, stage_at, past, early, stage_over))
+      (leads_step is_caller out.done out.next out.more u (subst (λ (l : List Value). AreUnits l u) out.all us) moves e h calm)
+      (doing.ends_so NoMemory before.carrier) (grind (arith, rests_over, stage_at, past, early, stage_over))
       (λ r after then_calm. away (calm_over is_caller r after before over_now then_calm refl)))))
 
   -- for an event
@@ -125,7 +146,7 @@ module _ (known : Known) (is_caller : Bool) where
       let over_now = starves (with_events out.more mid) in
       subst (CourseSteps [] moves e) (sym out.starved)
       (step_as is_caller [] (NowAll is_caller) (CourseAll is_caller) moves e.carrier mid over_now
-      (times_heard known is_caller out.heard e.carrier.events moves e refl w) (starves_same out.more mid)
+      (times_heard known is_caller out.heard e.carrier.events moves e refl w) (starves_made out.more mid)
       (grind (arith, rests_over, stage_at, past, early, stage_over))
       (λ r after then_now. is_gone (search (arith, waits_over, starved_over))))
 
@@ -167,11 +188,14 @@ module _ (known : Known) (is_caller : Bool) where
 
   -- packets, and then the end
   then_over : (packets : List (List ℕ)) (moves : ℕ → Deeds) (old before new : End) → AllByRecursion IsOctets packets → Between old →
-      Courses moves old → TakesPackets old packets before → new.carrier.outgoing ≡ before.carrier.outgoing →
-      IsSome new.carrier.ended → CourseSteps (units_in packets) moves old new
-  then_over packets moves old before new octets b course takes same ended =
+      Courses moves old → TakesPackets old packets before → (reason : EndReason) → new ≡ ends reason before →
+      CourseSteps (units_in packets) moves old new
+  then_over packets moves old before new octets b course takes reason is =
+      let ended : IsSome new.carrier.ended = ap (λ (x : End). is_some x.carrier.ended) is in
       step_as is_caller (units_in packets) (CourseAll is_caller) (CourseAll is_caller) moves old.carrier before new
-      (takes_steps packets moves old before octets b course takes) same (grind (arith, rests_over, stage_at, past, early, stage_over))
+      (takes_steps packets moves old before octets b course takes)
+      (subst (λ (x : End). Makes before.carrier [] [] x.carrier) (sym is) (doing.ends_so reason before.carrier))
+      (grind (arith, rests_over, stage_at, past, early, stage_over))
       (λ r after then_course. is_gone (course_over is_caller r after before new then_course ended))
 
   module _ (moves : ℕ → Deeds) (piece : List ℕ) (n : ℕ) (old new : Holding) (b : Between old.end)
@@ -198,22 +222,25 @@ module _ (known : Known) (is_caller : Bool) where
         all_used moves f.units piece (f.rest ++ drop f.within piece) n old new f.all
         (more_used f.units old.held.octets piece f.rest f.within f.packets)
         (none_ended old piece n new f)
-        (grind (arith, then_over, all_octets))
+        (then_over f.units moves old.end f.before new.end (all_octets f.units _ _ f.packets) b course f.taken NoMemory is)
     short_steps f (inr (packet, one, starved)) =
+        let first = takes_steps f.units moves old.end f.before (all_octets f.units _ _ f.packets) b course f.taken in
+        let now = then_between f.units (units_in f.units) (all_units first.put) old.end f.before first.makes f.taken b in
         all_used moves (f.units ++ packet ∷ []) piece ([] ++ drop f.within piece) n old new f.all (one_more f packet one)
         (none_ended old piece n new f)
         (subst (λ (l : List Value). CourseSteps l moves old.end new.end) (grind (arith, append-nil, flat_map-append))
         (step_then is_caller (units_in f.units) (units_read (units_of packet)) (CourseAll is_caller) (CourseAll is_caller) moves
-        old.end.carrier f.before new.end
-        (takes_steps f.units moves old.end f.before (all_octets f.units _ _ f.packets) b course f.taken)
-        (λ after then_course. starved_steps packet after f.before new.end (all_octets (packet ∷ []) f.rest [] one).0
-        (takes_between f.units old.end f.before b f.taken) (lasting_of f.before.carrier.ended (waits f.before.lines) f.quiet)
+        old.end.carrier f.before new.end first
+        (λ after then_course. starved_steps packet after f.before new.end (all_octets (packet ∷ []) f.rest [] one).0 now (lasting_of f.before.carrier.ended (waits f.before.lines) f.quiet)
         then_course starved)))
 
     goes_steps : GoesThrough old piece n new → FeedSteps moves (take n piece) old new
     goes_steps (inl (inl dry)) = grind (arith, take_all, takes_steps, all_octets)
     goes_steps (inl (inr stop)) = stop_steps stop
-    goes_steps (inr (inl f)) = grind (arith, all_used, then_over, all_octets)
+    goes_steps (inr (inl f)) =
+        let (rest, cut, ends_at) = f.cut in
+        all_used moves f.units piece rest n old new f.all cut (ap (λ (x : End). is_some x.carrier.ended) f.ended)
+        (then_over f.units moves old.end f.before new.end (all_octets f.units _ _ cut) b course f.taken _ f.ended)
     goes_steps (inr (inr f)) = short_steps f (found_how old piece n new f)
 
   -- nothing happens at the end
@@ -225,7 +252,8 @@ module _ (known : Known) (is_caller : Bool) where
     cut = refl;
     held = grind (arith, append-nil);
     steps = subst (λ (x : Holding). CourseSteps [] moves old.end x.end) (sym is)
-        (step_none is_caller (CourseAll is_caller) moves old.end.carrier old.end refl (same_rest old.end.carrier) course);
+        (step_none is_caller (CourseAll is_caller) moves old.end.carrier old.end (doing.rests old.end.carrier)
+        (same_rest old.end.carrier) course);
   }
 
   pub feeds_steps : (moves : ℕ → Deeds) (piece : List ℕ) (fed : Fed) (old new : Holding) → Between old.end →

@@ -1,17 +1,17 @@
 -- Each turn of an end, and a run: what becomes of the course of one connection.
 -- For the laws of an end and its connections.
-use Rattle.osi_honest.proofs.Vocabulary.{[], ap, Bool, List, None, refl, subst, sym, ℕ, ◌++◌, ◌<◌, ◌==◌, ◌∙◌, ◌∷◌, ◌≡◌}
-use Rattle.osi_honest.proofs.Vocabulary.{append-nil, append_cancel_left, ArePackets, Local, orderly_fresh, Rows, value_at, packets}
-use Rattle.osi_honest.proofs.Vocabulary.{State as Carrier, called, breaks_attended, connect_attended, feeds_attended, session_attended}
-use Rattle.osi_honest.proofs.Vocabulary.{first_keep, kept_first, session_carried, disconnect_attended, disconnect_carrier, connect_orderly}
-use Rattle.osi_honest.proofs.Vocabulary.{open_none, without_first, IsAccepted, user_does, UserCall, breaking, calling, connecting}
+use Rattle.osi_honest.proofs.Vocabulary.{[], ap, Bool, List, None, refl, subst, sym, ℕ, ◌++◌, ◌<◌, ◌==◌, ◌∙◌, ◌∷◌, ◌≡◌, append-nil}
+use Rattle.osi_honest.proofs.Vocabulary.{append_cancel_left, ArePackets, Local, orderly_fresh, Rows, value_at, packets, State as Carrier}
+use Rattle.osi_honest.proofs.Vocabulary.{called, breaks_attended, connect_attended, feeds_attended, session_attended, first_keep}
+use Rattle.osi_honest.proofs.Vocabulary.{kept_first, disconnect_attended, without_first, user_does, UserCall, breaking, calling, connecting}
 use Rattle.osi_honest.proofs.Vocabulary.{disconnecting, Call, Calls, carried_in, put_back, used_in, carrying, feeding, telling, End}
 use Rattle.osi_honest.proofs.Vocabulary.{fresh_end, Holding, IsAttended, Line, all_did, Continues, ContinuesAlong, Course, Deeds, no_deeds}
-use Rattle.osi_honest.proofs.Vocabulary.{SoFar, units_taken, unknown, all_units, Marked, units_at, IsFresh, Act, Acts, carried_by, Run}
-use Rattle.osi_honest.proofs.Vocabulary.{Takes, Turn, used_by, serving, using, arith, nat_tests}
+use Rattle.osi_honest.proofs.Vocabulary.{SoFar, units_in, units_taken, unknown, all_units, Marked, units_at, IsFresh, Act, Acts, carried_by}
+use Rattle.osi_honest.proofs.Vocabulary.{Run, Takes, Turn, used_by, serving, using, arith, nat_tests}
+use Rattle.osi_honest.specs.Doing as doing
 use Rattle.osi_honest.proofs.courses.steps_of_a_course.{AllRest, HoldEach, Steps}
 use Rattle.osi_honest.proofs.courses.the_first_cc_opens_a_connection.{FirstOf, first_rests}
-use Rattle.osi_honest.proofs.courses.the_connections_of_each_class.{IsSound, request_class, sound_same}
+use Rattle.osi_honest.proofs.courses.the_connections_of_each_class.{IsSound, sound_same}
 use Rattle.osi_honest.proofs.courses.the_connections_of_each_class.ByClass.{none as no_connection}
 use Rattle.osi_honest.proofs.courses.what_a_call_does_to_it.{user_steps}
 use Rattle.osi_honest.proofs.courses.what_a_packet_does_to_it.{Between, FeedSteps, feeds_steps, sound_kept}
@@ -20,39 +20,36 @@ use Rattle.osi_honest.proofs.courses.how_long_a_connection_is_open.{Life, life_r
 use Rattle.osi_honest.proofs.courses.units_of_each_connection.{by_links, units_more}
 use Rattle.osi_honest.proofs.courses.what_calls_of_a_link_say.{taken_more, then_none}
 use Rattle.osi_honest.proofs.courses.what_is_put_in_a_turn_can_be_written.{turn_written}
+use Rattle.osi_honest.proofs.courses.what_is_put_is_written.{makes_written}
 use Rattle.osi_honest.proofs.courses.what_sessions_hear_of_it.{CourseAll, Known}
-use Rattle.osi_honest.proofs.keeping.what_a_unit_keeps_a_turn_keeps.{kept_feeds}
+use Rattle.osi_honest.proofs.courses.what_a_unit_keeps_a_turn_keeps.{makes_kept}
 
 -- ---- between two turns
 
-call_between : (call : Call) (old new : Holding) → Between old.end → Calls old call new → Between new.end
-call_between (feeding piece fed) old new b c = grind (arith, kept_feeds, sound_kept, feeds_attended)
-call_between (telling shown) old new b c = grind arith
-call_between (carrying octets) old new b c =
-    let was : Between (put_back octets new.end) = subst (λ (x : Holding). Between x.end) c b in
-    record {
-      sound = sound_same (put_back octets new.end).carrier new.end.carrier.outgoing was.sound;
-      attended = was.attended;
-    }
+call_attended : (call : Call) (old new : Holding) → IsAttended old.end → Calls old call new → IsAttended new.end
+call_attended (feeding piece fed) old new attended c = feeds_attended old new piece fed c attended
+call_attended (telling shown) old new attended c = grind arith
+call_attended (carrying octets) old new attended c = grind arith
 
-user_sound : (call : UserCall) (e : End) → IsAccepted call e → IsSound e.carrier → IsSound (user_does call e).carrier
-user_sound (connecting c) e allowed h = search (arith, connect_orderly, request_class, open_none)
-user_sound (calling q call) e allowed h = session_carried IsSound sound_kept.carries q (called call) e h
-user_sound (disconnecting q) e allowed h = subst IsSound (sym (disconnect_carrier q e)) (sound_kept.carries.closes q e.carrier h)
-user_sound breaking e allowed h = grind (arith, sound_kept)
+user_attended : (call : UserCall) (e : End) → IsAttended e → IsAttended (user_does call e)
+user_attended (connecting c) e h = connect_attended c e h
+user_attended (calling q call) e h = session_attended q (called call) e h
+user_attended (disconnecting q) e h = disconnect_attended q e h
+user_attended breaking e h = breaks_attended e h
 
-user_between : (call : UserCall) (e : End) → IsAccepted call e → Between e → Between (user_does call e)
-user_between call e allowed b = record { sound = user_sound call e allowed b.sound; attended = user_attended call e allowed b.attended }
-  where
-    user_attended : (call : UserCall) (e : End) → IsAccepted call e → IsAttended e → IsAttended (user_does call e)
-    user_attended (connecting c) e allowed h = connect_attended c e h
-    user_attended (calling q call) e allowed h = session_attended q (called call) e h
-    user_attended (disconnecting q) e allowed h = disconnect_attended q e h
-    user_attended breaking e allowed h = breaks_attended e h
+act_attended : (act : Act) (old new : Holding) → IsAttended old.end → Acts old act new → IsAttended new.end
+act_attended (serving call) old new attended acts = call_attended call old new attended acts
+act_attended (using call) old new attended acts =
+    subst (λ (h : Holding). IsAttended h.end) (sym acts.3) (user_attended call old.end attended)
 
-pub act_between : (act : Act) (old new : Holding) → Between old.end → Acts old act new → Between new.end
-act_between (serving call) old new b acts = call_between call old new b acts
-act_between (using call) old new b acts = grind (arith, user_between call old.end acts.1 b)
+pub turn_between : (is_caller : Bool) (moves : ℕ → Deeds) (turn : Turn) (old new : Holding) → Continues is_caller moves old turn new →
+    Takes old turn new → Between old.end → Between new.end
+turn_between is_caller moves turn old new on takes b = record {
+  sound = subst IsSound (sym on.same)
+      (sound_same on.there new.end.carrier.outgoing
+      (makes_kept IsSound sound_kept old.end.carrier on.there (units_in on.used) (all_units on.put) on.makes b.sound));
+  attended = act_attended takes.act old new b.attended takes.acts;
+}
 
 pub fresh_between : (is_caller : Bool) (local : Local) → Between (fresh_end is_caller local)
 fresh_between is_caller local = grind (arith, orderly_fresh, no_connection)
@@ -95,7 +92,8 @@ module _ (known : Known) (is_caller : Bool) (moves : ℕ → Deeds) where
       more = s.more;
       course = s.there;
       put = s.put;
-      written = append_cancel_left old.end.carrier.outgoing turn.put (packets (all_units s.put)) (sym is ∙ s.written);
+      written = append_cancel_left old.end.carrier.outgoing turn.put (packets (all_units s.put))
+          (sym is ∙ makes_written old.end.carrier new.end.carrier [] (all_units s.put) s.makes);
       can = turn_written is_caller moves s.more new.end s.put s.there s.own s.accounted;
       by_links = by_links s.put s.accounted;
       own = s.own;
@@ -107,6 +105,9 @@ module _ (known : Known) (is_caller : Bool) (moves : ℕ → Deeds) where
       all = s.all;
       taken = s.taken;
       lives = λ r some. lives is_caller r some old.end.carrier new.end.carrier s.took s.put (s.life r some);
+      there = new.end.carrier;
+      makes = s.makes;
+      same = refl;
     };
     life = s.life;
     first = s.first;
@@ -120,7 +121,8 @@ module _ (known : Known) (is_caller : Bool) (moves : ℕ → Deeds) where
       more = f.steps.more;
       course = f.steps.there;
       put = f.steps.put;
-      written = append_cancel_left old.end.carrier.outgoing turn.put (packets (all_units f.steps.put)) (sym is ∙ f.steps.written);
+      written = append_cancel_left old.end.carrier.outgoing turn.put (packets (all_units f.steps.put))
+          (sym is ∙ makes_written old.end.carrier new.end.carrier (units_in f.used) (all_units f.steps.put) f.steps.makes);
       can = turn_written is_caller moves f.steps.more new.end f.steps.put f.steps.there f.steps.own f.steps.accounted;
       by_links = by_links f.steps.put f.steps.accounted;
       own = f.steps.own;
@@ -132,6 +134,9 @@ module _ (known : Known) (is_caller : Bool) (moves : ℕ → Deeds) where
       all = f.steps.all;
       taken = f.steps.taken;
       lives = λ r some. lives is_caller r some old.end.carrier new.end.carrier f.steps.took f.steps.put (f.steps.life r some);
+      there = new.end.carrier;
+      makes = f.steps.makes;
+      same = refl;
     };
     life = f.steps.life;
     first = f.steps.first;
@@ -139,8 +144,8 @@ module _ (known : Known) (is_caller : Bool) (moves : ℕ → Deeds) where
 
   -- nothing was used or put
   quiet_turn : (turn : Turn) (old new : Holding) → turn.used ≡ [] → turn.put ≡ [] → new.held.octets ≡ old.held.octets →
-      Courses moves new.end → AllRest old.end.carrier new.end.carrier → TurnOf is_caller moves turn old new
-  quiet_turn turn old new none nothing same course rest = record {
+      new.end.carrier ≡ record old.end.carrier { outgoing = new.end.carrier.outgoing } → Courses moves new.end → AllRest old.end.carrier new.end.carrier → TurnOf is_caller moves turn old new
+  quiet_turn turn old new none nothing same carrier course rest = record {
     on = record {
       more = λ r. no_deeds;
       course = λ r. subst (λ (d : Deeds). Course is_caller r d new.end) (sym (then_none (moves r))) (course r);
@@ -157,6 +162,9 @@ module _ (known : Known) (is_caller : Bool) (moves : ℕ → Deeds) where
       all = refl;
       taken = λ r some. refl;
       lives = λ r some. search (arith, lives, life_rests, stage_at);
+      there = old.end.carrier;
+      makes = doing.rests old.end.carrier;
+      same = carrier;
     };
     life = λ r some. life_rests is_caller r (stage_at r old.end.carrier) (stage_at r new.end.carrier) [] tt (rest r).0;
     first = λ r some. first_rests is_caller r old.end.carrier new.end.carrier [] tt (rest r).0 (rest r).1;
@@ -173,6 +181,7 @@ module _ (known : Known) (is_caller : Bool) (moves : ℕ → Deeds) where
       quiet_turn turn old new used
       (nothing_put old.end.carrier.outgoing new.end.carrier.outgoing turn.put is (ap (λ (x : Holding). x.end.carrier.outgoing) c.1))
       (ap (λ (x : Holding). x.held.octets) c.1)
+      (subst (λ (x : Holding). x.end.carrier ≡ record old.end.carrier { outgoing = x.end.carrier.outgoing }) (sym c.1) refl)
       (subst (λ (x : Holding). Courses moves x.end) (sym c.1)
       (λ r. course_beside is_caller r (moves r) old.end (record old.end { lines = without_first old.end.lines }) (told_beside r old.end)
       (course r)))
@@ -181,6 +190,7 @@ module _ (known : Known) (is_caller : Bool) (moves : ℕ → Deeds) where
       quiet_turn turn old new used
       (grind (arith, nothing_put))
       (sym (ap (λ (x : Holding). x.held.octets) c))
+      (subst (λ (x : Holding). new.end.carrier ≡ record x.end.carrier { outgoing = new.end.carrier.outgoing }) (sym c) refl)
       (λ r. course_beside is_caller r (moves r) (put_back octets new.end) new.end (carried_beside r octets new.end)
       (subst (λ (x : Holding). Course is_caller r (moves r) x.end) c (course r)))
       (grind (arith, stage_at))
@@ -225,8 +235,8 @@ run_turns known is_caller moves (turn ∷ turns) old new b course run =
     let mid = run.0 in
     let at = turn_continues known is_caller moves turn old mid b course run.1 in search (
       arith,
-      act_between,
-      run_turns known is_caller (all_did moves at.on.more) turns mid new (act_between run.1.act old mid b run.1.acts) at.on.course run.2,
+      run_turns known is_caller (all_did moves at.on.more) turns mid new (turn_between is_caller moves turn old mid at.on run.1 b)
+          at.on.course run.2,
     )
 
 pub fresh_course : (is_caller : Bool) (local : Local) (r : ℕ) → Course is_caller r no_deeds (fresh_end is_caller local)

@@ -1,16 +1,15 @@
 -- The units that are put as something happens to a session, each with the connection whose link gave it: a session that sends hands
 -- TSDUs to its link, and one that closes its connection causes a DR.
 -- For the course of a connection.
-use Rattle.osi_honest.proofs.Vocabulary.{[], arith, Bool, false, List, None, Option, refl, Some, sym, true, ℕ, ◌++◌, ◌<◌, ◌∷◌, ◌≡◌, ◌≢◌}
-use Rattle.osi_honest.proofs.Vocabulary.{◌⊎◌, nat_tests, append-nil, map-append, Value, all_given, Standing, with_tsdu, Class, closed_on}
-use Rattle.osi_honest.proofs.Vocabulary.{closes, open_link, send_all_error, sent, Happening, value_at, packets, State as Carrier, SendError}
-use Rattle.osi_honest.proofs.Vocabulary.{tsdus_sent, broken, came, Input, Listener, linked_up as opened, session_react as react, has_given}
-use Rattle.osi_honest.proofs.Vocabulary.{hears, carrier_by, limit_for, to_session, End, Line, answers_by, sent_unless, all_units, Marked}
-use Rattle.osi_honest.proofs.Vocabulary.{together_written, put_closing, put_sent, put_together}
+use Rattle.osi_honest.proofs.Vocabulary.{[], arith, Bool, false, List, None, Option, refl, Some, subst, sym, true, ℕ, ◌<◌, ◌∷◌, ◌≡◌, ◌≢◌}
+use Rattle.osi_honest.proofs.Vocabulary.{length, nat_lt, AreShort, Makes, by_line, opens_line, ◌⊎◌, nat_tests, map-append, Value, all_given}
+use Rattle.osi_honest.proofs.Vocabulary.{Standing, with_tsdu, Class, closed_on, open_link, send_all_error, sent, Happening, value_at}
+use Rattle.osi_honest.proofs.Vocabulary.{State as Carrier, SendError, tsdus_sent, broken, came, Input, Listener, linked_up as opened}
+use Rattle.osi_honest.proofs.Vocabulary.{session_react as react, has_given, hears, carrier_by, limit_for, to_session, End, Line, answers_by}
+use Rattle.osi_honest.proofs.Vocabulary.{sent_unless, all_units, Marked, put_closing, put_sent, put_together, list_any, refused}
 use Rattle.osi_carrier.specs.Happenings as told
 use Rattle.osi_carrier.specs.Orderly.{told_of}
-use Rattle.osi_session.specs.Listening.{refused}
-use Rattle.osi_honest.proofs.reading.what_is_written_is_read_again.{packets_joined}
+use Rattle.osi_honest.specs.Doing as doing
 use Rattle.osi_honest.proofs.courses.steps_of_a_course.{HasNone}
 use Rattle.osi_honest.proofs.courses.units_of_each_connection.{AreAccounted, ArePlain, elsewhere, given_accounted, marked, marked_all}
 use Rattle.osi_honest.proofs.courses.units_of_each_connection.{nowhere, plain_accounted, all_of_both}
@@ -53,31 +52,57 @@ event_puts (told.faulted q fault) e = session_puts q broken e
 
 -- ---- this is put
 
--- what is put after what was put before
+-- it is put, by what makes of the old carrier the new one
 abbrev pub Puts : Carrier → List Marked → Carrier → Type 0
-Puts old units new = new.outgoing ≡ old.outgoing ++ packets (all_units units)
+Puts old units new = Makes old [] (all_units units) new
 
-pub puts_none : (c : Carrier) → Puts c [] c
-puts_none c = sym (append-nil c.outgoing)
+all_short : (tsdus : List (List ℕ)) → list_any (λ (t : List ℕ). nat_lt 1048576 (length t)) tsdus ≡ false → AreShort tsdus
+all_short [] h = tt
+all_short (tsdu ∷ tsdus) h = grind (arith, nat_tests, nat_lt 1048576 (length tsdu), all_short tsdus)
 
-unless_written : (o : Option SendError) (q : ℕ) (tsdus : List (List ℕ)) (c : Carrier) →
-    (sent_unless o q tsdus c).outgoing ≡ c.outgoing ++ packets (put_unless o q tsdus c)
-unless_written o q tsdus c = grind (arith, together_written, append-nil)
+are_short : (tsdus : List (List ℕ)) (o : Option (ℕ × Standing)) → send_all_error tsdus o ≡ None → AreShort tsdus
+are_short tsdus o h = grind (arith, all_short)
+
+-- with a mark
+marked_puts : (q : ℕ) (units : List Value) (c new : Carrier) → Makes c [] units new → Puts c (marked q units) new
+marked_puts q units c new makes = subst (λ (l : List Value). Makes c [] l new) (sym (marked_all q units)) makes
+
+unless_puts : (o : Option SendError) (q : ℕ) (tsdus : List (List ℕ)) (c : Carrier) → send_all_error tsdus (open_link q c) ≡ o →
+    Makes c [] (put_unless o q tsdus c) (sent_unless o q tsdus c)
+unless_puts None q tsdus c e = doing.sends q tsdus c (are_short tsdus (open_link q c) e)
+unless_puts (Some error) q tsdus c e = doing.rests c
 
 pub closing_puts : (q : ℕ) (c : Carrier) → Puts c (marked 0 (put_closing q 128 (open_link q c) c.class)) (closed_on q 128 (open_link q c) c)
-closing_puts q c = grind (arith, marked_all, append-nil)
+closing_puts q c = marked_puts 0 (put_closing q 128 (open_link q c) c.class) c (closed_on q 128 (open_link q c) c) (doing.closes q c)
 
-answer_written : (b : Bool) (q : ℕ) (tsdus : List (List ℕ)) (c : Carrier) → Puts c (answer_puts b q tsdus c) (answers_by b q tsdus c)
-answer_written h q tsdus c = grind (arith, closing_puts, marked_all, unless_written)
+answer_made : (b : Bool) (q : ℕ) (tsdus : List (List ℕ)) (c : Carrier) → Puts c (answer_puts b q tsdus c) (answers_by b q tsdus c)
+answer_made true q tsdus c = closing_puts q c
+answer_made false q tsdus c =
+    let o = send_all_error tsdus (open_link q c) in
+    marked_puts q (put_unless o q tsdus c) c (sent_unless o q tsdus c) (unless_puts o q tsdus c refl)
 
-move_written : (q : ℕ) (o : Option Listener) (input : Input) (c : Carrier) → Puts c (move_puts q o input c) (carrier_by q o input c)
-move_written q o input c = grind (arith, puts_none, answer_written)
+move_made : (q : ℕ) (o : Option Listener) (input : Input) (c : Carrier) → Puts c (move_puts q o input c) (carrier_by q o input c)
+move_made q None input c = doing.rests c
+move_made q (Some session) input c =
+    answer_made (react session input).closes q (tsdus_sent (limit_for session input) (react session input).reply) c
 
-pub session_written : (q : ℕ) (input : Input) (e : End) → Puts e.carrier (session_puts q input e) (to_session q input e).carrier
-session_written q input e = grind (arith, puts_none, move_written)
+line_made : (q : ℕ) (o : Option Line) (input : Input) (e : End) → Puts e.carrier (line_puts q o input e) (by_line q o input e).carrier
+line_made q None input e = doing.rests e.carrier
+line_made q (Some line) input e = move_made q line.session input e.carrier
 
-pub event_written : (x : Happening) (e : End) → Puts e.carrier (event_puts x e) (hears x e).carrier
-event_written x e = grind (arith, puts_none, session_written)
+pub session_made : (q : ℕ) (input : Input) (e : End) → Puts e.carrier (session_puts q input e) (to_session q input e).carrier
+session_made q input e = line_made q (value_at q e.lines) input e
+
+opening_made : (q : ℕ) (o : Option Line) (e : End) → Puts e.carrier (opening_puts q o e) (opens_line q o e).carrier
+opening_made q None e = doing.rests e.carrier
+opening_made q (Some line) e = session_made q opened e
+
+pub event_made : (x : Happening) (e : End) → Puts e.carrier (event_puts x e) (hears x e).carrier
+event_made (told.opened q) e = opening_made q (value_at q e.lines) e
+event_made (told.refused q reason) e = session_made q (refused reason) e
+event_made (told.tsdu q octets) e = session_made q (came octets) e
+event_made (told.closed q reason) e = session_made q broken e
+event_made (told.faulted q fault) e = session_made q broken e
 
 -- ---- another connection gave none of it
 
@@ -98,7 +123,7 @@ event_others r x e ne = grind (arith, opening_others, session_others)
 
 -- ---- nor did one that is not open
 
-unlinked_put : (q : ℕ) (tsdus : List (List ℕ)) (c : Carrier) → open_link q c ≡ None → put_together q tsdus c ≡ []
+pub unlinked_put : (q : ℕ) (tsdus : List (List ℕ)) (c : Carrier) → open_link q c ≡ None → put_together q tsdus c ≡ []
 unlinked_put q [] c none = refl
 unlinked_put q (tsdu ∷ tsdus) c none = grind (arith, unlinked_put q tsdus c none)
 

@@ -8,11 +8,11 @@ use Rattle.osi_honest.proofs.Vocabulary.{session_react as react, awaits, times_q
 use Rattle.osi_honest.proofs.Vocabulary.{terms_error, hears, hears_next, hears_times, opens_line as opens, with_events, kept_at, to_session}
 use Rattle.osi_honest.proofs.Vocabulary.{End, joins, Line, session_in, Request as Connect, sends, Course, Deeds, Gone, IsNew, IsShut}
 use Rattle.osi_honest.proofs.Vocabulary.{said_in, is_gone, is_open, closed, History, Said, said_after, State as Carrier, attends, concludes}
-use Rattle.osi_honest.proofs.Vocabulary.{hears_all, concluded_carrier, concludes_lasting, never, arith, over}
+use Rattle.osi_honest.proofs.Vocabulary.{hears_all, concluded_carrier, concludes_lasting, never, arith, over, Makes, refused}
 use Rattle.std.proofs.Common.{length-append}
 use Rattle.osi_carrier.specs.Happenings as told
 use Rattle.osi_carrier.specs.Orderly.{told_of}
-use Rattle.osi_session.specs.Listening.{refused}
+use Rattle.osi_honest.specs.Doing as doing
 use Rattle.osi_honest.specs.Talking as history
 use Rattle.osi_honest.proofs.ends.what_a_session_sends_fits.{still_begun, AllProper}
 use Rattle.osi_honest.proofs.ends.an_end_that_is_over_does_nothing.{never_lasts}
@@ -23,7 +23,7 @@ use Rattle.osi_honest.proofs.courses.the_first_cc_opens_a_connection.{event_give
 use Rattle.osi_honest.proofs.courses.units_of_each_connection.{unequal}
 use Rattle.osi_honest.proofs.courses.what_a_link_takes_and_is_handed.{link_shut}
 use Rattle.osi_honest.proofs.courses.what_a_session_puts.{IsGivenIfOpen, event_accounted, event_others, event_puts, event_unlinked}
-use Rattle.osi_honest.proofs.courses.what_a_session_puts.{event_written, opening_puts, session_puts}
+use Rattle.osi_honest.proofs.courses.what_a_session_puts.{event_made, opening_puts, session_puts}
 use Rattle.osi_honest.proofs.courses.what_a_unit_does_to_a_connection.{NoneOf}
 use Rattle.osi_honest.proofs.courses.what_another_connection_leaves.{Beside, gone_beside, gone_over, gone_same, joins_beside}
 use Rattle.osi_honest.proofs.courses.what_another_connection_leaves.{session_beside, shut_session, course_over}
@@ -270,7 +270,7 @@ module _ (known : Known) (is_caller : Bool) where
   event_heard : (x : Happening) (rest : List Happening) (moves : ℕ → Deeds) (e : End) → HoldEach (WaitAll (x ∷ rest)) moves e →
       Steps is_caller (WaitAll rest) moves e.carrier (hears x e)
   event_heard x rest moves e w =
-      step_each is_caller [] (WaitAll rest) moves e.carrier (hears x e) (event_puts x e) [] (event_written x e)
+      step_each is_caller [] (WaitAll rest) moves e.carrier (hears x e) (event_puts x e) [] (event_made x e)
       (event_accounted x e (waits_given is_caller (told_of x) (x ∷ rest) (moves (told_of x)) e (w (told_of x)))) refl
       (λ r some. event_life is_caller r some x e)
       (λ r some. first_of is_caller r e.carrier (hears x e).carrier [] (event_puts x e) tt (event_life is_caller r some x e)
@@ -281,17 +281,18 @@ module _ (known : Known) (is_caller : Bool) where
   pub times_heard : (n : ℕ) (events : List Happening) (moves : ℕ → Deeds) (e : End) → e.carrier.events ≡ events →
       HoldEach (WaitAll events) moves e → Steps is_caller (NowAll is_caller) moves e.carrier (hears_times n e)
   times_heard zero events moves e is w =
-      step_none is_caller (NowAll is_caller) moves e.carrier e refl (same_rest e.carrier)
+      step_none is_caller (NowAll is_caller) moves e.carrier e (doing.rests e.carrier) (same_rest e.carrier)
       (λ r. subst (λ (l : List Happening). Waits is_caller r l (moves r) e) (sym is) (w r))
   times_heard (suc n) [] moves e is w =
       subst (Steps is_caller (NowAll is_caller) moves e.carrier) (sym (times_quiet (suc n) e is))
-      (step_none is_caller (NowAll is_caller) moves e.carrier e refl (same_rest e.carrier)
+      (step_none is_caller (NowAll is_caller) moves e.carrier e (doing.rests e.carrier) (same_rest e.carrier)
       (λ r. subst (λ (l : List Happening). Waits is_caller r l (moves r) e) (sym is) (w r)))
   times_heard (suc n) (x ∷ rest) moves e is w =
       let mid = hears_next e in
       let one : Steps is_caller (WaitAll rest) moves e.carrier mid =
       subst (Steps is_caller (WaitAll rest) moves e.carrier) (sym (first_is x rest e is))
-      (step_since is_caller [] (WaitAll rest) moves e.carrier (with_events rest e).carrier (hears x (with_events rest e)) refl
+      (step_since is_caller [] (WaitAll rest) moves e.carrier (with_events rest e).carrier (hears x (with_events rest e))
+      (doing.hears rest e.carrier)
       (λ r. (refl, refl))
       (event_heard x rest moves (with_events rest e)
       (λ r. waits_as is_caller r (moves r) e (with_events rest e) (x ∷ rest) (untold_beside known is_caller r rest e) (w r)))) in
@@ -306,7 +307,8 @@ module _ (known : Known) (is_caller : Bool) where
       Steps is_caller (CourseAll is_caller) moves e.carrier (hears_all e)
   all_heard moves e w =
       step_as is_caller [] (NowAll is_caller) (CourseAll is_caller) moves e.carrier (hears_all e) (hears_all e)
-      (times_heard (length e.carrier.events) e.carrier.events moves e refl w) refl (same_rest (hears_all e).carrier)
+      (times_heard (length e.carrier.events) e.carrier.events moves e refl w) (doing.rests (hears_all e).carrier)
+      (same_rest (hears_all e).carrier)
       (λ r after v. waits_none is_caller r after (hears_all e)
       (subst (λ (l : List Happening). Waits is_caller r l after (hears_all e)) (none_left e.carrier.events e refl) v))
 
@@ -314,6 +316,7 @@ module _ (known : Known) (is_caller : Bool) where
       Steps is_caller (CourseAll is_caller) moves e.carrier (attends e)
   attended moves e w =
       step_as is_caller [] (CourseAll is_caller) (CourseAll is_caller) moves e.carrier (hears_all e) (attends e) (all_heard moves e w)
-      (ap (λ (c : Carrier). c.outgoing) (concluded_carrier (hears_all e)))
+      (subst (λ (c : Carrier). Makes (hears_all e).carrier [] [] c) (sym (concluded_carrier (hears_all e)))
+      (doing.rests (hears_all e).carrier))
       (λ r. (inl (ap (stage_at r) (concluded_carrier (hears_all e))), λ now has. ap (has_given r) (concluded_carrier (hears_all e)) ∙ has))
       (λ r after course. concluded_by known is_caller r (hears_all e).carrier.ended after (hears_all e) refl course)

@@ -1,15 +1,16 @@
 -- Units that arrive, one after the other: what becomes of the course of one connection, before the sessions hear of it.
 -- For the course of a connection.
 use Rattle.osi_honest.proofs.Vocabulary.{[], ap, arith, Bool, false, inl, inr, is_some, IsSome, IsTrue, List, map, None, Ok, Option, refl}
-use Rattle.osi_honest.proofs.Vocabulary.{Some, subst, sym, take, true, ℕ, ◌++◌, ◌<◌, ◌==◌, ◌∙◌, ◌∷◌, ◌≡◌, ◌≢◌, eqb-true, append-nil}
+use Rattle.osi_honest.proofs.Vocabulary.{Some, subst, sym, take, true, ℕ, ◌++◌, ◌<◌, ◌==◌, ◌∙◌, ◌∷◌, ◌≡◌, ◌≢◌, append-nil, eqb-true}
 use Rattle.osi_honest.proofs.Vocabulary.{units_fit, AreUnits, may_be_followed, Value, Fits, all_given, Standing, taken, unit_of, Move}
 use Rattle.osi_honest.proofs.Vocabulary.{tsdus_in, tsdus_out, Zero, Local, react_over, absent, put_here, told_opened as opened, tsdu}
 use Rattle.osi_honest.proofs.Vocabulary.{opened_link, connection_of, RiseFrom, pumped, written_by, handed_out, reacts, settles, Rows}
-use Rattle.osi_honest.proofs.Vocabulary.{value_at, asked, Connection, linked, packets, State as Carrier, EndReason, Listener, both}
+use Rattle.osi_honest.proofs.Vocabulary.{value_at, asked, Connection, linked, State as Carrier, EndReason, Listener, both}
 use Rattle.osi_honest.proofs.Vocabulary.{along_units, calls_with, has_given, terms_error, with_carrier, End, Request as Connect, AreCalls}
 use Rattle.osi_honest.proofs.Vocabulary.{Course, Deeds, Gone, IsFreshLink, IsNew, IsOpen, IsShut, no_deeds, Speaks, then_did, units_given}
 use Rattle.osi_honest.proofs.Vocabulary.{units_taken, awaited, is_gone, is_open, unknown, closed, never, react, over, state_is}
-use Rattle.osi_honest.proofs.Vocabulary.{unit_written, outcome, put_for, Outcome}
+use Rattle.osi_honest.proofs.Vocabulary.{outcome, put_for, Outcome, Makes, outcome_over}
+use Rattle.osi_honest.specs.Doing as doing
 use Rattle.osi_honest.specs.Talking as history
 use Rattle.osi_honest.proofs.ends.an_end_that_is_over_does_nothing.{never_lasts}
 use Rattle.osi_honest.proofs.courses.how_long_a_connection_is_open.{Life, stage_at}
@@ -350,7 +351,8 @@ module _ (is_caller : Bool) where
         let units = written_by peer (handed_out after) in
         let then_is = state_is v e.carrier ∙ ap (λ (x : Outcome). x.state) is in
         step_each is_caller (v ∷ []) (AfterAll v) moves e.carrier changed (marked q units) (marked q (v ∷ []))
-        (ap (λ (c : Carrier). c.outgoing) then_is ∙ ap (λ (l : List Value). e.carrier.outgoing ++ packets l) (sym (marked_all q units)))
+        (subst (λ (l : List Value). Makes e.carrier (v ∷ []) l changed.carrier)
+        (ap (λ (x : Outcome). x.put) is ∙ sym (marked_all q units)) (doing.takes v e.carrier fits))
         (given_accounted q peer (all_given (handed_out after)) (above_zero q (linked peer link) e.carrier.live h.orderly.rise here))
         (marked_all q (v ∷ []))
         (λ r some. taken_life is_caller r some v e.carrier h lasted (side_of r lasted) q refl peer link after here taken_is then_is)
@@ -361,7 +363,7 @@ module _ (is_caller : Bool) where
         let units = put_for v e.carrier in
         let act = subst (λ (c : Carrier). Acts q v units e.carrier c) (sym (state_is v e.carrier)) acts in
         step_each is_caller (v ∷ []) (AfterAll v) moves e.carrier changed (marked 0 units) (marked 0 (v ∷ []))
-        (unit_written v e.carrier ∙ ap (λ (l : List Value). e.carrier.outgoing ++ packets l) (sym (marked_all 0 units)))
+        (subst (λ (l : List Value). Makes e.carrier (v ∷ []) l changed.carrier) (sym (marked_all 0 units)) (doing.takes v e.carrier fits))
         (plain_accounted units plain) (marked_all 0 (v ∷ []))
         (λ r some. passed_life is_caller r some v e.carrier h lasted (side_of r lasted) units q refl act)
         (λ r some. unit_first r 0 units (passed_life is_caller r some v e.carrier h lasted (side_of r lasted) units q refl act))
@@ -372,7 +374,8 @@ module _ (is_caller : Bool) where
     unit_by (Some reason) ended =
         let same = react_over v e.carrier (ap is_some ended) in
         step_each is_caller (v ∷ []) (AfterAll v) moves e.carrier changed [] (marked 0 (v ∷ []))
-        (ap (λ (c : Carrier). c.outgoing) same ∙ sym (append-nil e.carrier.outgoing)) tt (marked_all 0 (v ∷ []))
+        (subst (λ (l : List Value). Makes e.carrier (v ∷ []) l changed.carrier)
+        (ap (λ (x : Outcome). x.put) (outcome_over v e.carrier (ap is_some ended))) (doing.takes v e.carrier fits)) tt (marked_all 0 (v ∷ []))
         (λ r some. over_life r some (ap is_some ended) (ap (λ (c : Carrier). is_some c.ended) same ∙ ap is_some ended))
         (λ r some. unit_first r 0 [] (grind (arith, over_life)))
         (λ r. passed is_caller r (moves r) v e h []
@@ -393,7 +396,7 @@ module _ (is_caller : Bool) where
   units_step [] u us moves e h calm = absurd us
   units_step (v ∷ []) u us moves e h calm =
       step_as is_caller (v ∷ []) (AfterAll is_caller v) (NowAll is_caller) moves e.carrier (with_carrier (react v e.carrier) e)
-      (with_carrier (react v e.carrier) e) (unit_steps is_caller moves v (units_fit (v ∷ []) u us).0 e h calm) refl
+      (with_carrier (react v e.carrier) e) (unit_steps is_caller moves v (units_fit (v ∷ []) u us).0 e h calm) (doing.rests (react v e.carrier))
       (same_rest (react v e.carrier)) (λ r after t. t.0)
   units_step (v ∷ w ∷ vs) u us moves e h calm =
       let mid = with_carrier (react v e.carrier) e in
@@ -406,11 +409,13 @@ module _ (is_caller : Bool) where
   pub leads_step : (done : List Value) (next : Value) (more : List Value) (u : List ℕ) → AreUnits (done ++ (next ∷ more)) u →
       (moves : ℕ → Deeds) (e : End) → IsSound e.carrier → HoldEach (CalmAll is_caller) moves e →
       StepsBy is_caller done (CalmAll is_caller) moves e.carrier (with_carrier (reacts done e.carrier) e)
-  leads_step [] next more u us moves e h calm = step_none is_caller (CalmAll is_caller) moves e.carrier e refl (same_rest e.carrier) calm
+  leads_step [] next more u us moves e h calm =
+      step_none is_caller (CalmAll is_caller) moves e.carrier e (doing.rests e.carrier) (same_rest e.carrier) calm
   leads_step (v ∷ []) next more u us moves e h calm =
       let mid = with_carrier (react v e.carrier) e in
       step_as is_caller (v ∷ []) (AfterAll is_caller v) (CalmAll is_caller) moves e.carrier mid mid
-      (unit_steps is_caller moves v (units_fit (v ∷ next ∷ more) u us).0 e h calm) refl (same_rest (react v e.carrier))
+      (unit_steps is_caller moves v (units_fit (v ∷ next ∷ more) u us).0 e h calm) (doing.rests (react v e.carrier))
+      (same_rest (react v e.carrier))
       (λ r after t. t.1 (followed_is (may_be_followed v) us.0))
   leads_step (v ∷ w ∷ done) next more u us moves e h calm =
       let mid = with_carrier (react v e.carrier) e in

@@ -6,8 +6,7 @@ use Rattle.osi_honest.proofs.Vocabulary.{append-nil, all_taken, all_sent, unit_o
 use Rattle.osi_honest.proofs.Vocabulary.{uncut, Listener, awaits, refusal_of, Seen, seen_called, seen_calling, Opening, End, IsExplained}
 use Rattle.osi_honest.proofs.Vocabulary.{Told, done, IsSentFrom, AreCalls, Course, Deeds, Gone, IsNew, no_deeds, said_in, Speaks}
 use Rattle.osi_honest.proofs.Vocabulary.{units_given, is_gone, is_open, closed, never, AreSame, Shows, Said, awaited, unknown, arith, over}
-use Rattle.osi_honest.proofs.Vocabulary.{told_of}
-use Rattle.osi_session.specs.Sessions.{opens}
+use Rattle.osi_honest.proofs.Vocabulary.{told_of, opens}
 use Rattle.osi_side.specs.Running as running
 use Rattle.osi_honest.proofs.courses.what_calls_of_a_link_say.{fresh_of, none_said, out_more, said_more}
 use Rattle.osi_honest.proofs.courses.what_units_do_to_a_course.{no_calls}

@@ -1,9 +1,8 @@
 -- The session of a request that was accepted begins with a CN that fits.
 -- For the course of a connection.
-use Rattle.osi_honest.proofs.Vocabulary.{false, None, ◌≡◌, after_input, Listener, linked_up as opened, session_react}
-use Rattle.osi_honest.proofs.Vocabulary.{is_wait_transport, arith, length, refl, ◌≤◌, leb-true, not-false, sent_alone, IsSendable}
-use Rattle.osi_honest.proofs.Vocabulary.{asked_sendable, sent_short, SpduLaws, or_first, or_second, asked_for, calls_with, terms_error}
-use Rattle.osi_honest.proofs.Vocabulary.{Request as Connect}
+use Rattle.osi_honest.proofs.Vocabulary.{false, None, ◌≡◌, after_input, Listener, linked_up as opened, session_react, is_wait_transport}
+use Rattle.osi_honest.proofs.Vocabulary.{arith, length, refl, ◌≤◌, leb-true, not-false, sent_alone, IsSendable, asked_sendable, sent_short}
+use Rattle.osi_honest.proofs.Vocabulary.{SpduLaws, or_first, or_second, asked_for, calls_with, terms_error, Request as Connect}
 use Rattle.osi_message.specs.Written.{written}
 unfoldable use Rattle.osi_message.specs.Written.{unit_of, user_data_of}
 unfoldable use Rattle.osi_session.specs.Listening.{react}

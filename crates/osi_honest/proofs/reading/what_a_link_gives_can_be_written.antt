@@ -4,10 +4,8 @@ use Rattle.osi_honest.proofs.Vocabulary.{[], arith, List, map, None, Ok, Option,
 use Rattle.osi_honest.proofs.Vocabulary.{flat_map, IfOk, IfSome, data0, Value, at_ok, choose_ok, choose_some, given_by, Ends, Flow, Drained}
 use Rattle.osi_honest.proofs.Vocabulary.{drained_by, drained_within, left_to_give, ack, Given, given_part, next, next_by, part0, part2}
 use Rattle.osi_honest.proofs.Vocabulary.{Standing, taken, taken_by, unit_of, Move, MovesAlong, Part, Class, Local, opened_link}
-use Rattle.osi_honest.proofs.Vocabulary.{CanBeWritten, Rows, Connection, linked}
+use Rattle.osi_honest.proofs.Vocabulary.{CanBeWritten, Moves}
 unfoldable use Rattle.osi_class.specs.Giving.{drained}
-use Rattle.osi_class.specs.Runs.{Moves}
-use Rattle.osi_honest.proofs.keeping.what_holds_of_each_connection_stays.{AllRows}
 
 -- the next number and the credit are in range
 abbrev pub IsNumbered : Option Flow → Type 0
@@ -31,30 +29,9 @@ GivesSo (g, s) = CanBeGiven g × IsNumbered s.flow
 next_gives : (e : Ends) (flow : Option Flow) → IsNumbered flow → IfSome (next_by e flow) GivesSo
 next_gives e flow numbered = grind (arith, choose_some)
 
-abbrev AllGivenSo : Drained → Type 0
-AllGivenSo d = AllByRecursion CanBeGiven d.units × IsNumbered d.link.flow
-
-drains : (n : ℕ) (s : Standing) → IsNumbered s.flow → AllGivenSo (drained_within n s)
-drains zero s numbered = (tt, numbered)
-drains (suc n) s numbered = by (next s) (next_gives s.ends s.flow numbered) (λ t here. drains n t here)
-  where
-    by : (o : Option (Given × Standing)) → IfSome o GivesSo → ((t : Standing) → IsNumbered t.flow → AllGivenSo (drained_within n t)) →
-        AllGivenSo (drained_by o s (drained_within n))
-    by None h more = (tt, numbered)
-    by (Some (g, t)) h more = let rest = more t h.1 in ((h.0, rest.0), rest.1)
-
-all_drain : (s : Standing) → IsNumbered s.flow → AllGivenSo (drained s)
-unfolding drained
-all_drain s numbered = drains (left_to_give s) s numbered
-
 all_written : (peer : ℕ) (units : List Given) → AllByRecursion CanBeGiven units → AllByRecursion CanBeWritten (map (unit_of peer) units)
 all_written peer [] all = tt
 all_written peer (g ∷ units) all = (grind arith, all_written peer units all.1)
-
--- all that a link gives now, and the link after it
-pub gives_written : (peer : ℕ) (s : Standing) → IsNumbered s.flow →
-    AllByRecursion CanBeWritten (map (unit_of peer) (drained s).units) × IsNumbered (drained s).link.flow
-gives_written peer s numbered = let all = all_drain s numbered in (all_written peer (drained s).units all.0, all.1)
 
 -- ---- what is taken
 
@@ -116,12 +93,3 @@ gives_data s none = drains_data (left_to_give s) s none
 
 pub taken_zero : (s t : Standing) (v : Value) → s.flow ≡ None → taken s v ≡ Ok t → t.flow ≡ None
 taken_zero s t v none e = at_ok (λ (x : Standing). x.flow ≡ None) (taken s v) t (grind arith) e
-
--- ---- the links of an end
-
-abbrev IsNumberedRow : Connection → Type 0
-IsNumberedRow (linked peer link) = IsNumbered link.flow
-IsNumberedRow _ = Unit {0}
-
-abbrev pub AreNumbered : Rows Connection → Type 0
-AreNumbered rows = AllRows IsNumberedRow rows

@@ -1,5 +1,5 @@
-use Rattle.osi_blameless.proofs.sessions.a_bound_changes_no_first_break.{course_within}
-use Rattle.osi_blameless.proofs.sessions.a_judge_with_a_bound_holds_what_passed.{holds_within}
+use Rattle.osi_blameless.proofs.blaming.a_bound_changes_no_first_break.{course_within}
+use Rattle.osi_blameless.proofs.blaming.a_judge_with_a_bound_holds_what_passed.{holds_within}
 use Rattle.osi_blameless.proofs.bounded.a_bound_changes_nothing_that_is_judged.Goals as goal
 
 pub returns-clause-holds : goal.returns-clause-holds

@@ -1,12 +1,12 @@
 use Rattle.osi_blameless.proofs.Vocabulary.{ℕ, ◌<◌, ◌^◌, List, length, Local, Capture, Left, Right, said_again}
-use Rattle.osi_blameless.proofs.sessions.a_session_that_is_shown_is_not_to_blame.{SessionLaws}
+use Rattle.osi_blameless.proofs.shown.a_session_that_is_shown_is_not_to_blame.{SessionLaws}
 use Rattle.osi_blameless.proofs.Vocabulary.{Direction, calls_from, Holding, SpduLaws, IsFresh, IsSeen, Run, Turn, all_proper, Known}
 use Rattle.osi_blameless.proofs.Vocabulary.{can_begin, first_in, comes_to, comes_within, AreOctets}
-use Rattle.osi_blameless.proofs.sessions.a_bound_changes_no_first_break.{blameless_within}
-use Rattle.osi_blameless.proofs.sessions.a_judge_with_a_bound_holds_what_passed.{first_told, some_told}
-use Rattle.osi_blameless.proofs.sessions.no_end_is_ever_to_blame.{IsBlameless, blameless, blameless_first}
-use Rattle.osi_blameless.proofs.sessions.no_end_is_ever_to_blame.{none_among}
-use Rattle.osi_blameless.proofs.sessions.the_first_break_of_all_is_of_the_other_side.{neither_first}
+use Rattle.osi_blameless.proofs.blaming.a_bound_changes_no_first_break.{blameless_within}
+use Rattle.osi_blameless.proofs.blaming.a_judge_with_a_bound_holds_what_passed.{first_told, some_told}
+use Rattle.osi_blameless.proofs.blaming.no_end_is_ever_to_blame.{IsBlameless, blameless, blameless_first}
+use Rattle.osi_blameless.proofs.blaming.no_end_is_ever_to_blame.{none_among}
+use Rattle.osi_blameless.proofs.blaming.the_first_break_of_all_is_of_the_other_side.{neither_first}
 use Rattle.osi_blameless.proofs.bounded.no_end_is_blamed_first_within_a_bound.Goals as goal
 
 -- what the laws of messages and of units state

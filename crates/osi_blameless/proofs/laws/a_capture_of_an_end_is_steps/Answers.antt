@@ -1,6 +1,6 @@
 use Rattle.osi_blameless.proofs.Vocabulary.{SpduLaws, all_proper, Known, can_begin}
-use Rattle.osi_blameless.proofs.a_capture_is_steps.{capture_steps}
-use Rattle.osi_blameless.proofs.what_the_turns_among_steps_do.{comes_by_steps}
+use Rattle.osi_blameless.proofs.steps.a_capture_is_steps.{capture_steps}
+use Rattle.osi_blameless.proofs.steps.what_the_turns_among_steps_do.{comes_by_steps}
 use Rattle.osi_blameless.proofs.laws.a_capture_of_an_end_is_steps.Goals as goal
 
 pub returns : goal.returns

@@ -1,5 +1,5 @@
 use Rattle.osi_blameless.proofs.Vocabulary.{said_again, AsSent}
-use Rattle.osi_blameless.proofs.sessions.a_session_that_is_shown_is_not_to_blame.{not_to_blame}
+use Rattle.osi_blameless.proofs.shown.a_session_that_is_shown_is_not_to_blame.{not_to_blame}
 use Rattle.osi_blameless.proofs.laws.a_session_that_is_shown_is_not_to_blame.Goals as goal
 
 -- what the laws of messages state

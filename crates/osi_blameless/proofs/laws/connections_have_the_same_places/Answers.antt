@@ -1,8 +1,8 @@
 use Rattle.osi_blameless.proofs.Vocabulary.{way_of, comes_to}
-use Rattle.osi_blameless.proofs.sessions.a_dt_that_is_no_break_is_right.{capture_judged, dt_right}
-use Rattle.osi_blameless.proofs.sessions.a_right_dt_has_one_place.{capture_apart, dt_joined, one_place}
-use Rattle.osi_blameless.proofs.sessions.a_unit_is_joined_where_it_is_named.{joined_named}
-use Rattle.osi_blameless.proofs.sessions.connections_have_the_same_places.{capture_agrees, unit_agrees}
+use Rattle.osi_blameless.proofs.shown.a_dt_that_is_no_break_is_right.{capture_judged, dt_right}
+use Rattle.osi_blameless.proofs.shown.a_right_dt_has_one_place.{capture_apart, dt_joined, one_place}
+use Rattle.osi_blameless.proofs.shown.a_unit_is_joined_where_it_is_named.{joined_named}
+use Rattle.osi_blameless.proofs.shown.connections_have_the_same_places.{capture_agrees, unit_agrees}
 use Rattle.osi_blameless.proofs.laws.connections_have_the_same_places.Goals as goal
 
 pub returns-clause-capture : goal.returns-clause-capture

@@ -1,10 +1,10 @@
 use Rattle.osi_blameless.proofs.Vocabulary.{Option, Some, subst, ◌≡◌, ◌<◌, ◌^◌, List, length, Local, Left, Right, Holding, Direction}
 use Rattle.osi_blameless.proofs.Vocabulary.{calls_from, said_again, SpduLaws, Capture, all_proper, Known, can_begin, IsFresh, IsSeen, Run}
 use Rattle.osi_blameless.proofs.Vocabulary.{Turn, AreOctets, BreaksFirst, IsFirstOf, first_in, IsFed, comes_to, First, Judge, IsJudged}
-use Rattle.osi_blameless.proofs.sessions.a_session_that_is_shown_is_not_to_blame.{SessionLaws}
-use Rattle.osi_blameless.proofs.sessions.no_end_is_ever_to_blame.{IsBlameless, blameless, blameless_first}
-use Rattle.osi_blameless.proofs.sessions.no_end_is_ever_to_blame.{none_among}
-use Rattle.osi_blameless.proofs.sessions.the_first_break_of_all_is_of_the_other_side.{neither_first}
+use Rattle.osi_blameless.proofs.shown.a_session_that_is_shown_is_not_to_blame.{SessionLaws}
+use Rattle.osi_blameless.proofs.blaming.no_end_is_ever_to_blame.{IsBlameless, blameless, blameless_first}
+use Rattle.osi_blameless.proofs.blaming.no_end_is_ever_to_blame.{none_among}
+use Rattle.osi_blameless.proofs.blaming.the_first_break_of_all_is_of_the_other_side.{neither_first}
 use Rattle.osi_blameless.proofs.laws.no_session_of_an_end_is_blamed_first.Goals as goal
 
 -- what the laws of messages and of units state

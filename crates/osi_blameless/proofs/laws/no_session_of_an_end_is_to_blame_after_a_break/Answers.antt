@@ -1,7 +1,7 @@
 use Rattle.osi_blameless.proofs.Vocabulary.{said_again, SpduLaws, all_proper, Known, can_begin, Left, Right, comes_to, Direction, AreOctets}
 use Rattle.osi_blameless.proofs.Vocabulary.{Capture, Holding, IsFresh, IsSeen, List, Local, Run, Turn, calls_from, length, ◌<◌, ◌^◌}
-use Rattle.osi_blameless.proofs.sessions.a_session_that_is_shown_is_not_to_blame.{SessionLaws}
-use Rattle.osi_blameless.proofs.sessions.no_end_is_ever_to_blame.{IsBlameless, blameless, none_among}
+use Rattle.osi_blameless.proofs.shown.a_session_that_is_shown_is_not_to_blame.{SessionLaws}
+use Rattle.osi_blameless.proofs.blaming.no_end_is_ever_to_blame.{IsBlameless, blameless, none_among}
 use Rattle.osi_blameless.proofs.laws.no_session_of_an_end_is_to_blame_after_a_break.Goals as goal
 
 -- what the laws of messages and of units state

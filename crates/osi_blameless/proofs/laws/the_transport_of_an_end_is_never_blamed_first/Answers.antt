@@ -1,7 +1,7 @@
-use Rattle.osi_blameless.proofs.Vocabulary.{Direction, Left, Right, SpduLaws, all_proper, AreOctets, Capture, Holding, IsFresh, IsSeen}
+use Rattle.osi_blameless.proofs.Vocabulary.{Direction, Left, Right, AreOctets, Capture, Holding, IsFresh, IsSeen}
 use Rattle.osi_blameless.proofs.Vocabulary.{List, Local, Run, Turn, calls_from, comes_to}
-use Rattle.osi_blameless.proofs.no_unit_of_an_end_breaks_a_rule.{always_unbroken}
-use Rattle.osi_blameless.proofs.sessions.the_first_break_of_all_is_of_the_other_side.{IsUnblamed, capture_unblamed, no_transport}
+use Rattle.osi_blameless.proofs.transport.no_unit_of_an_end_breaks_a_rule.{always_unbroken}
+use Rattle.osi_blameless.proofs.blaming.the_first_break_of_all_is_of_the_other_side.{IsUnblamed, capture_unblamed, no_transport}
 use Rattle.osi_blameless.proofs.laws.the_transport_of_an_end_is_never_blamed_first.Goals as goal
 
 -- no break of transport is of an end, called or calling
@@ -9,8 +9,7 @@ unblamed : (c : goal.After-a_capture_of_an_end_is_steps) (d : Direction) (local 
     (capture : Capture) → IsFresh (calls_from d) local begin → Run begin turns end → AreOctets capture → IsSeen d turns capture →
     IsUnblamed d (comes_to capture).course
 unblamed c d local begin end turns capture fresh run octets seen =
-    let law : SpduLaws = record { room = c.few_octets_fit.ensures; digits = c.serial_digits.ensures } in
-    capture_unblamed d capture (always_unbroken d (all_proper law c.what_closes_sends_nothing.ensures.octets) local begin capture fresh
+    capture_unblamed d capture (always_unbroken d local begin capture fresh
     (c.a_capture_of_an_end_is_steps.ensures d (calls_from d) local begin end turns capture fresh run octets seen))
 
 pub returns-clause-called : goal.returns-clause-called

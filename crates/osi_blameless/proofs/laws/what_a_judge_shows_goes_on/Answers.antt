@@ -1,5 +1,5 @@
-use Rattle.osi_blameless.proofs.sessions.what_a_judge_shows_goes_on.{end_turns, none_passes, other_begins, other_passes, own_begins}
-use Rattle.osi_blameless.proofs.sessions.what_a_judge_shows_goes_on.{part_begins, part_passes}
+use Rattle.osi_blameless.proofs.shown.what_a_judge_shows_goes_on.{end_turns, none_passes, other_begins, other_passes, own_begins}
+use Rattle.osi_blameless.proofs.shown.what_a_judge_shows_goes_on.{part_begins, part_passes}
 use Rattle.osi_blameless.proofs.laws.what_a_judge_shows_goes_on.Goals as goal
 
 pub returns-clause-part_begins : goal.returns-clause-part_begins

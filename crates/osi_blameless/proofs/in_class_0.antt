@@ -1,0 +1,17 @@
+-- An end in class 0 and a judge, and what an end keeps until class 2 is selected.
+pub mod units_of_class_0_come_after_its_cc
+pub mod what_the_stage_of_a_whole_end_says
+pub mod class_0_keeps_its_one_place
+pub mod a_cc_of_class_0_opens_one_connection
+pub mod an_end_stands_in_class_0
+pub mod what_a_turn_puts_at_the_connections_that_are_open
+pub mod a_turn_of_an_end_in_class_0
+pub mod an_end_stands_before_a_class_is_selected
+pub mod an_end_awaits_its_cc
+pub mod a_turn_before_the_cc_comes
+pub mod an_end_answers_with_class_0
+pub mod a_turn_after_which_a_cc_of_class_0_waits
+pub mod the_turn_that_selects_class_0
+pub mod only_a_cc_selects_a_class
+pub mod an_end_stands_until_it_selects_class_0
+pub mod what_an_end_keeps_until_class_2

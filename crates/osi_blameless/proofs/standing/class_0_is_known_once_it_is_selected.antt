@@ -1,0 +1,61 @@
+-- The calling side knows of class 0 only once it is selected, whatever passes.
+-- For the units of both sides that are no breaks.
+use Rattle.osi_blameless.proofs.Vocabulary.{◌≡◌, sym, subst, ℕ, Bool, List, [], ◌∷◌, Option, Some, Value, Zero, Local, Direction}
+use Rattle.osi_blameless.proofs.Vocabulary.{Connection, Rules, Way, Reach, Route, Outcome, Traffic, at_found, routed, takes, unnamed_told}
+use Rattle.osi_blameless.proofs.Vocabulary.{Passing, passes, unit, Event, HappenAlong, Happens, Whole, arrives, calls, passes_rubbish}
+use Rattle.osi_blameless.proofs.Vocabulary.{zero_stays, arith, Joint}
+use Rattle.osi_rules.specs.Sides as sides
+use Rattle.osi_rules.specs.Traffic.{reached}
+use Rattle.osi_fair.specs.Wholes.{begin, begins_other, begins_own, passes_other, passes_own}
+use Rattle.osi_blameless.proofs.transport.steps_are_events.{IsFollowed}
+
+-- ---- a unit leaves what the calling side knows
+
+reached_seen : (d : Way) (r : Reach) (c : Rules) → (reached d r c).class_seen ≡ c.class_seen
+reached_seen d r c = grind arith
+
+abbrev Keeps : Traffic → Outcome → Type 0
+Keeps s o = o.state.course.class_seen ≡ s.course.class_seen
+
+to_unnamed : (d : Way) (v : Value) (s : Traffic) → Keeps s (unnamed_told d v s)
+to_unnamed d v s = grind (arith, reached_seen)
+
+to_one : (d : Way) (v : Value) (s : Traffic) (p : ℕ) (o : Option Connection) → Keeps s (at_found d v s p o)
+to_one d v s p o = grind (arith, to_unnamed, reached_seen)
+
+by_route : (d : Way) (v : Value) (s : Traffic) (r : Route) → Keeps s (routed d v s r)
+by_route d v s r = search (arith, reached_seen, to_unnamed, to_one)
+
+takes_seen : (d : Way) (v : Value) (s : Traffic) → Keeps s (takes d v s)
+takes_seen d v s = grind (arith, by_route)
+
+-- ---- whatever passes
+
+-- if the calling side knows of class 0, it is selected
+abbrev pub IsKnownOnce : Traffic → Type 0
+IsKnownOnce s = s.course.class_seen ≡ Some Zero → s.course.class ≡ Some Zero
+
+known_once : (p : Passing) (s : Traffic) → IsKnownOnce s → IsKnownOnce (passes p s)
+known_once p s h = grind (arith, zero_stays, takes_seen, reached_seen)
+
+pub unit_known_once : (d : Way) (v : Value) (s : Traffic) → IsKnownOnce s → IsKnownOnce (takes d v s).state
+unit_known_once d v s h = known_once (unit d v) s h
+
+event_known_once : (d : Way) (event : Event) (w new : Whole) → Happens d event w new → IsKnownOnce w.judge → IsKnownOnce new.judge
+event_known_once d arrives w new (u, coming, is) h = subst (λ (x : Whole). IsKnownOnce x.judge) (sym is) h
+event_known_once d (calls call) w new (may, is) h = subst (λ (x : Whole). IsKnownOnce x.judge) (sym is) h
+event_known_once d begins_own w new (some, none, is) h = grind (arith, known_once)
+event_known_once d passes_own w new (v, put, begun, is) h = grind (arith, known_once (unit d v) w.judge h)
+event_known_once d begins_other w new is h = grind (arith, known_once)
+event_known_once d (passes_other v) w new (ranges, is) h = grind (arith, known_once (unit (sides.other d) v) w.judge h)
+event_known_once d passes_rubbish w new is h = grind (arith, known_once)
+
+all_known_once : (d : Way) (events : List Event) (w new : Whole) → HappenAlong d w events new → IsKnownOnce w.judge → IsKnownOnce new.judge
+all_known_once d [] w new e h = subst (λ (x : Whole). IsKnownOnce x.judge) (sym e) h
+all_known_once d (event ∷ events) w new (mid, first, more) h =
+    all_known_once d events mid new more (event_known_once d event w mid first h)
+
+-- at every step of an end and a judge
+pub joint_known_once : (d : Direction) (is_caller : Bool) (local : Local) (j : Joint) → IsFollowed d (begin is_caller local) j →
+    IsKnownOnce j.course.traffic
+joint_known_once d is_caller local j f = grind (arith, all_known_once)

@@ -1,0 +1,58 @@
+-- What the other side sends and nobody can read is an event of a whole end, and so are the steps that follow.
+-- For the law that the transport of an end is blamed nowhere.
+use Rattle.osi_blameless.proofs.Vocabulary.{[], ap, Bool, Err, false, is_some, List, Ok, refl, Result, sym, true, ℕ, ◌++◌, ◌∙◌, ◌∷◌, ◌≡◌}
+use Rattle.osi_blameless.proofs.Vocabulary.{append-nil, AllByRecursion, Fits, IsOctets, units_by, units_fit, units_found, units_of, Value}
+use Rattle.osi_blameless.proofs.Vocabulary.{TpduFault, other, Direction, way_of, marks_of, unread, Cause, Whole, begins_other}
+use Rattle.osi_blameless.proofs.Vocabulary.{begins_own, Joint, passes_other, passes_own, Step, turns, arith, Course, LaterSteps, spoilt}
+use Rattle.osi_fair.specs.Pieces.{units_in}
+use Rattle.osi_fair.specs.Wholes as wholes
+use Rattle.osi_rules.specs.Sides as sides
+use Rattle.osi_rules.specs.Traffic as traffic
+use Rattle.osi_blameless.proofs.transport.a_break_ends_no_judging_or_all.{refused_traffic, refuses, unread_if}
+use Rattle.osi_blameless.proofs.transport.a_carrier_does_events.{happen_join, units_join}
+use Rattle.osi_blameless.proofs.transport.steps_are_events.{IsFollowed, passes_other_so, step_followed, turned}
+
+fits_by : (r : Result (List Value) TpduFault) (packet : List ℕ) → IsOctets packet → units_of packet ≡ r → AllByRecursion Fits (units_by r)
+fits_by (Ok units) packet octets is = units_fit units packet (units_found packet units octets is)
+fits_by (Err fault) packet octets is = tt
+
+module _ (d : Direction) (first : Whole) where
+  pub later_followed : (step : Step) (old new : Joint) → LaterSteps d step old new → IsFollowed d first old →
+      IsFollowed d first new
+  later_followed (turns turn) old new t f = step_followed d first (turns turn) old new t f
+  later_followed begins_own old new is f = step_followed d first begins_own old new is f
+  later_followed (passes_own at unit) old new is f = step_followed d first (passes_own at unit) old new is f
+  later_followed begins_other old new is f = step_followed d first begins_other old new is f
+  later_followed (passes_other at packet units) old new (octets, read, is) f = grind (arith, passes_other_so, fits_by)
+
+  module _ (at : ℕ) (cause : Cause) (packets : List (List ℕ)) (none : units_in packets ≡ []) (j : Joint) (f : IsFollowed d first j) where
+    spoilt_by : (b : Bool) → is_some (marks_of (other d) j.course).halted ≡ b → IsFollowed d first (spoilt d at cause packets j)
+    spoilt_by true halted =
+        let same : unread (other d) at cause j.course ≡ j.course = ap (λ (b : Bool). unread_if b (other d) at cause j.course) halted in
+        record {
+          whole = f.whole;
+          events = f.events;
+          along = f.along;
+          put = f.put;
+          begun = f.begun;
+          judge = f.judge ∙ sym (ap (λ (c : Course). c.traffic) same);
+          coming = λ lasts. f.coming lasts ∙ (grind (arith, units_join, append-nil));
+          like = f.like;
+        }
+    spoilt_by false goes =
+        let is : unread (other d) at cause j.course ≡ refuses (other d) at cause j.course =
+        ap (λ (b : Bool). unread_if b (other d) at cause j.course) goes in
+        let next : Whole = record f.whole { judge = traffic.refused (sides.other (way_of d)) f.whole.judge } in
+        record {
+          whole = next;
+          events = f.events ++ wholes.passes_rubbish ∷ [];
+          along = happen_join (way_of d) f.events (wholes.passes_rubbish ∷ []) first f.whole next f.along (next, refl, refl);
+          put = f.put;
+          begun = f.begun;
+          judge = grind (arith, turned, refused_traffic);
+          coming = λ lasts. f.coming lasts ∙ (grind (arith, units_join, append-nil));
+          like = f.like;
+        }
+
+    pub spoilt_followed : IsFollowed d first (spoilt d at cause packets j)
+    spoilt_followed = spoilt_by (is_some (marks_of (other d) j.course).halted) refl
