@@ -1,5 +1,6 @@
 pub mod Captures
 pub mod Conversations
+pub mod Found
 pub mod Halts
 pub mod Lines
 pub mod Places
