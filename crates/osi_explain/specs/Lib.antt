@@ -5,6 +5,7 @@ pub mod Halts
 pub mod Lines
 pub mod Places
 pub mod Requests
+pub mod Steps
 pub mod Streams
 pub mod Told
 pub mod Trails

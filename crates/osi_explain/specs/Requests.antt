@@ -1,12 +1,12 @@
 -- The call that makes a session send a message, and the connect that makes it send a CN.
-use Rattle.std.specs.Prelude.{◌≡◌, ℕ, ◌==◌, Bool, true, false, not, ◌&&◌, if◌then◌else◌, List, Option, Some, None, unwrap_or, option_map}
+use Rattle.std.specs.Prelude.{◌≡◌, ℕ, ◌==◌, Bool, true, not, if◌then◌else◌, List, Option, Some, None, unwrap_or, option_map}
 use Rattle.std.specs.Int.RustNames.{bit_and}
 use Rattle.osi_message.specs.Meanings.{Meaning, CN, AC, RF, DT, GT, PT, MIP, MIA, MAP, MAA, RS, RA, FN, DN, NF, AB, AA}
 use Rattle.osi_message.specs.Reading.{names}
 use Rattle.osi_script.specs.Commands.{Command, Connect}
 use Rattle.osi_session.specs.Calls.{Call, Accept, Refuse, Data, Give, Please, Minor, MinorConfirm, Major, MajorConfirm, Restart}
 use Rattle.osi_session.specs.Calls.{RestartConfirm, Release, ReleaseAccept, ReleaseRefuse, Abort}
-use Rattle.osi_session.specs.Calls.{Refusal, refusal_octets, refusal_reason, refusal_with}
+use Rattle.osi_session.specs.Calls.{Refusal, refusal_reason, refusal_with}
 use Rattle.osi_session.specs.Sides.{named_side, sides_by, wish_for}
 use Rattle.osi_session.specs.Units.{is_profile}
 use Rattle.osi_session.specs.declared.sides.Sides.{Sides}
