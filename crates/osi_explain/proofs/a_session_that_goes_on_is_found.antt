@@ -122,25 +122,6 @@ goes_no_further g taken s none l h = elim (ways g taken s h) [
 
 -- ---- what a session took on its way to here
 
-pub leading_said : (g : Goal) (from : Member) (taken : ℕ) (s : Seen) (t : Step) → from.taken ≤ taken → taken ≤ g.after.now.taken
-    → Listens (heard_for g) from.taken from.standing (taken - from.taken) s → SaysBy g taken s t → Leading g from t
-leading_said g from taken s t low high l b =
-    let at = b.count in
-    record {
-      sends = inl (record {
-        is = b.is;
-        more = taken - from.taken;
-        count = omega (arith, low, at);
-        listened = subst (λ (x : Seen). Listens (heard_for g) from.taken from.standing (taken - from.taken) x) (sym b.from) l;
-        said = subst (λ (x : Seen). CanSay x (word_for g) g.octets t.standing) (sym b.from)
-            (subst (λ (x : Seen). CanSay s (word_for g) g.octets x) (sym b.standing) b.says.0);
-      });
-      no_later = omega (arith, high, at);
-      standing = b.standing;
-      stays = subst (λ (x : Seen). Stays (heard_for g) t.taken x (g.after.now.taken - t.taken)) (sym b.standing)
-          (subst (λ (i : ℕ). Stays (heard_for g) i g.after.now.standing (g.after.now.taken - i)) (sym b.count) b.says.1.stays);
-    }
-
 pub leading_answered : (g : Goal) (from : Member) (taken : ℕ) (s next : Seen) (c : Count) (reply : Meaning) (t : Step) → from.taken ≤ taken
     → Listens (heard_for g) from.taken from.standing (taken - from.taken) s → listens s ≡ true
     → Takes s (get_or (heard_for g) taken []) c → c.reply ≡ Some reply → next ≡ after_count s c → AnswersBy g reply (taken + 1) next t
@@ -223,11 +204,6 @@ pub among_at : (members : List Member) (i : ℕ) (x : Member) → i < length mem
 among_at [] i x l e = absurd (omega (arith, l))
 among_at (m ∷ members) zero x l e = inl e
 among_at (m ∷ members) (suc i) x l e = inr (among_at members i x (omega (arith, l)) e)
-
-pub none_of_all : (g : Goal) (members : List Member) (i : ℕ) → length members ≤ i
-    → ((y : Member) → IsAmong y (take i members) → GoesTo g y.taken y.standing → ⊥)
-    → (y : Member) → IsAmong y members → GoesTo g y.taken y.standing → ⊥
-none_of_all g members i l h y a k = h y (subst (λ (ms : List Member). IsAmong y ms) (sym (take_all i members l)) a) k
 
 -- ---- a step, or none
 

@@ -3,6 +3,7 @@ pub mod Conversations
 pub mod Found
 pub mod Halts
 pub mod Lines
+pub mod Passed
 pub mod Places
 pub mod Requests
 pub mod Steps

@@ -110,7 +110,13 @@ impl Goal<'_> {
         if !is_restart_unit(self.unit) {
             return Ok(false);
         }
-        stays(alloc, self.heard, &self.after.standing, taken, self.after.taken)
+        stays(
+            alloc,
+            self.heard,
+            &self.after.standing,
+            taken,
+            self.after.taken,
+        )
     }
 
     /// The session sends the unit in this state, after so many TSDUs, and is then the one after it.
