@@ -1,5 +1,5 @@
 -- The connections of a capture, one after the other: what is kept of each side, and the run that is told of it.
-use Rattle.std.proofs.Common.{◌≡◌, ◌∙◌, ◌<◌, ◌+◌, ◌++◌, ◌∷◌, ◌⊎◌, inl, inr, refl, ap, sym, subst, arith, ℕ, zero, suc, List, [], length}
+use Rattle.std.proofs.Common.{◌≡◌, ◌<◌, ◌+◌, ◌++◌, ◌∷◌, inl, inr, refl, ap, sym, subst, arith, ℕ, zero, suc, List, [], length}
 use Rattle.std.proofs.Common.{get_or, set}
 use Rattle.std.proofs.Math.Numerals.{add-one}
 use Rattle.osi_session.specs.Standing.{Seen, seen_called, seen_calling}

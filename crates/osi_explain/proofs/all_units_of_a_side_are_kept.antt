@@ -1,8 +1,8 @@
 -- The units that are kept of a side are all units of its TSDUs.
-use Rattle.std.proofs.Common.{◌≡◌, ◌∙◌, ◌≤◌, ◌<◌, ◌+◌, ◌-◌, ◌++◌, ◌∷◌, ◌&&◌, ◌==◌, refl, ap, sym, subst, arith, ℕ, zero, suc, Bool, true}
-use Rattle.std.proofs.Common.{false, if◌then◌else◌}
-use Rattle.std.proofs.Common.{List, [], length, map, take, drop, get_or, Option, Some, None, Result, Ok, Err, nat_le, nat_lt, slice_range}
-use Rattle.std.proofs.Math.Seq.{take-append_seam, drop-append_seam, take-length}
+use Rattle.std.proofs.Common.{◌≡◌, ◌∙◌, ◌≤◌, ◌<◌, ◌+◌, ◌-◌, ◌++◌, ◌∷◌, ◌&&◌, refl, ap, sym, subst, arith, ℕ, zero, suc, true}
+use Rattle.std.proofs.Common.{false}
+use Rattle.std.proofs.Common.{List, [], length, map, take, drop, get_or, Option, Some, None, Result, Ok, Err}
+use Rattle.std.proofs.Math.Seq.{take-append_seam, take-length}
 use Rattle.std.proofs.lemmas.Bool.{and_parts, false≢true}
 use Rattle.std.proofs.lemmas.List.{append_assoc, append-nil, get_or_append_left, length-append, length-drop, length-map, length-take}
 use Rattle.std.proofs.lemmas.List.{map-append, take_all}
@@ -10,7 +10,7 @@ use Rattle.std.proofs.lemmas.List.{take-append-le, take_more}
 use Rattle.std.proofs.lemmas.List.Folds.{list_all-append}
 use Rattle.std.proofs.lemmas.List.Sums.{fold-append}
 use Rattle.std.proofs.lemmas.Option.{get_or_from_slice_get, slice_get-get_or, slice_get_within}
-use Rattle.std.specs.List.{fold, list_all, slice_get}
+use Rattle.std.specs.List.{list_all, slice_get}
 use Rattle.bytes.proofs.Ranges.{slice_range_front}
 use Rattle.osi_message.specs.Words.{Word, Words}
 use Rattle.osi_session.specs.Standing.{Seen}
@@ -27,7 +27,7 @@ use Rattle.osi_explain.specs.declared.streams.Kept.{Kept}
 use Rattle.osi_explain.specs.declared.streams.Tsdu.{Tsdu}
 use Rattle.osi_explain.specs.declared.streams.Stream.{Stream}
 use Rattle.osi_explain.specs.Streams.{octets_of, tsdus_in, tsdus_of, Keeps as StillKeeps}
-use Rattle.osi_explain.specs.Trails.{remark_at, remark_of}
+use Rattle.osi_explain.specs.Trails.{remark_of}
 use Rattle.osi_explain.specs.Units.{acting, words_of}
 use Rattle.osi_explain.specs.Whole.{AllAreKept, AreUnitsOf, ends_within, is_in, is_of_first, octets_told, told_as, unit_in, units_kept}
 use Rattle.osi_explain.specs.Whole.{IsWhole, IsWholeBut, TellsLast}

@@ -1,5 +1,5 @@
 -- Which of two things that passed in a capture comes first in a script.
-use Rattle.std.specs.Prelude.{ℕ, Bool, nat_le, nat_lt, if◌then◌else◌, Option, Some, None}
+use Rattle.std.specs.Prelude.{Bool, nat_le, nat_lt, if◌then◌else◌, Option, Some, None}
 use Rattle.osi_script.specs.declared.sides.Side.{Side}
 use Rattle.osi_script.specs.declared.sides.Side.TheVariants.{Left, Right}
 use Rattle.osi_explain.specs.declared.places.Place.{Place}

@@ -1,12 +1,12 @@
 -- The call that makes a session send a message, and the connect that makes it send a CN.
-use Rattle.std.specs.Prelude.{◌≡◌, ℕ, ◌==◌, Bool, true, false, not, ◌&&◌, if◌then◌else◌, List, Option, Some, None, unwrap_or, option_map}
+use Rattle.std.specs.Prelude.{◌≡◌, ℕ, ◌==◌, Bool, true, not, if◌then◌else◌, List, Option, Some, None, unwrap_or, option_map}
 use Rattle.std.specs.Int.RustNames.{bit_and}
 use Rattle.osi_message.specs.Meanings.{Meaning, CN, AC, RF, DT, GT, PT, MIP, MIA, MAP, MAA, RS, RA, FN, DN, NF, AB, AA}
 use Rattle.osi_message.specs.Reading.{names}
 use Rattle.osi_script.specs.Commands.{Command, Connect}
 use Rattle.osi_session.specs.Calls.{Call, Accept, Refuse, Data, Give, Please, Minor, MinorConfirm, Major, MajorConfirm, Restart}
 use Rattle.osi_session.specs.Calls.{RestartConfirm, Release, ReleaseAccept, ReleaseRefuse, Abort}
-use Rattle.osi_session.specs.Calls.{Refusal, refusal_octets, refusal_reason, refusal_with}
+use Rattle.osi_session.specs.Calls.{Refusal, refusal_reason, refusal_with}
 use Rattle.osi_session.specs.Sides.{named_side, sides_by, wish_for}
 use Rattle.osi_session.specs.Units.{is_profile}
 use Rattle.osi_session.specs.declared.sides.Sides.{Sides}
@@ -87,6 +87,16 @@ accept_of bits number sides sizes octets =
 abbrev pub refuse_of : (reason : ℕ) → Refusal → Option Call
 refuse_of reason refusal = if reason == refusal_reason refusal then Some (Refuse refusal) else None
 
+-- a message about a point or a restart
+abbrev pub point_call : Meaning → Option Call
+point_call (MIP confirm number octets) = Some (Minor confirm octets)
+point_call (MIA number octets) = Some (MinorConfirm number octets)
+point_call (MAP number octets) = Some (Major octets)
+point_call (MAA number octets) = Some (MajorConfirm octets)
+point_call (RS kind number wishes octets) = Some (Restart number wishes octets)
+point_call (RA number sides octets) = Some (RestartConfirm (named_sides sides) octets)
+point_call m = None
+
 -- The call of the user of a session that sends a message, on a connection whose CN offers this. None sends a CN, which a connect does, an
 -- AA, or an AB of a provider (the second bit is that of a user).
 abbrev pub call_of : Offer → Meaning → Option Call
@@ -97,14 +107,9 @@ call_of offer (RF reason octets) = refuse_of reason (refusal_with octets)
 call_of offer (DT octets) = Some (Data octets)
 call_of offer (GT tokens) = Some (Give tokens)
 call_of offer (PT tokens octets) = Some (Please tokens octets)
-call_of offer (MIP confirm number octets) = Some (Minor confirm octets)
-call_of offer (MIA number octets) = Some (MinorConfirm number octets)
-call_of offer (MAP number octets) = Some (Major octets)
-call_of offer (MAA number octets) = Some (MajorConfirm octets)
-call_of offer (RS kind number wishes octets) = Some (Restart number wishes octets)
-call_of offer (RA number sides octets) = Some (RestartConfirm (named_sides sides) octets)
 call_of offer (FN octets) = Some (Release octets)
 call_of offer (DN octets) = Some (ReleaseAccept octets)
 call_of offer (NF octets) = Some (ReleaseRefuse octets)
 call_of offer (AB bits octets) = if names bits 2 then Some (Abort octets) else None
 call_of offer AA = None
+call_of offer m = point_call m

@@ -10,7 +10,8 @@ ghost use Rattle.osi_spdu.specs.Fields.{unit_bits};
 ghost use Rattle.osi_spdu.specs.Sizes.{are_sizes, named_by};
 ghost use Rattle.osi_explain.specs.Requests.{accept_of, agreed_number, are_known, asks_by, call_of, connect_of, first_number};
 ghost use Rattle.osi_explain.specs.Requests.{is_duplex};
-ghost use Rattle.osi_explain.specs.Requests.{IsOffered, named_by_both, named_sides, number_of, offered_units, refuse_of, units_named_by};
+ghost use Rattle.osi_explain.specs.Requests.{IsOffered, named_by_both, named_sides, number_of, offered_units, point_call, refuse_of};
+ghost use Rattle.osi_explain.specs.Requests.{units_named_by};
 
 use bitflags::Flags;
 use osi_message::Message;
@@ -237,6 +238,44 @@ fn accepting<'a>(
     })
 }
 
+/// The call that sends a message about a point or a restart; none for another message.
+fn pointing<'a>(message: &Message<'a>) -> Option<Request<'a>>
+    ensures { option_map called_by result ≡ point_call (meant_by message.now) }
+{
+    match *message {
+        Message::MinorPoint {
+            confirm,
+            user_data,
+            ..
+        } => Some(Request::Minor { confirm, user_data }),
+        Message::MinorAck { number, user_data } => Some(Request::MinorConfirm {
+            number: number.number,
+            user_data,
+        }),
+        Message::MajorPoint { user_data, .. } => Some(Request::Major { user_data }),
+        Message::MajorAck { user_data, .. } => Some(Request::MajorConfirm { user_data }),
+        Message::Restart {
+            number,
+            wishes,
+            user_data,
+            ..
+        } => Some(Request::Restart {
+            number: number.number,
+            wishes,
+            user_data,
+        }),
+        Message::RestartAck {
+            sides,
+            user_data,
+            ..
+        } => Some(Request::RestartConfirm {
+            sides: sides_of(sides),
+            user_data,
+        }),
+        _ => None,
+    }
+}
+
 /// The call that sends a message of a connection whose CN offers this. None if no call does: it is a CN, which a connect sends
 /// ([`asked_by`]), an AA, an AB of a provider, an RF with a reason that no script gives, or an AC that selects what no script can.
 pub fn request_of<'a>(message: &Message<'a>, offer: Offer) -> Option<Request<'a>>
@@ -267,35 +306,12 @@ pub fn request_of<'a>(message: &Message<'a>, offer: Offer) -> Option<Request<'a>
             tokens: tokens.set(),
             user_data,
         }),
-        Message::MinorPoint {
-            confirm,
-            user_data,
-            ..
-        } => Some(Request::Minor { confirm, user_data }),
-        Message::MinorAck { number, user_data } => Some(Request::MinorConfirm {
-            number: number.number,
-            user_data,
-        }),
-        Message::MajorPoint { user_data, .. } => Some(Request::Major { user_data }),
-        Message::MajorAck { user_data, .. } => Some(Request::MajorConfirm { user_data }),
-        Message::Restart {
-            number,
-            wishes,
-            user_data,
-            ..
-        } => Some(Request::Restart {
-            number: number.number,
-            wishes,
-            user_data,
-        }),
-        Message::RestartAck {
-            sides,
-            user_data,
-            ..
-        } => Some(Request::RestartConfirm {
-            sides: sides_of(sides),
-            user_data,
-        }),
+        Message::MinorPoint { .. }
+        | Message::MinorAck { .. }
+        | Message::MajorPoint { .. }
+        | Message::MajorAck { .. }
+        | Message::Restart { .. }
+        | Message::RestartAck { .. } => pointing(message),
         Message::Finish { user_data } => Some(Request::Release { user_data }),
         Message::Disconnect { user_data } => Some(Request::ReleaseAccept { user_data }),
         Message::NotFinished { user_data } => Some(Request::ReleaseRefuse { user_data }),

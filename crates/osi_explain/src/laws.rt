@@ -1,11 +1,17 @@
 //! Laws of runs. The functions do nothing: their contracts are the laws.
 
-ghost use Rattle.std.specs.Prelude.{ℕ, List, map};
+ghost use Rattle.std.specs.Prelude.{◌≤◌, ℕ, List, map};
+ghost use Rattle.osi_message.specs.Words.{Word};
 ghost use Rattle.osi_session.specs.Standing.{Seen};
+ghost use Rattle.osi_side.specs.declared.members.Member.{Member};
 ghost use Rattle.osi_side.specs.Explaining.{Explains, IsExplained};
+ghost use Rattle.osi_side.specs.Kept.{after_word};
+ghost use Rattle.osi_side.specs.Onward.{IsAmong};
+ghost use Rattle.osi_side.specs.Walking.{the_remark};
 ghost use Rattle.osi_explain.specs.declared.streams.Kept.{Kept};
 ghost use Rattle.osi_explain.specs.declared.streams.Said.{Said};
 ghost use Rattle.osi_explain.specs.declared.streams.Stream.{Stream};
+ghost use Rattle.osi_explain.specs.Found.{ComesFrom};
 ghost use Rattle.osi_explain.specs.Streams.{tsdus_of};
 ghost use Rattle.osi_explain.specs.Told.{IsTold};
 ghost use Rattle.osi_explain.specs.Trails.{Runs, remark_of};
@@ -25,4 +31,15 @@ pub fn a_run_explains_what_its_side_sent()
 pub fn a_run_that_is_told_explains_its_side()
     ensures { (own heard : Stream) (begin : Seen) (whole : IsWhole own) → IsTold own heard begin
         → IsExplained begin (tsdus_of heard) whole.told }
+{}
+
+/// Each session that the judge keeps after a unit comes from one that it kept before it: that one takes TSDUs of the other side, and then
+/// sends the unit or answers by it; after a restart it may take more of them that change nothing (`comes`). If those that are kept before
+/// the unit took only what had passed before it, so did those that are kept after it (`passed`). So a run can be read off backwards.
+#[tactic(auto, using(crate::proofs::each_session_that_is_kept_comes_from_one::comes_from_one, crate::proofs::each_session_that_is_kept_comes_from_one::comes_in_time))]
+pub fn a_session_that_is_kept_comes_from_one()
+    ensures comes { (us : List (List ℕ)) (w : Word) (octets before : ℕ) (members : List Member) (x : Member)
+        → IsAmong x (after_word us octets before members w) → ComesFrom us (the_remark w octets before) members x }
+    ensures passed { (us : List (List ℕ)) (w : Word) (octets before : ℕ) (members : List Member) (x : Member)
+        → ((y : Member) → IsAmong y members → y.taken ≤ before) → IsAmong x (after_word us octets before members w) → x.taken ≤ before }
 {}

@@ -1,9 +1,10 @@
 //! One side of a connection: its TSDUs as they passed, and the sessions that the judge kept after each of their units.
 
-ghost use Rattle.std.specs.Prelude.{◌≡◌, ◌≢◌, ◌<◌, ◌+◌, ◌++◌, ◌∷◌, [], false, None, get_or, length, IfOk, IfSome, IfNone, OnOk};
+ghost use Rattle.std.specs.Prelude.{◌≡◌, ◌≢◌, ◌<◌, ◌≤◌, ◌+◌, ◌++◌, ◌∷◌, [], false, None, drop, get_or, length, IfOk, IfSome, IfNone, OnOk};
 ghost use Rattle.osi_side.specs.Judging.{Observes};
 ghost use Rattle.osi_side.specs.Sides.{observed};
 ghost use Rattle.osi_side.specs.declared.findings.Finding.{Finding as Found};
+ghost use Rattle.osi_explain.specs.Passed.{passed_first};
 ghost use Rattle.osi_explain.specs.Streams.{tsdus_of, unfinished, Adds, IsEmpty, Keeps};
 ghost use Rattle.osi_explain.specs.Whole.{AreUnitsOf, IsWhole, IsWholeBut, TellsLast};
 
@@ -73,14 +74,18 @@ pub struct Stream {
     pub said: Vec<Said>,
 }
 
-/// How many TSDUs of a stream passed before a piece; so many are known to have.
-fn passed_before(heard: &Stream, known: usize, piece: usize) -> usize {
+/// How many TSDUs of a side passed before a piece; so many are known to have.
+fn passed_before(heard: &Stream, known: usize, piece: usize) -> usize
+    ensures count { known ≤ length heard.now.tsdus.items → result ≡ known + passed_first piece (drop known heard.now.tsdus.items) }
+    ensures more { known ≤ result }
+{
+    let tsdus = heard.tsdus.as_slice();
     let mut passed = known;
-    'tsdus: for tsdu in heard.tsdus.get(known..).unwrap_or_default() {
-        if tsdu.place.last >= piece {
+    'tsdus: while passed < tsdus.len() {
+        if tsdus[passed].place.last >= piece {
             return passed;
         }
-        passed = passed.saturating_add(1);
+        passed += 1;
     }
     passed
 }

@@ -3,8 +3,14 @@
 //! The judge keeps a session after a unit only if one that it kept before the unit goes on to it. So from the last unit on,
 //! each session has one before it, and only the TSDUs between the two are looked at.
 
-ghost use Rattle.std.specs.Prelude.{IfOk, IfSome};
+ghost use Rattle.std.specs.Prelude.{◌≡◌, ◌≤◌, ◌-◌, MatchBool, IfNone, IfOk, IfSome};
+ghost use Rattle.osi_session.specs.Steady.{Hears};
+ghost use Rattle.osi_session.specs.Steps.{reply_of};
+ghost use Rattle.osi_side.specs.declared.members.Member.{Member};
+ghost use Rattle.osi_side.specs.Onward.{IsAmong};
 ghost use Rattle.osi_side.specs.Walking.{HearsTo};
+ghost use Rattle.osi_explain.specs.Found.{Stays};
+ghost use Rattle.osi_explain.specs.Steps.{AnswersBy, AnswersTo, GoesTo, Leading, SaysBy, SaysTo, Waits};
 ghost use Rattle.osi_explain.specs.Streams.{tsdus_of};
 ghost use Rattle.osi_explain.specs.Trails.{Runs};
 
@@ -35,6 +41,8 @@ struct Goal<'a> {
     unit: &'a Spdu<'a>,
     /// How many octets its TSDU has.
     octets: usize,
+    /// How many TSDUs of the other side had passed before it.
+    before: usize,
     after: &'a Member,
     heard: &'a Stream,
 }
@@ -56,33 +64,80 @@ pub fn hears(
     }
 }
 
+/// Whether this TSDU leaves a session as it is.
+#[tactic(auto, using(crate::proofs::a_session_that_goes_on_is_found::still_as))]
+fn is_still(alloc: Global, standing: &Standing, tsdu: &[u8]) -> Result<bool, AllocError>
+    ensures { IfOk result (λ yes. MatchBool yes (Hears standing.now tsdu.now standing.now) (Hears standing.now tsdu.now standing.now → ⊥)) }
+{
+    match hears(alloc, standing, tsdu)? {
+        Some(next) => Ok(next.is_same(standing)),
+        None => Ok(false),
+    }
+}
+
+/// Whether the TSDUs from this one up to so many leave a session as it is.
+#[tactic(auto, using(crate::proofs::a_session_that_goes_on_is_found::stays_step, crate::proofs::a_session_that_goes_on_is_found::stays_not, crate::proofs::a_session_that_goes_on_is_found::stays_end))]
+fn stays(
+    alloc: Global,
+    heard: &Stream,
+    standing: &Standing,
+    from: usize,
+    to: usize,
+) -> Result<bool, AllocError>
+    requires { from ≤ to }
+    ensures { IfOk result (λ yes. MatchBool yes (Stays (tsdus_of heard.now) from standing.now (to - from))
+        (Stays (tsdus_of heard.now) from standing.now (to - from) → ⊥)) }
+{
+    'tsdus: for number in from..to {
+        if !is_still(alloc, standing, heard.tsdu(number))? {
+            return Ok(false);
+        }
+    }
+    Ok(true)
+}
+
 impl Goal<'_> {
     /// Whether the session after the unit remains as it is while it takes the TSDUs from this one on: it waits for the answer to
     /// its restart.
-    fn waits_from(&self, alloc: Global, taken: usize) -> Result<bool, AllocError> {
-        if taken < self.after.taken && !is_restart_unit(self.unit) {
+    #[tactic(auto, using(crate::proofs::a_session_that_goes_on_is_found::waits_none, crate::proofs::a_session_that_goes_on_is_found::waits_not, crate::proofs::a_session_that_goes_on_is_found::waits_as))]
+    fn waits_from(&self, alloc: Global, taken: usize) -> Result<bool, AllocError>
+        requires { taken ≤ self.now.after.now.taken }
+        ensures { IfOk result (λ yes. MatchBool yes (Waits self.now taken) (Waits self.now taken → ⊥)) }
+    {
+        if taken == self.after.taken {
+            return Ok(true);
+        }
+        if !is_restart_unit(self.unit) {
             return Ok(false);
         }
-        'tsdus: for number in taken..self.after.taken {
-            match hears(alloc, &self.after.standing, self.heard.tsdu(number))? {
-                Some(next) if next.is_same(&self.after.standing) => (),
-                _ => return Ok(false),
-            }
-        }
-        Ok(true)
+        stays(
+            alloc,
+            self.heard,
+            &self.after.standing,
+            taken,
+            self.after.taken,
+        )
     }
 
     /// The session sends the unit in this state, after so many TSDUs, and is then the one after it.
+    #[tactic(auto, using(crate::proofs::a_session_that_goes_on_is_found::said_here, crate::proofs::a_session_that_goes_on_is_found::not_said, crate::proofs::a_session_that_goes_on_is_found::said_else, crate::proofs::a_session_that_goes_on_is_found::not_waiting))]
     fn said_at(
         &self,
         alloc: Global,
         standing: &Standing,
         taken: usize,
-    ) -> Result<Option<Step>, AllocError> {
+    ) -> Result<Option<Step>, AllocError>
+        requires { taken ≤ self.now.after.now.taken }
+        ensures some { IfOk result (λ step. IfSome step (SaysBy self.now taken standing.now)) }
+        ensures none { IfOk result (λ step. IfNone step (SaysTo self.now taken standing.now → ⊥)) }
+    {
         let Ok(said) = standing.say(self.unit, self.octets) else {
             return Ok(None);
         };
-        if !said.is_same(&self.after.standing) || !self.waits_from(alloc, taken)? {
+        if !said.is_same(&self.after.standing) {
+            return Ok(None);
+        }
+        if !self.waits_from(alloc, taken)? {
             return Ok(None);
         }
         Ok(Some(Step {
@@ -94,8 +149,15 @@ impl Goal<'_> {
     }
 
     /// The unit is the answer to the last of so many TSDUs, and the session is then the one after it.
-    fn answered(&self, reply: Reply, next: Standing, taken: usize) -> Option<Step> {
-        if taken != self.after.taken || !reply.is_said_by(self.unit) {
+    #[tactic(auto, using(crate::proofs::a_session_that_goes_on_is_found::answers_it, crate::proofs::a_session_that_goes_on_is_found::not_answered))]
+    fn answered(&self, reply: Reply, next: Standing, taken: usize) -> Option<Step>
+        ensures some { IfSome result (AnswersBy self.now (reply_of reply) taken next) }
+        ensures none { IfNone result (AnswersTo self.now (reply_of reply) taken next → ⊥) }
+    {
+        if taken != self.after.taken {
+            return None;
+        }
+        if !reply.is_said_by(self.unit) {
             return None;
         }
         if !next.is_same(&self.after.standing) {
@@ -110,7 +172,13 @@ impl Goal<'_> {
     }
 
     /// How a session goes on to the unit, if it does.
-    fn step_from(&self, alloc: Global, from: &Member) -> Result<Option<Step>, AllocError> {
+    fn step_from(&self, alloc: Global, from: &Member) -> Result<Option<Step>, AllocError>
+        ensures some { IfOk result (λ step. IfSome step (Leading self.now from.now)) }
+        ensures none { IfOk result (λ step. IfNone step (GoesTo self.now from.now.taken from.now.standing → ⊥)) }
+    {
+        if from.taken > self.after.taken {
+            return Ok(None);
+        }
         let mut standing = from.standing;
         'takes: for taken in from.taken..self.after.taken {
             if let Some(step) = self.said_at(alloc, &standing, taken)? {
@@ -120,12 +188,9 @@ impl Goal<'_> {
                 return Ok(None);
             };
             if let Some(reply) = taking.reply {
-                return Ok(self.answered(reply, taking.next, taken.saturating_add(1)));
+                return Ok(self.answered(reply, taking.next, taken + 1));
             }
             standing = taking.next;
-        }
-        if from.taken > self.after.taken {
-            return Ok(None);
         }
         self.said_at(alloc, &standing, self.after.taken)
     }
@@ -160,7 +225,7 @@ impl Goal<'_> {
         if last.is_answer {
             return Ok(last);
         }
-        'takes: for _ in step.taken..most {
+        'takes: for _ in step.taken..most.min(self.before) {
             match self.later(alloc, &last)? {
                 Some(later) => last = later,
                 None => return Ok(last),
@@ -174,7 +239,11 @@ impl Goal<'_> {
         &self,
         alloc: Global,
         members: &[Member],
-    ) -> Result<Option<(Member, Step)>, AllocError> {
+    ) -> Result<Option<(Member, Step)>, AllocError>
+        ensures some { IfOk result (λ step. IfSome step (λ s. IsAmong s.0 members.now × Leading self.now s.0 s.1)) }
+        ensures none { IfOk result (λ step. IfNone step ((x : Member) → IsAmong x members.now
+            → GoesTo self.now x.taken x.standing → ⊥)) }
+    {
         'members: for member in members {
             if let Some(step) = self.step_from(alloc, member)? {
                 return Ok(Some((*member, step)));
@@ -204,13 +273,14 @@ fn step_back(
     let goal = Goal {
         unit: &unit,
         octets: tsdu.len(),
+        before: kept.before,
         after,
         heard,
     };
     let Some((before, step)) = goal.first_step(alloc, own.kept_before(number))? else {
         return Ok(None);
     };
-    let latest = goal.latest(alloc, step, most.min(kept.before))?;
+    let latest = goal.latest(alloc, step, most)?;
     Ok(Some((before, latest)))
 }
 

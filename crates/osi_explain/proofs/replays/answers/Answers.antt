@@ -1,4 +1,4 @@
-use Rattle.std.proofs.Common.{◌≡◌, ◌-◌, ◌∙◌, [], List, ℕ, true, refl, ap, sym, subst, get_or, option_map}
+use Rattle.std.proofs.Common.{◌≡◌, ◌-◌, ◌∙◌, List, ℕ, true, refl, ap, sym, subst, option_map}
 use Rattle.osi_message.specs.Reading.{word}
 use Rattle.osi_session.specs.declared.standing.Taking.{Taking}
 use Rattle.osi_session.specs.Standing.{Seen, Takes, listens, after_count}

@@ -1,9 +1,8 @@
-use Rattle.std.proofs.Common.{◌≡◌, ◌∙◌, List, None, Option, ap, arith, option_map, refl, subst, sym}
+use Rattle.std.proofs.Common.{◌≡◌, ◌∙◌, None, arith, refl, subst, sym}
 use Rattle.std.specs.List.{slice_get}
 use Rattle.osi_message.specs.Reading.{word}
 use Rattle.osi_spdu.specs.Units.{said_by}
 use Rattle.osi_explain.specs.Units.{words_of}
-use Rattle.osi_explain.specs.declared.streams.Kept.{Kept}
 use Rattle.osi_explain.proofs.all_units_of_a_side_are_kept.{AreFirstOf, all_kept, one_kept}
 use Rattle.osi_explain.proofs.streams.kept_after.Goals as goal
 

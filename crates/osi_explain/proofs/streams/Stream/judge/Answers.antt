@@ -1,6 +1,5 @@
 use Rattle.std.proofs.Common.{◌≡◌, ◌∙◌, List, None, ℕ, arith, subst, sym}
 use Rattle.osi_explain.specs.Whole.{AreUnitsOf, IsWhole}
-use Rattle.osi_explain.specs.declared.streams.Stream.{Stream}
 use Rattle.osi_explain.proofs.all_units_of_a_side_are_kept.{stopped_whole, told_whole}
 use Rattle.osi_explain.proofs.streams.Stream.judge.Goals.{in-Kept+in_ok-append-in-Kept, in-Broke, in-TooMany}
 use Rattle.osi_explain.proofs.streams.Stream.judge.Goals as goal
