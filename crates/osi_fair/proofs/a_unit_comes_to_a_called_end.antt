@@ -29,6 +29,7 @@ use Rattle.osi_fair.proofs.which_units_are_for_a_connection.{first_left, named_n
 use Rattle.osi_fair.proofs.while_no_class_is_selected.{after_change}
 use Rattle.osi_fair.proofs.which_unit_of_the_other_side_passes.{IsCalm, IsNear, calm_before, calm_near, calm_noted}
 use Rattle.osi_fair.proofs.a_line_since_its_connection_opened.{tracks_on}
+use Rattle.osi_fair.proofs.each_connection_of_a_called_end.{running_on}
 
 -- ---- small facts
 
@@ -249,22 +250,11 @@ module _ (local : Local) (w : Whole) (f : Called local w) (apart : AreApart w.ju
         near.part (ap (λ (x : Connection). reach_of (Some Two) (finding_of Left w.judge.course in_use x v)) (sym g.judge) ∙ e) in
         record {
           ref = g.index ∙ ap (λ (i : ℕ). Some i) (sym r_is);
-          stand = runs (record {
-            r = g.r;
-            peer = g.peer;
-            index = g.index;
-            line = line;
-            judge = judge;
-            put = g.put;
-            begun_is = g.begun_is;
-            tracks = tracks_on Right g.r g.peer g.line line (passes_other w.judge.course in_use v ∷ []) g.tracks
-                (line, (ranges, dest_r, some, refl), refl);
-            there = ap (λ (h : Half). is_open h.phase) next_right ∙ g.there;
-            right = ap (λ (h : Half). h.reference) next_right ∙ g.right;
-            left = next_left ∙ g.left;
-            row = row_add g.r g.peer g.line.link g.line.coming (named_so g.r v dest_r) g.row;
-            shut_is = g.shut_is;
-          }) (asks_none q ∙ none);
+          stand = runs (running_on g line
+              (tracks_on Right g.r g.peer g.line line (passes_other w.judge.course in_use v ∷ []) g.tracks
+              (line, (ranges, dest_r, some, refl), refl)) judge g.put g.begun_is (ap (λ (h : Half). is_open h.phase) next_right ∙ g.there)
+              (ap (λ (h : Half). h.reference) next_right) next_left
+              (row_add g.r g.peer g.line.link g.line.coming (named_so g.r v dest_r) g.row) g.shut_is) (asks_none q ∙ none);
         }
 
     here_by : Stand local f.shut w.end w.coming (units_at q f.tagged) (units_at q f.came) (w.begun && first_at q f.tagged) (f.refs q) c →

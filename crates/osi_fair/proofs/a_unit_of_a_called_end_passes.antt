@@ -31,6 +31,7 @@ use Rattle.osi_fair.proofs.how_a_unit_of_right_passes.{finding_kept, conns_kept,
 use Rattle.osi_fair.proofs.small_facts_that_many_lemmas_use.{half_started}
 use Rattle.osi_fair.proofs.a_line_since_its_connection_opened.{LostPassed, RightPassed, dest as named_dest, lost_passes as line_lost}
 use Rattle.osi_fair.proofs.a_line_since_its_connection_opened.{name_first, right_passes}
+use Rattle.osi_fair.proofs.each_connection_of_a_called_end.{running_on}
 
 -- ---- small facts
 
@@ -363,21 +364,9 @@ module _ (local : Local) (w : Whole) (f : Called local w) (apart : AreApart w.ju
       not_linked shut r same k live q link here = grind (arith, differ, run.linked)
 
       run_stand : (b : Bool) → is_open next.right.phase ≡ b → StandAfter p next
-      run_stand true up = runs (record {
-        r = g.r;
-        peer = g.peer;
-        index = g.index;
-        line = line;
-        judge = refl;
-        put = refl;
-        begun_is = refl;
-        tracks = run.tracks;
-        there = up;
-        right = next_reference ∙ g.right;
-        left = ap (λ (h : Half). h.reference) next_left ∙ g.left;
-        row = g.row;
-        shut_is = g.shut_is;
-      }) asks
+      run_stand true up =
+          runs (running_on g line run.tracks refl refl refl up next_reference (ap (λ
+          (h : Half). h.reference) next_left) g.row g.shut_is) asks
       run_stand false shut = past (ap (λ (h : Half). is_silent h.phase) next_right ∙ half_started u c.right (grind arith))
           shut (run.none_left shut) asks
           (λ r e. not_linked shut r (number_is r g.r (sym e ∙ g.index)) g.row)
@@ -413,21 +402,14 @@ module _ (local : Local) (w : Whole) (f : Called local w) (apart : AreApart w.ju
       is_loose b e = grind (arith, differ)
 
       lost_stand : StandAfter p c
-      lost_stand = runs (record {
-        r = g.r;
-        peer = g.peer;
-        index = g.index;
-        line = record g.line { put = units_at p later; begun = false; judge = c };
-        judge = refl;
-        put = refl;
-        begun_is = refl;
-        tracks = lost.tracks;
-        there = g.there;
-        right = g.right;
-        left = g.left;
-        row = g.row;
-        shut_is = g.shut_is;
-      }) asks
+      lost_stand =
+          runs (running_on g (record g.line {
+            put =
+                units_at p later;
+            begun = false;
+            judge = c;
+          }) lost.tracks refl refl refl g.there refl refl
+          g.row g.shut_is) asks
 
       lost_above : AreAbove w.end.given f.last (values later)
       lost_above = above_less w.end.given f.last u (values later) above_all

@@ -1,18 +1,18 @@
 -- A unit of a whole calling end passes: a CR, whose connection waits then, or a unit of an open connection that is judged, which is right.
 -- For the law on a whole end.
-use Rattle.osi_fair.proofs.Vocabulary.{[], AllByRecursion, ap, arith, asked, asked_by, Bool, Class, confirm, Connect, Connection}
-use Rattle.osi_fair.proofs.Vocabulary.{destination_of, eqb-true, false, Half, inl, inr, is_applied, is_closing, is_free, is_open, is_over}
-use Rattle.osi_fair.proofs.Vocabulary.{is_silent, IsRight, Kept, Left, Line, linked, List, Live, Local, None, not, Option, Outcome, placed}
-use Rattle.osi_fair.proofs.Vocabulary.{position, refl, request, Right, sent_on, set, slice_get, Some, Standing, State, subst, sym, takes}
-use Rattle.osi_fair.proofs.Vocabulary.{Traffic, true, Two, unit as passing, Value, value_at, Whole, ℕ, ◌&&◌, ◌++◌, ◌==◌, ◌||◌, ◌∙◌, ◌∷◌}
-use Rattle.osi_fair.proofs.Vocabulary.{◌≡◌, ◌⊎◌}
+use Rattle.osi_fair.proofs.Vocabulary.{[], AllByRecursion, ap, arith, asked, asked_by, Bool, Class, Connect, Connection, destination_of}
+use Rattle.osi_fair.proofs.Vocabulary.{eqb-true, false, Half, inl, inr, is_applied, is_closing, is_free, is_open, is_over, is_silent}
+use Rattle.osi_fair.proofs.Vocabulary.{IsRight, Kept, Left, Line, linked, List, Live, Local, None, not, Option, Outcome, placed, position}
+use Rattle.osi_fair.proofs.Vocabulary.{refl, request, Right, sent_on, set, slice_get, Some, Standing, subst, sym, takes, Traffic, true, Two}
+use Rattle.osi_fair.proofs.Vocabulary.{unit as passing, Value, value_at, Whole, ℕ, ◌&&◌, ◌++◌, ◌==◌, ◌||◌, ◌∙◌, ◌∷◌, ◌≡◌, ◌⊎◌}
 use Rattle.osi_fair.proofs.small_facts_that_many_lemmas_use.{and_false, and_first, and_second, both, differ, first_is, no_list, rest_is}
 use Rattle.osi_fair.proofs.small_facts_that_many_lemmas_use.{set_other, some_same as item_is}
 use Rattle.osi_fair.proofs.a_reference_names_one_connection.{not_first}
 use Rattle.osi_fair.proofs.names_stay_apart_though_one_is_lost.{AreNamedApart, each_sound, end_set, right_asked}
-use Rattle.osi_fair.proofs.each_connection_has_its_line.{followed_at, Followed, Following, IsAnswer, IsAsking, IsOwned, Row, Tracked}
-use Rattle.osi_fair.proofs.each_connection_has_its_line.{Waiting, AreSettled, IsSettled, IsSpare, all_so, asking, asks, closes}
-use Rattle.osi_fair.proofs.each_connection_has_its_line.{is_tracked, is_waiting, no_spare, of, over, put_some, stray, why_before, talks}
+use Rattle.osi_fair.proofs.each_connection_has_its_line.{followed_at, followed_on, Followed, Following, IsAnswer, IsAsking, IsOwned, Row}
+use Rattle.osi_fair.proofs.each_connection_has_its_line.{Tracked}
+use Rattle.osi_fair.proofs.each_connection_has_its_line.{Waiting, AreSettled, IsSettled, IsSpare, all_so, asking, asks}
+use Rattle.osi_fair.proofs.each_connection_has_its_line.{is_tracked, is_waiting, no_spare, of, put_some, stray, why_before}
 use Rattle.osi_fair.proofs.what_holds_of_one_item.{after_add, after_set, first_true}
 use Rattle.osi_fair.proofs.what_lasts_at_the_judge.{lasts_passing}
 use Rattle.osi_fair.proofs.left_selects_no_class.{left_class}
@@ -46,15 +46,7 @@ stays_placed new cs None h i e at busy = added_still cs i new e at
 stays_placed new cs (Some q) h i e at busy =
     set_other cs q i new e (λ same. busy (first_true is_free cs q e h (ap (λ (n : ℕ). slice_get cs n) (sym same) ∙ at))) at
 
--- ---- the same line with other units
-
-pub row_same : (local : Local) (end : State) (coming : List Value) (r peer : ℕ) (line after : Line) → after.link ≡ line.link →
-    after.coming ≡ line.coming → Row local end coming r peer line → Row local end coming r peer after
-row_same local end coming r peer line after link same (asks there x source two early dcs first is) =
-    asks there x source two early dcs (first ∙ ap (λ (l : List Value). early ++ confirm r x ∷ l) (sym same)) (link ∙ is)
-row_same local end coming r peer line after link same (talks l there is all) = talks l there (link ∙ is) (all ∙ sym same)
-row_same local end coming r peer line after link same (closes o there q e is all) = closes o there q e (link ∙ is) (all ∙ sym same)
-row_same local end coming r peer line after link same (over h) = over h
+-- ---- what the end has
 
 -- the end has asked for it, or has it open
 abbrev is_held : Option Live → Bool
@@ -295,22 +287,8 @@ module _ (local : Local) (w : Whole) (f : Followed local w) (sane : IsSane w.jud
     -- ---- lines
 
     line_next : Following local rest false after.judge.course.disconnects.strays w.end w.coming next
-    line_next = record {
-      r = g.r;
-      peer = g.peer;
-      line = line_after;
-      left = next_left ∙ g.left;
-      right = ap (λ (x : Half). x.reference) next_right ∙ g.right;
-      tracks = passes.tracks;
-      judge = refl;
-      spare = g.spare;
-      put_is = parts.1.1;
-      spares = spares_still u g.r g.peer g.spare g.spares;
-      gone = g.gone;
-      begun_is = λ first. refl;
-      row = row_same local w.end w.coming g.r g.peer g.line line_after refl refl g.row;
-      calm = λ j. g.calm judged;
-    }
+    line_next = followed_on g line_after passes.tracks refl refl refl next_left (ap (λ (x : Half). x.reference) next_right) parts.1.1
+        (spares_still u g.r g.peer g.spare g.spares) (λ first. refl) (λ j. judged)
 
     line_other : (i : ℕ) (x : Connection) → (i ≡ p → ⊥) → slice_get cs i ≡ Some x → is_tracked x ≡ true →
         Following local rest false after.judge.course.disconnects.strays w.end w.coming x

@@ -1,12 +1,12 @@
 -- A unit of a whole calling end passes that is not judged: it changes no connection at the judge, and if it is of a line, that of a
 -- connection which has lost its judgement. For the law on a whole end.
-use Rattle.osi_fair.proofs.Vocabulary.{[], AllByRecursion, ap, arith, Bool, Class, Connect, Connection, Course, disconnected, false}
-use Rattle.osi_fair.proofs.Vocabulary.{inl, inr, Kept, Left, Line, List, Local, None, NotJudged, Option, refl, request, Right, slice_get}
-use Rattle.osi_fair.proofs.Vocabulary.{Some, subst, sym, takes, Traffic, true, Two, unit as passing, Value, Whole, ℕ, ◌&&◌, ◌++◌, ◌∙◌, ◌∷◌}
-use Rattle.osi_fair.proofs.Vocabulary.{◌≡◌, ◌⊎◌}
+use Rattle.osi_fair.proofs.Vocabulary.{[], AllByRecursion, ap, arith, Bool, Class, Connect, Connection, Course, disconnected, false, inl}
+use Rattle.osi_fair.proofs.Vocabulary.{inr, Kept, Left, List, Local, None, NotJudged, Option, refl, request, Right, slice_get, Some, subst}
+use Rattle.osi_fair.proofs.Vocabulary.{sym, takes, Traffic, true, Two, unit as passing, Value, Whole, ℕ, ◌&&◌, ◌++◌, ◌∙◌, ◌∷◌, ◌≡◌, ◌⊎◌}
 use Rattle.osi_fair.proofs.small_facts_that_many_lemmas_use.{and_false, both, no_list}
-use Rattle.osi_fair.proofs.a_unit_of_a_whole_end_passes.{own_kept, own_passes, own_peers, put_first, row_same}
-use Rattle.osi_fair.proofs.each_connection_has_its_line.{followed_at, AreSettled, Followed, Following, IsAnswer, IsAsking, IsOwned}
+use Rattle.osi_fair.proofs.a_unit_of_a_whole_end_passes.{own_kept, own_passes, own_peers, put_first}
+use Rattle.osi_fair.proofs.each_connection_has_its_line.{followed_at, followed_on, AreSettled, Followed, Following, IsAnswer, IsAsking}
+use Rattle.osi_fair.proofs.each_connection_has_its_line.{IsOwned}
 use Rattle.osi_fair.proofs.each_connection_has_its_line.{IsSpare, all_so, asking, idle_line, is_tracked, of, put_some, stray}
 use Rattle.osi_fair.proofs.each_connection_has_its_line.{why_before}
 use Rattle.osi_fair.proofs.left_selects_no_class.{left_class}
@@ -94,24 +94,8 @@ module _ (local : Local) (w : Whole) (f : Followed local w) (sane : IsSane w.jud
           lost_passes Left w.judge peers g.r g.peer g.line g.tracks u parts.0 parts.1.0 line_begun p c at g.judge left seen_so lost
 
       pop_put : Following local rest false course.disconnects.strays w.end w.coming c
-      pop_put =
-          let after : Line = record g.line { put = parts.0; begun = false; judge = c } in
-          record {
-            r = g.r;
-            peer = g.peer;
-            line = after;
-            left = g.left;
-            right = g.right;
-            tracks = passes.tracks;
-            judge = refl;
-            spare = g.spare;
-            put_is = parts.1.1;
-            spares = spares_on g.spare g.spares;
-            gone = g.gone;
-            begun_is = λ first. refl;
-            row = row_same local w.end w.coming g.r g.peer g.line after refl refl g.row;
-            calm = g.calm;
-          }
+      pop_put = followed_on g (record g.line { put = parts.0; begun = false; judge = c }) passes.tracks refl refl refl refl refl parts.1.1
+          (spares_on g.spare g.spares) (λ first. refl) (λ j. j)
 
       put_ignored : IsIgnored u w.judge
       put_ignored = record { found = passes.found; same = passes.conns }

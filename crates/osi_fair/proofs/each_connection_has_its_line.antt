@@ -97,6 +97,39 @@ followed_at g same spares begun row = record {
   calm = g.calm;
 }
 
+row_same : (local : Local) (end : State) (coming : List Value) (r peer : ℕ) (line after : Line) → after.link ≡ line.link →
+    after.coming ≡ line.coming → Row local end coming r peer line → Row local end coming r peer after
+row_same local end coming r peer line after link same (asks there x source two early dcs first is) =
+    asks there x source two early dcs (first ∙ ap (λ (l : List Value). early ++ confirm r x ∷ l) (sym same)) (link ∙ is)
+row_same local end coming r peer line after link same (talks l there is all) = talks l there (link ∙ is) (all ∙ sym same)
+row_same local end coming r peer line after link same (closes o there q e is all) = closes o there q e (link ∙ is) (all ∙ sym same)
+row_same local end coming r peer line after link same (over h) = over h
+
+-- and if its line goes on, with the same link and the same units that have come
+pub followed_on : {local : Local} {put puts : List Value} {b a s t : Bool} {end : State} {coming : List Value} {c e : Connection}
+    (g : Following local put b s end coming c) (line : Line) → Tracks Left g.r g.peer line → line.judge ≡ e → line.link ≡ g.line.link →
+    line.coming ≡ g.line.coming → e.left.reference ≡ c.left.reference → e.right.reference ≡ c.right.reference →
+    ours g.r g.peer puts ≡ line.put ++ g.spare → AllByRecursion (IsSpare t g.r g.peer) g.spare →
+    (IsFirst line.put g.spare → line.begun ≡ (a && leads (is_ours g.r g.peer) puts)) → (e.is_judged ≡ true → c.is_judged ≡ true) →
+    Following local puts a t end coming e
+followed_on {local} {put} {puts} {b} {a} {s} {t} {end} {coming} {c} {e} g line tracks judge link same left right put_is spares begun was =
+    record {
+      r = g.r;
+      peer = g.peer;
+      line = line;
+      left = left ∙ g.left;
+      right = right ∙ g.right;
+      tracks = tracks;
+      judge = judge;
+      spare = g.spare;
+      put_is = put_is;
+      spares = spares;
+      gone = λ some. link ∙ g.gone some;
+      begun_is = begun;
+      row = row_same local end coming g.r g.peer g.line line link same g.row;
+      calm = λ j. subst (AllByRecursion IsNoCc) (sym same) (g.calm (was j));
+    }
+
 -- a connection whose CR waits for its answer
 pub record Waiting (local : Local) (end : State) (coming : List Value) (c : Connection) : Type 0 where
   pub r : ℕ
@@ -169,13 +202,6 @@ pub record Followed (local : Local) (w : Whole) : Type 0 where
 
 -- ---- a packet begins
 
-begun_row : (local : Local) (end : State) (coming : List Value) (r peer : ℕ) (line : Line) (b : Bool) (c : Connection) →
-    Row local end coming r peer line → Row local end coming r peer (record line { begun = b; judge = c })
-begun_row local end coming r peer line b c (asks there x source two early dcs first link) = asks there x source two early dcs first link
-begun_row local end coming r peer line b c (talks link there is same) = talks link there is same
-begun_row local end coming r peer line b c (closes o there q e is same) = closes o there q e is same
-begun_row local end coming r peer line b c (over h) = over h
-
 pub put_some : (v : Value) (vs spare put : List Value) → put ≡ v ∷ vs → IsFirst put spare
 put_some v vs spare put e h = absurd (no_list v vs (sym e ∙ h))
 
@@ -195,44 +221,18 @@ module _ (local : Local) (put : List Value) (strays : Bool) (end : State) (comin
       Following local put true strays end coming (begins Left c)
   elsewhere idle none =
       let after = record f.line { judge = begins Left f.line.judge } in
-      record {
-        r = f.r;
-        peer = f.peer;
-        line = after;
-        left = f.left;
-        right = f.right;
-        tracks = tracks_on Left f.r f.peer f.line after (begins_elsewhere ∷ []) f.tracks (after, (idle, refl), refl);
-        judge = ap (begins Left) f.judge;
-        spare = f.spare;
-        put_is = f.put_is;
-        spares = f.spares;
-        gone = f.gone;
-        begun_is = λ first. idle ∙ sym (none first);
-        row = begun_row local end coming f.r f.peer f.line f.line.begun (begins Left f.line.judge) f.row;
-        calm = λ j. f.calm (sym (begins_judged Left c) ∙ j);
-      }
+      followed_on f after (tracks_on Left f.r f.peer f.line after (begins_elsewhere ∷ []) f.tracks (after, (idle, refl), refl))
+      (ap (begins Left) f.judge) refl refl refl refl f.put_is f.spares (λ first. idle ∙ sym (none first))
+      (λ j. sym (begins_judged Left c) ∙ j)
 
   begins_line : (v : Value) (vs : List Value) → f.line.put ≡ v ∷ vs → leads (is_ours f.r f.peer) put ≡ true →
       Following local put true strays end coming (begins Left c)
   begins_line v vs some e =
       let after = record f.line { begun = true; judge = begins Left f.line.judge } in
-      record {
-        r = f.r;
-        peer = f.peer;
-        line = after;
-        left = f.left;
-        right = f.right;
-        tracks = tracks_on Left f.r f.peer f.line after (begins_own ∷ []) f.tracks
-            (after, (λ h. no_list v vs (sym some ∙ h), f.begun_is (put_some v vs f.spare f.line.put some), refl), refl);
-        judge = ap (begins Left) f.judge;
-        spare = f.spare;
-        put_is = f.put_is;
-        spares = f.spares;
-        gone = f.gone;
-        begun_is = λ first. sym e;
-        row = begun_row local end coming f.r f.peer f.line true (begins Left f.line.judge) f.row;
-        calm = λ j. f.calm (sym (begins_judged Left c) ∙ j);
-      }
+      followed_on f after
+      (tracks_on Left f.r f.peer f.line after (begins_own ∷ []) f.tracks
+      (after, (λ h. no_list v vs (sym some ∙ h), f.begun_is (put_some v vs f.spare f.line.put some), refl), refl))
+      (ap (begins Left) f.judge) refl refl refl refl f.put_is f.spares (λ first. sym e) (λ j. sym (begins_judged Left c) ∙ j)
 
   left_by : (b : Bool) → leads (is_ours f.r f.peer) put ≡ b → (l : List Value) → f.line.put ≡ l →
       Following local put true strays end coming (begins Left c)
@@ -247,22 +247,9 @@ right_begins : (local : Local) (put : List Value) (b strays : Bool) (end : State
     Following local put b strays end coming c → Following local put b strays end coming (begins Right c)
 right_begins local put b strays end coming c f =
     let after = record f.line { judge = begins Right f.line.judge } in
-    record {
-      r = f.r;
-      peer = f.peer;
-      line = after;
-      left = f.left;
-      right = f.right;
-      tracks = tracks_on Left f.r f.peer f.line after (begins_other ∷ []) f.tracks (after, refl, refl);
-      judge = ap (begins Right) f.judge;
-      spare = f.spare;
-      put_is = f.put_is;
-      spares = f.spares;
-      gone = f.gone;
-      begun_is = f.begun_is;
-      row = begun_row local end coming f.r f.peer f.line f.line.begun (begins Right f.line.judge) f.row;
-      calm = λ j. f.calm (sym (begins_judged Right c) ∙ j);
-    }
+    followed_on f after (tracks_on Left f.r f.peer f.line after (begins_other ∷ []) f.tracks (after, refl, refl)) (ap
+    (begins Right) f.judge)
+    refl refl refl refl f.put_is f.spares f.begun_is (λ j. sym (begins_judged Right c) ∙ j)
 
 -- if none has lost its judgement, none had
 pub why_before : {A : Type 0} (was is : Bool) → (is ≡ false → was ≡ false) → A ⊎ (is ≡ false) → A ⊎ (was ≡ false)

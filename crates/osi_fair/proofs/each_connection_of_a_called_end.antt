@@ -97,6 +97,28 @@ pub record Running (shut : ℕ → Bool) (end : State) (coming mine : List Value
   pub row : Row end coming r peer line.link line.coming
   pub shut_is : shut r ≡ true → line.link ≡ None
 
+-- it goes on so, at another end too
+pub running_on : {shut then : ℕ → Bool} {end after : State} {coming later mine put : List Value} {b a : Bool} {o : Option ℕ}
+    {c e : Connection} (g : Running shut end coming mine b o c) (line : Line) → Tracks Right g.r g.peer line → line.judge ≡ e →
+    line.put ≡ put → line.begun ≡ a → is_open e.right.phase ≡ true → e.right.reference ≡ c.right.reference →
+    e.left.reference ≡ c.left.reference → Row after later g.r g.peer line.link line.coming → (then g.r ≡ true → line.link ≡ None) →
+    Running then after later put a o e
+running_on g line tracks judge put begun there right left row shut_is = record {
+  r = g.r;
+  peer = g.peer;
+  index = g.index;
+  line = line;
+  judge = judge;
+  put = put;
+  begun_is = begun;
+  tracks = tracks;
+  there = there;
+  right = right ∙ g.right;
+  left = left ∙ g.left;
+  row = row;
+  shut_is = shut_is;
+}
+
 -- right has refused it, and left knows nothing else of right; it is judged, since left could break no rule of it
 abbrev pub IsOff : Connection → Type 0
 IsOff c = (is_refused c.right.phase ≡ true) × ((is_silent c.seen_by_left.phase || is_refused c.seen_by_left.phase) ≡ true)
@@ -147,21 +169,9 @@ module _ (local : Local) (shut : ℕ → Bool) (end after : State) (coming later
     row = rows h.r h.x.source h.link h.come h.index h.row;
     shut_is = h.shut_is;
   }) (still none)
-  stands_at ask still rows un (runs g none) = runs (record {
-    r = g.r;
-    peer = g.peer;
-    index = g.index;
-    line = g.line;
-    judge = g.judge;
-    put = g.put;
-    begun_is = g.begun_is;
-    tracks = g.tracks;
-    there = g.there;
-    right = g.right;
-    left = g.left;
-    row = rows g.r g.peer g.line.link g.line.coming g.index g.row;
-    shut_is = g.shut_is;
-  }) (still none)
+  stands_at ask still rows un (runs g none) =
+      runs (running_on g g.line g.tracks g.judge g.put g.begun_is g.there refl refl
+      (rows g.r g.peer g.line.link g.line.coming g.index g.row) g.shut_is) (still none)
   stands_at ask still rows un (past silent up is none gone off) = past silent up is (still none) (λ r e. un r e (gone r e)) off
 
 -- ---- all
@@ -247,21 +257,12 @@ module _ (local : Local) (shut : ℕ → Bool) (end : State) (coming mine asks :
   run_begins : (b : Bool) (c e : Connection) (act : Act) → (h : Running shut end coming mine b o c) →
       ActsAlong Right h.r h.peer h.line (act ∷ []) (record h.line { judge = e }) → e.right ≡ c.right → e.left ≡ c.left →
       Running shut end coming mine b o e
-  run_begins b c e act h along right left = record {
-    r = h.r;
-    peer = h.peer;
-    index = h.index;
-    line = record h.line { judge = e };
-    judge = refl;
-    put = h.put;
-    begun_is = h.begun_is;
-    tracks = tracks_on Right h.r h.peer h.line (record h.line { judge = e }) (act ∷ []) h.tracks along;
-    there = ap (λ (x : Half). is_open x.phase) right ∙ h.there;
-    right = ap (λ (x : Half). x.reference) right ∙ h.right;
-    left = ap (λ (x : Half). x.reference) left ∙ h.left;
-    row = h.row;
-    shut_is = h.shut_is;
-  }
+  run_begins b c e act h along right left =
+      let line = record h.line { judge = e } in
+      running_on h line (tracks_on Right h.r h.peer h.line line (act ∷ []) h.tracks along) refl h.put h.begun_is
+      (ap (λ (x : Half). is_open x.phase) right ∙ h.there) (ap (λ (x : Half). x.reference) right) (ap (λ
+      (x : Half). x.reference) left) h.row
+      h.shut_is
 
   asked_begins : (d : Direction) (x : Connect) (c : Connection) → Asked x c → Asked x (begins d c)
   asked_begins d x c a = grind arith
@@ -294,30 +295,17 @@ module _ (local : Local) (shut : ℕ → Bool) (end : State) (coming mine asks :
   own_begins_one c some (answers h none) = answers (grind (arith, asked_begins)) none
   own_begins_one c some (runs h none) =
       let line = record h.line { begun = true; judge = begins Right c } in
-      runs (record {
-        r = h.r;
-        peer = h.peer;
-        index = h.index;
-        line = line;
-        judge = refl;
-        put = h.put;
-        begun_is = refl;
-        tracks = tracks_on Right h.r h.peer h.line line (begins_own ∷ []) h.tracks (
-          line,
-          (
-            λ e. some (sym h.put ∙ e),
-            h.begun_is,
-            ap (λ (e : Connection). record h.line { begun = true; judge = begins Right e })
-                (sym h.judge),
-          ),
-          refl,
-        );
-        there = h.there;
-        right = h.right;
-        left = h.left;
-        row = h.row;
-        shut_is = h.shut_is;
-      }) none
+      runs (running_on h line
+      (tracks_on Right h.r h.peer h.line line (begins_own ∷ []) h.tracks (
+        line,
+        (
+          λ e. some (sym h.put ∙ e),
+          h.begun_is,
+          ap (λ (e : Connection). record h.line { begun = true; judge = begins Right e })
+              (sym h.judge),
+        ),
+        refl,
+      )) refl h.put refl h.there refl refl h.row h.shut_is) none
   own_begins_one c some (past silent up none asks un off) = past silent up none asks un off
 
 -- ---- all connections, as a packet begins

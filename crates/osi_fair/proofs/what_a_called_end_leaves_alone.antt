@@ -15,6 +15,7 @@ use Rattle.osi_fair.proofs.what_is_put_before_the_cc_passes.{acts_join}
 use Rattle.osi_fair.proofs.which_units_are_for_a_connection.{those}
 use Rattle.osi_fair.proofs.a_dt_of_class_zero_passes.{unlike}
 use Rattle.osi_fair.proofs.a_line_since_its_connection_opened.{tracks_on}
+use Rattle.osi_fair.proofs.each_connection_of_a_called_end.{running_on}
 
 -- ---- a unit for a connection that is not open
 
@@ -106,21 +107,9 @@ module _ (local : Local) (w : Whole) (f : Called local w) (t : State) (units : L
       }) (asks i ∙ none)
   stand_on i c mine begun (runs h none) =
       let g = step_by h.r h.peer h.line.link h.line.coming (h.r == n) refl h.shut_is h.row in
-      runs (record {
-        r = h.r;
-        peer = h.peer;
-        index = h.index;
-        line = record h.line { coming = g.later };
-        judge = h.judge;
-        put = h.put;
-        begun_is = h.begun_is;
-        tracks = tracks_on Right h.r h.peer h.line (record h.line { coming = g.later }) g.acts h.tracks (g.along h.line refl refl);
-        there = h.there;
-        right = h.right;
-        left = h.left;
-        row = g.row;
-        shut_is = g.shut_is;
-      }) (asks i ∙ none)
+      let line = record h.line { coming = g.later } in
+      runs (running_on h line (tracks_on Right h.r h.peer h.line line g.acts h.tracks (g.along h.line refl refl)) h.judge h.put h.begun_is
+      h.there refl refl g.row g.shut_is) (asks i ∙ none)
   stand_on i c mine begun (past silent up none ask un off) =
       past silent up none (asks i ∙ ask) (λ r e. unlinked_still r (un r e)) off
 

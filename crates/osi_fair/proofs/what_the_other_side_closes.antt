@@ -1,21 +1,22 @@
 -- What the other side closes at the judge of a calling end: if a DR closed something, the end had the connection open there.
 -- For the law on DRs.
-use Rattle.osi_fair.proofs.Vocabulary.{acknowledge, ap, arith, at_found, at_place, Bool, Broke, Class, class_for, confirm, Connect}
-use Rattle.osi_fair.proofs.Vocabulary.{Connection, connection_after, Course, course_after, data2, disconnect, disconnected, eqb-true, error}
-use Rattle.osi_fair.proofs.Vocabulary.{false, Finding, found, found_on, Half, half_after, if◌then◌else◌, inl, inr, is_applied, is_closed}
-use Rattle.osi_fair.proofs.Vocabulary.{is_closing, is_named, is_of_connection, is_open, is_refused, is_silent, is_stray, Left, List, None}
-use Rattle.osi_fair.proofs.Vocabulary.{not, noted, NotJudged, one_told, Option, Outcome, passes_over, Phase, position, Reach, reach_of}
-use Rattle.osi_fair.proofs.Vocabulary.{reached, refl, Right, route_in, routed, Rule, set, slice_get, Some, subst, sym, takes, theirs}
-use Rattle.osi_fair.proofs.Vocabulary.{Traffic as State, true, Two, unnamed_told, uses_source, Value, Zero, ℕ, ◌&&◌, ◌==◌, ◌||◌, ◌≡◌, ◌⊎◌}
+use Rattle.osi_fair.proofs.Vocabulary.{ap, arith, at_found, Bool, Broke, Class, class_for, confirm, Connect, Connection, connection_after}
+use Rattle.osi_fair.proofs.Vocabulary.{Course, course_after, destination_of, disconnect, disconnected, eqb-true, error, false, Finding}
+use Rattle.osi_fair.proofs.Vocabulary.{found, found_on, Half, half_after, if◌then◌else◌, inl, inr, is_applied, is_closed, is_closing}
+use Rattle.osi_fair.proofs.Vocabulary.{is_named, is_of_connection, is_open, is_refused, is_silent, is_stray, knows_disconnect, Left, List}
+use Rattle.osi_fair.proofs.Vocabulary.{None, not, noted, NotJudged, one_told, Option, Outcome, passes_over, Phase, Reach, reach_of, reached}
+use Rattle.osi_fair.proofs.Vocabulary.{refl, Right, Rule, set, slice_get, Some, subst, sym, takes, theirs, Traffic as State, true, Two}
+use Rattle.osi_fair.proofs.Vocabulary.{uses_source, Value, Zero, ℕ, ◌&&◌, ◌==◌, ◌||◌, ◌≡◌, ◌⊎◌}
 use Rattle.osi_rules.specs.declared.findings.Reach.TheVariants as reach
 use Rattle.osi_rules.specs.declared.findings.Rule.TheVariants as rule
-use Rattle.osi_fair.proofs.small_facts_that_many_lemmas_use.{both, closing_shuts, differ, not_not, or_last, or_left, or_right}
+use Rattle.osi_fair.proofs.small_facts_that_many_lemmas_use.{and_first, both, closing_shuts, differ, not_not, or_last, or_left}
+use Rattle.osi_fair.proofs.small_facts_that_many_lemmas_use.{or_right}
 use Rattle.osi_fair.proofs.all_are_judged_unless_one_broke.{AreJudged}
 use Rattle.osi_fair.proofs.what_holds_of_one_item.{HoldsOfEach, each_set}
 use Rattle.osi_fair.proofs.what_keeps_names_apart.{AreApart, Sound}
-use Rattle.osi_fair.proofs.while_no_class_is_selected.{after_change, named_where}
+use Rattle.osi_fair.proofs.while_no_class_is_selected.{after_change}
 use Rattle.osi_fair.proofs.what_is_live_at_an_end.{IsLively, Less, dr_for, is_there, shuts_of}
-use Rattle.osi_fair.proofs.which_unit_of_the_other_side_passes.{not_calm}
+use Rattle.osi_fair.proofs.which_unit_of_the_other_side_passes.{Came as Passes, asks_so, came_so, for_one, lost as spared}
 use Rattle.osi_fair.proofs.what_stays_of_each_connection.{AreDistinct, IsStarted, left_then, right_judged, right_own}
 use Rattle.osi_fair.proofs.names_stay_apart_though_one_is_lost.{AreNamedApart, each_sound}
 use Rattle.osi_fair.proofs.what_lasts_at_the_judge.{IsCalm, calm_noted}
@@ -81,10 +82,6 @@ pub data Came (L : ℕ → Type 0) (v : Value) (s t : State) : Type 0 where
 pub soft : (k : Option Class) (r : Rule) (c : Course) → passes_over r ≡ false → IsCalm (reached Right (reach_of k (Broke r)) c) →
     (reach_of k (Broke r) ≡ reach.Connection) × (is_of_connection r ≡ true)
 soft k r c e h = grind (arith, differ)
-
-none_bad : {A : Type 0} (v : Value) (s : State) → s.course.disconnects.strays ≡ false → s.course.left_erred ≡ false →
-    IsPlain (unnamed_told Right v s).state.course → A
-none_bad v s plain fine h = search (arith, calm_of)
 
 reached_plain : (r : Reach) (c : Course) → (reached Right r c).disconnects.strays ≡ false → c.disconnects.strays ≡ false
 reached_plain r c h = grind arith
@@ -247,6 +244,12 @@ module _ (L : ℕ → Type 0) (s : State) (q : ℕ) (c : Connection) (at : slice
 
 -- ---- by the way that a unit takes
 
+no_zero : (k : Option Class) → (k ≡ Some Zero → ⊥) → (k ≡ None) ⊎ (k ≡ Some Two)
+no_zero k h = grind arith
+
+closes_named : (v : Value) (n m : ℕ) → destination_of v ≡ Some n → shuts_of Left v ≡ Some m → n ≡ m
+closes_named v n m e k = grind arith
+
 -- what holds at the judge
 pub record IsSane (s : State) : Type 0 where
   pub apart : AreApart s.connections
@@ -278,53 +281,15 @@ module _ (L : ℕ → Type 0) (s : State) (sane : IsSane s) (peers : AreNamedApa
   at_one v q c at named =
       one_by v q c at (λ n e. is_name c n (each_sound Right s.connections sane.apart peers q c at) (named n e)) c.is_judged refl
 
-  there : (v : Value) (q : ℕ) (c : Connection) → slice_get s.connections q ≡ Some c →
-      ((n : ℕ) → shuts_of Left v ≡ Some n → is_named Right n c ≡ true) → Comes v (at_place Right v s (Some q))
-  there v q c at named = subst (λ (o : Option Connection). Comes v (at_found Right v s q o)) (sym at) (at_one v q c at named)
-
-  at_name : (v : Value) (n : ℕ) (o : Option ℕ) → position (is_named Right n) s.connections ≡ o →
-      ((m : ℕ) → shuts_of Left v ≡ Some m → n ≡ m) → Comes v (at_place Right v s o)
-  at_name v n None e same h = none_bad v s before.strays fine h
-  at_name v n (Some q) e same h =
-      let (c, at, named) = named_where s.connections n q e in
-      there v q c at (λ m k. subst (λ (i : ℕ). is_named Right i c ≡ true) (same m k) named) h
-
-  same_number : (n m : ℕ) → Some n ≡ Some m → n ≡ m
-  same_number n m e = cc
-
-  by_class : (k : Option Class) → s.course.class ≡ k → (v : Value) → Comes v (routed Right v s (route_in k Right false v))
-  by_class None is (confirm destination x) =
-      at_name (confirm destination x) destination (position (is_named Right destination) s.connections) refl (λ m e. absurd (cc e))
-  by_class None is (disconnect destination source reason user) =
-      at_name (disconnect destination source reason user) destination (position (is_named Right destination) s.connections) refl
-      (λ m e. same_number destination m e)
-  by_class None is (disconnected destination source) =
-      at_name (disconnected destination source) destination (position (is_named Right destination) s.connections) refl
-      (λ m e. same_number destination m e)
-  by_class None is (error destination cause) =
-      at_name (error destination cause) destination (position (is_named Right destination) s.connections) refl
-      (λ m e. same_number destination m e)
-  by_class (Some Zero) is v = absurd (before.two is)
-  by_class (Some Two) is (confirm destination x) =
-      at_name (confirm destination x) destination (position (is_named Right destination) s.connections) refl (λ m e. absurd (cc e))
-  by_class (Some Two) is (disconnect destination source reason user) =
-      at_name (disconnect destination source reason user) destination (position (is_named Right destination) s.connections) refl
-      (λ m e. same_number destination m e)
-  by_class (Some Two) is (disconnected destination source) =
-      at_name (disconnected destination source) destination (position (is_named Right destination) s.connections) refl
-      (λ m e. same_number destination m e)
-  by_class (Some Two) is (data2 destination number end user) =
-      at_name (data2 destination number end user) destination (position (is_named Right destination) s.connections) refl
-      (λ m e. absurd (cc e))
-  by_class (Some Two) is (acknowledge credit destination number) =
-      at_name (acknowledge credit destination number) destination (position (is_named Right destination) s.connections) refl
-      (λ m e. absurd (cc e))
-  by_class (Some Two) is (error destination cause) =
-      at_name (error destination cause) destination (position (is_named Right destination) s.connections) refl
-      (λ m e. same_number destination m e)
-  by_class _ is v = grind (arith, not_calm, calm_noted, calm_of)
-
+  -- by what the rules take it for
   pub what_came : (v : Value) → IsPlain (takes Right v s).state.course → Came L v s (takes Right v s).state
-  what_came v =
-      let so : takes Right v s ≡ routed Right v s (route_in s.course.class Right false v) = grind arith in
-      subst (Comes v) (sym so) (by_class s.course.class refl v)
+  what_came v h = by (came_so Right v s (λ m cause e. fine) before.right (no_zero s.course.class before.two)
+      (calm_of (takes Right v s).state.course h))
+    where
+      by : Passes Right v s (takes Right v s) → Came L v s (takes Right v s).state
+      by (asks_so x left e kept is) = absurd (cc left)
+      by (for_one n q c dest at named is) =
+          subst (Comes v) (sym is)
+          (at_one v q c at (λ m e. subst (λ (i : ℕ). is_named Right i c ≡ true) (closes_named v n m dest e) named)) h
+      by (spared idle) = differ s.course.disconnects.strays
+          (and_first s.course.disconnects.strays (knows_disconnect Right s.course.disconnects) idle.may) before.strays
