@@ -175,7 +175,7 @@ pub use Rattle.osi_fair.proofs.a_reference_names_one_connection.{applied_found, 
 pub use Rattle.osi_fair.proofs.a_reference_names_one_connection.{passes_apart}
 pub use Rattle.osi_fair.proofs.a_request_of_a_whole_end_is_new.{unit_gives}
 pub use Rattle.osi_fair.proofs.a_right_unit_is_not_blamed.{first_there}
-pub use Rattle.osi_fair.proofs.a_unit_of_an_end_of_class_zero_passes.{selecting_passes}
+pub use Rattle.osi_fair.proofs.a_called_end_selects_class_zero.{selecting_passes}
 pub use Rattle.osi_fair.proofs.all_are_judged_unless_one_broke.{AreJudged, still_judged}
 pub use Rattle.osi_fair.proofs.class_0_stays_selected.{zero_stays}
 pub use Rattle.osi_fair.proofs.each_connection_has_its_line.{AreGiven, Followed, IsAnswer, IsAsking, IsNoCc, IsOwned, Row, Tracked, all_so}
@@ -200,7 +200,7 @@ pub use Rattle.osi_fair.proofs.what_a_link_does.{begun_by, gives_so, takes_so}
 pub use Rattle.osi_fair.proofs.what_an_end_does_in_class_zero.{IsInZero, anyhow, zero_puts}
 pub use Rattle.osi_fair.proofs.what_an_end_puts_in_class_zero.{PutsData}
 pub use Rattle.osi_fair.proofs.what_becomes_of_a_called_end.{IsCalled, closing_no_cc, confirms_no_cc, given_no_cc, none_by_call}
-pub use Rattle.osi_fair.proofs.what_becomes_of_a_connection.{IsIdle, comes_for}
+pub use Rattle.osi_fair.proofs.what_becomes_of_a_connection.{comes_for}
 pub use Rattle.osi_fair.proofs.what_holds_of_one_item.{HoldsOfEach, after_add, after_map, after_set, each_add, each_map, each_set}
 pub use Rattle.osi_fair.proofs.what_holds_of_one_item.{first_true, none_true, one_added, one_changed, one_mapped, one_put}
 pub use Rattle.osi_fair.proofs.what_is_right_passes_each_test.{passes_each}
@@ -209,6 +209,7 @@ pub use Rattle.osi_fair.proofs.what_lasts_at_the_judge.{lasts_passing}
 pub use Rattle.osi_fair.proofs.what_stays_of_each_connection.{left_then, own_stays, right_passes}
 pub use Rattle.osi_fair.proofs.what_the_other_side_closes.{IsClear, IsFirm, IsOngoing, going_on, is_name}
 pub use Rattle.osi_fair.proofs.which_requests_are_put.{asked_among, call_asks, unit_asks}
+pub use Rattle.osi_fair.proofs.which_unit_of_the_other_side_passes.{IsCalm, IsIdle}
 pub use Rattle.osi_fair.proofs.which_units_are_for_a_connection.{IsDc, each_picked, first_kept, first_left, names_in as is_at, is_dc, keep}
 pub use Rattle.osi_fair.proofs.which_units_are_for_a_connection.{leads, names, picked, picked_first, picked_join, picked_other, picked_rest}
 pub use Rattle.osi_fair.proofs.which_units_are_for_a_connection.{those, those_join}

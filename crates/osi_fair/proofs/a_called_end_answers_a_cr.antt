@@ -1,17 +1,17 @@
 -- A called end takes a CR, and puts its answer: a DR that refuses it, or a CC with the next reference.
 -- For the law on a whole called end.
-use Rattle.osi_fair.proofs.Vocabulary.{[], ap, arith, Bool, false, if◌then◌else◌, is_some, List, None, Option, refl, Some, subst, sym, true}
-use Rattle.osi_fair.proofs.Vocabulary.{ℕ, ◌++◌, ◌+◌, ◌<◌, ◌∙◌, ◌∷◌, ◌≡◌, ◌≢◌, ◌≤◌, ◌⊎◌, eq-eqb, eqb-true, append-nil, AllByRecursion}
-use Rattle.osi_fair.proofs.Vocabulary.{slice_get, ◌&&◌, ◌==◌, acknowledge, confirm, Connect, data0, data2, disconnect, disconnected, error}
-use Rattle.osi_fair.proofs.Vocabulary.{request, Value, Standing, accept, selected_by, Two, Local, acceptance, opened_link, Rows, value_at}
-use Rattle.osi_fair.proofs.Vocabulary.{Live, linked, Connection, Whole, State}
+use Rattle.osi_fair.proofs.Vocabulary.{[], accept, acceptance, AllByRecursion, ap, append-nil, arith, Bool, confirm, Connect, Connection}
+use Rattle.osi_fair.proofs.Vocabulary.{disconnect, eq-eqb, eqb-true, false, if◌then◌else◌, is_some, linked, List, Live, Local, None}
+use Rattle.osi_fair.proofs.Vocabulary.{opened_link, Option, refl, request, Right, Rows, selected_by, slice_get, Some, Standing, State}
+use Rattle.osi_fair.proofs.Vocabulary.{subst, sym, true, Two, Value, value_at, Whole, ℕ, ◌&&◌, ◌++◌, ◌+◌, ◌<◌, ◌==◌, ◌∙◌, ◌∷◌, ◌≡◌, ◌≢◌}
+use Rattle.osi_fair.proofs.Vocabulary.{◌≤◌, ◌⊎◌}
 use Rattle.osi_fair.proofs.small_facts_that_many_lemmas_use.{and_second, differ, no_number, number_is}
 use Rattle.osi_fair.proofs.each_connection_of_a_called_end.{stands_at, Among, AreAbove, Answering, Asked, Called, IsDc, IsFor, IsStray}
 use Rattle.osi_fair.proofs.each_connection_of_a_called_end.{IsUnlinked, Row, Stand, Untagged, answers, closes, first_some, over, refuses}
 use Rattle.osi_fair.proofs.each_connection_of_a_called_end.{talks}
 use Rattle.osi_fair.proofs.units_by_their_place.{Placed, at_first, at_join, at_other, first_at, units_at, values, values_join}
 use Rattle.osi_fair.proofs.what_a_called_end_does_to_its_lines.{above_more, some_more, strays_keep}
-use Rattle.osi_fair.proofs.what_is_live_at_a_called_end.{IsKnown, Timely, timely_answers, timely_puts}
+use Rattle.osi_fair.proofs.what_is_live_at_an_end.{IsKnown, IsLive, Timely, timely_gives, timely_puts}
 use Rattle.osi_fair.proofs.which_units_are_for_a_connection.{those}
 use Rattle.osi_fair.proofs.a_dt_of_class_zero_passes.{unlike}
 use Rattle.osi_fair.proofs.how_a_unit_of_right_passes.{no_list}
@@ -36,14 +36,8 @@ dcs_alone given r (v ∷ vs) above (one, more) = grind (arith, those, dcs_alone 
 above_cc : (given n : ℕ) (vs : List Value) (m : ℕ) (x : Connect) → x.source ≡ given + 1 → AreAbove given n vs →
     AreAbove (given + 1) n (vs ++ confirm m x ∷ [])
 above_cc given n [] m x e h = (omega arith, omega arith)
-above_cc given n (request y ∷ vs) m x e h = above_cc given n vs m x e h
 above_cc given n (confirm destination y ∷ vs) m x e (above, h) = (above, above_cc given y.source vs m x e h)
-above_cc given n (disconnect destination source reason user ∷ vs) m x e h = above_cc given n vs m x e h
-above_cc given n (disconnected destination source ∷ vs) m x e h = above_cc given n vs m x e h
-above_cc given n (data0 end user ∷ vs) m x e h = above_cc given n vs m x e h
-above_cc given n (data2 destination number end user ∷ vs) m x e h = above_cc given n vs m x e h
-above_cc given n (acknowledge credit destination number ∷ vs) m x e h = above_cc given n vs m x e h
-above_cc given n (error destination cause ∷ vs) m x e h = above_cc given n vs m x e h
+above_cc given n (_ ∷ vs) m x e h = above_cc given n vs m x e h
 
 for_by : (given m : ℕ) (v : Value) → ((m ≤ given) × (1 ≤ m)) ⊎ IsDc v → ((m ≤ given + 1) × (1 ≤ m)) ⊎ IsDc v
 for_by given m v k = grind arith
@@ -53,6 +47,9 @@ for_more given [] h = tt
 for_more given (v ∷ vs) (one, more) = (λ m e. for_by given m v (one m e), for_more given vs more)
 
 -- ---- the place of the CR
+
+same_confirm : (m n : ℕ) (x y : Connect) → confirm m x ≡ confirm n y → x ≡ y
+same_confirm m n x y e = cc
 
 module _ (local : Local) (w : Whole) (f : Called local w) (was : w.end.ended ≡ None) (p : ℕ) (x : Connect) (later : List Placed)
     (came : f.came ≡ (Some p, request x) ∷ later) (coming : List Value) (come_is : coming ≡ values later)
@@ -72,7 +69,7 @@ module _ (local : Local) (w : Whole) (f : Called local w) (was : w.end.ended ≡
   untagged_later : AllByRecursion Untagged later
   untagged_later = (subst (AllByRecursion Untagged) came f.untagged).1
 
-  known_later : w.judge.course.disconnects.strays ≡ false → AllByRecursion (IsKnown s.given) coming
+  known_later : w.judge.course.disconnects.strays ≡ false → AllByRecursion (IsKnown Right s.given) coming
   known_later none = grind arith
 
   -- the connection of the CR
@@ -154,7 +151,8 @@ module _ (local : Local) (w : Whole) (f : Called local w) (was : w.end.ended ≡
   -- ---- it is refused
 
   module _ (t : State) (reason : ℕ) (live : t.live ≡ s.live) (given : t.given ≡ s.given)
-      (timely : w.judge.course.disconnects.strays ≡ false → t.ended ≡ None → Timely t coming w.judge.connections (values f.tagged)) where
+      (timely : w.judge.course.disconnects.strays ≡ false → t.ended ≡ None →
+      Timely Right t coming w.judge.connections (values f.tagged)) where
     abbrev dr : Value
     dr = disconnect x.source 0 reason []
 
@@ -203,8 +201,8 @@ module _ (local : Local) (w : Whole) (f : Called local w) (was : w.end.ended ≡
       some = λ h. subst (λ (l : List Value). l ≢ []) (sym (values_are dr)) (some_more (values f.tagged) (dr ∷ []) (f.some h));
       few = subst (λ (j : ℕ). AllByRecursion (IsFor j) coming) (sym given) few;
       untagged = untagged_later;
-      timely = λ none lasts. subst (λ (l : List Value). Timely t coming w.judge.connections l) (sym (values_are dr))
-          (timely_puts t coming w.judge.connections (values f.tagged) (dr ∷ []) (λ m y e. absurd (cc e), tt) (timely none lasts));
+      timely = λ none lasts. subst (λ (l : List Value). Timely Right t coming w.judge.connections l) (sym (values_are dr))
+          (timely_puts Right t coming w.judge.connections (values f.tagged) (dr ∷ []) (λ m y e. absurd (cc e), tt) (timely none lasts));
     }
 
   -- ---- it is accepted
@@ -213,7 +211,8 @@ module _ (local : Local) (w : Whole) (f : Called local w) (was : w.end.ended ≡
       (rows : (m : ℕ) → m ≤ s.given → value_at m t.live ≡ value_at m s.live)
       (new : value_at (s.given + 1) t.live ≡ Some (linked x.source (opened_link Two size local x.credit)))
       (others : (m peer : ℕ) (l : Standing) → value_at m t.live ≡ Some (linked peer l) → (m ≡ s.given + 1 → ⊥) → m ≤ s.given)
-      (timely : w.judge.course.disconnects.strays ≡ false → t.ended ≡ None → Timely t coming w.judge.connections (values f.tagged)) where
+      (timely : w.judge.course.disconnects.strays ≡ false → t.ended ≡ None →
+      Timely Right t coming w.judge.connections (values f.tagged)) where
     abbrev r : ℕ
     r = s.given + 1
 
@@ -330,8 +329,9 @@ module _ (local : Local) (w : Whole) (f : Called local w) (was : w.end.ended ≡
       some = λ h. subst (λ (l : List Value). l ≢ []) (sym (values_are cc_is)) (some_more (values f.tagged) (cc_is ∷ []) (f.some h));
       few = subst (λ (j : ℕ). AllByRecursion (IsFor j) coming) (sym given) (for_more s.given coming few);
       untagged = untagged_later;
-      timely = λ none lasts. subst (λ (l : List Value). Timely t coming w.judge.connections l) (sym (values_are cc_is))
-          (timely_answers s t coming w.judge.connections (values f.tagged) x.source (acceptance Two size x local r) (ap is_some new)
-          (omega arith)
-          (known_later none) (timely none lasts));
+      timely = λ none lasts. subst (λ (l : List Value). Timely Right t coming w.judge.connections l) (sym (values_are cc_is))
+          (timely_gives Right s t coming w.judge.connections (values f.tagged) cc_is
+          (λ m y e. subst (λ (z : Connect). IsLive t z.source × (s.given < z.source))
+          (same_confirm x.source m (acceptance Two size x local r) y e) (ap is_some new, omega arith)) (known_later none)
+          (timely none lasts));
     }

@@ -1,18 +1,20 @@
 -- A whole called end is fair as long as both sides are judged: by induction over what happens.
 -- For the law of that name.
-use Rattle.osi_fair.proofs.Vocabulary.{[], ap, arith, false, inl, inr, List, None, Option, refl, Some, subst, sym, true, ℕ, ◌++◌, ◌∙◌, ◌∷◌}
-use Rattle.osi_fair.proofs.Vocabulary.{◌≡◌, ◌≢◌, ◌⊎◌, slice_get, HasFieldsInRange, Value, Local, orderly_fresh, react, user_does, UserCall}
-use Rattle.osi_fair.proofs.Vocabulary.{Class, Two, Zero, is_live, fresh, is_stopped, packet_begins, Traffic, takes, Connection, Left}
-use Rattle.osi_fair.proofs.Vocabulary.{Right, all_passed, HoldsOfOne, packet, passes, Passing, rubbish, unit as passing, put_by, put_for}
-use Rattle.osi_fair.proofs.Vocabulary.{knows_disconnect, arrives, begin, calls, Event, HappenAlong, Happens, MayCall, passes_rubbish, Whole}
+use Rattle.osi_fair.proofs.Vocabulary.{[], all_passed, ap, arith, arrives, begin, calls, Class, Connection, Event, false, fresh}
+use Rattle.osi_fair.proofs.Vocabulary.{HappenAlong, Happens, HasFieldsInRange, HoldsOfOne, inl, inr, is_live, is_stopped, knows_disconnect}
+use Rattle.osi_fair.proofs.Vocabulary.{Left, List, Local, MayCall, None, Option, orderly_fresh, packet, packet_begins, passes}
+use Rattle.osi_fair.proofs.Vocabulary.{passes_rubbish, Passing, put_by, put_for, react, refl, Right, rubbish, slice_get, Some, subst, sym}
+use Rattle.osi_fair.proofs.Vocabulary.{takes, Traffic, true, Two, unit as passing, user_does, UserCall, Value, Whole, ℕ, ◌++◌, ◌∙◌, ◌∷◌}
+use Rattle.osi_fair.proofs.Vocabulary.{◌≡◌, ◌≢◌, ◌⊎◌}
 use Rattle.osi_fair.specs.Wholes.{begins_other, begins_own, passes_other, passes_own}
-use Rattle.osi_fair.proofs.a_called_end_selects_class_zero.{Selected, Selecting, selected_begins, selected_calls, selected_takes}
-use Rattle.osi_fair.proofs.a_called_end_selects_class_zero.{selecting_begins, selecting_calls, selecting_takes}
-use Rattle.osi_fair.proofs.a_unit_of_an_end_of_class_zero_passes.{selected_passes, selecting_passes}
+use Rattle.osi_fair.proofs.a_called_end_selects_class_zero.{Selecting, selecting_begins, selecting_calls, selecting_passes}
+use Rattle.osi_fair.proofs.a_called_end_selects_class_zero.{selecting_takes}
+use Rattle.osi_fair.proofs.an_end_goes_on_in_class_zero.{IsZeroed, zeroed_begins, zeroed_calls, zeroed_elsewhere, zeroed_passes}
+use Rattle.osi_fair.proofs.an_end_goes_on_in_class_zero.{zeroed_takes}
 use Rattle.osi_fair.proofs.what_comes_to_an_end_of_class_zero.{selected_comes, selecting_comes}
 use Rattle.osi_fair.proofs.a_called_end_takes_a_unit.{SelectsZero, class_none, selects_zero, takes_so}
 use Rattle.osi_fair.proofs.one_request_waits.{one_waits}
-use Rattle.osi_fair.proofs.a_called_end_is_judged_as_the_other_side_is.{IsNotBlamed, other_judged, own_judged}
+use Rattle.osi_fair.proofs.the_end_is_judged_as_the_other_side_is.{IsMild, other_judged, own_judged}
 use Rattle.osi_fair.proofs.a_called_end_makes_a_call.{makes_so}
 use Rattle.osi_fair.proofs.what_becomes_of_a_called_end.{IsCalled}
 use Rattle.osi_fair.proofs.a_dc_follows_a_dr.{Informed, dc_known, first_informed, next_informed}
@@ -29,9 +31,9 @@ use Rattle.osi_fair.proofs.what_comes_to_a_called_end.{comes_so}
 use Rattle.osi_fair.proofs.what_holds_of_one_item.{HoldsOfEach}
 use Rattle.osi_fair.proofs.what_keeps_names_apart.{AreApart}
 use Rattle.osi_fair.proofs.what_lasts_at_the_judge.{lasts_passing}
-use Rattle.osi_fair.proofs.which_unit_comes_to_a_called_end.{IsCalm, by_reach, calm_before}
+use Rattle.osi_fair.proofs.which_unit_of_the_other_side_passes.{IsCalm, by_reach, calm_before}
 use Rattle.osi_fair.proofs.which_units_are_for_a_connection.{is_dc}
-use Rattle.osi_fair.proofs.an_end_has_broken_no_rule.{other_fine, own_fine, right_not, rubbish_fine}
+use Rattle.osi_fair.proofs.an_end_has_broken_no_rule.{mild_not, other_fine, own_fine, rubbish_fine}
 
 -- ---- a unit of the end
 
@@ -55,7 +57,7 @@ module _ (local : Local) (w : Whole) (f : Called local w) (apart : AreApart w.ju
   own_passes : w.put ≡ v ∷ rest → Passed
   own_passes e = let h = head_of v rest f.tagged (sym e ∙ f.put) in by_tag h.o h.later h.is h.values_are
 
-pub mild : (w : Whole) (v : Value) → IsFineAt v w.judge → IsNotBlamed (takes Right v w.judge).told.finding
+pub mild : (w : Whole) (v : Value) → IsFineAt v w.judge → IsMild (takes Right v w.judge).told.finding
 mild w v h = grind arith
 
 -- ---- all that holds
@@ -64,7 +66,7 @@ mild w v h = grind arith
 pub data Stage (local : Local) (w : Whole) : Type 0 where
   lines : Called local w → IsCalled local w.end → AreNamedApart Left w.judge.connections → Stage local w
   selecting : Selecting local w → Stage local w
-  selected : Selected w → Stage local w
+  selected : IsZeroed Right w.end w.put w.begun w.judge → Stage local w
 
 pub record Joined (local : Local) (w : Whole) : Type 0 where
   pub apart : AreApart w.judge.connections
@@ -113,23 +115,23 @@ module _ (local : Local) (w : Whole) (j : Joined local w) where
       Stage local (record w { end = react u w.end; put = w.put ++ put_for u w.end; coming = later })
   takes_stage u later come calm (lines f c named) = taken_by u later f c come named (takes_so local w f c u later come)
   takes_stage u later come calm (selecting f) = selecting (selecting_takes local w u later f)
-  takes_stage u later come calm (selected f) = selected (selected_takes w u later f)
+  takes_stage u later come calm (selected f) = selected (zeroed_takes Right w.end w.put w.begun w.judge f u)
 
   calls_stage : (call : UserCall) → MayCall call w.end → Stage local w →
       Stage local (record w { end = user_does call w.end; put = w.put ++ put_by call w.end })
   calls_stage call may (lines f c named) = let (a, b) = makes_so local w f c call may in lines a b named
   calls_stage call may (selecting f) = selecting (selecting_calls local w call may f)
-  calls_stage call may (selected f) = selected (selected_calls w call may f)
+  calls_stage call may (selected f) = selected (zeroed_calls Right w.end w.put w.begun w.judge f call may)
 
   own_stage : w.begun ≡ false → w.put ≢ [] → Stage local w → Stage local (record w { begun = true; judge = packet_begins Right w.judge })
   own_stage e some (lines f c named) = lines (line_begins local w f e some) c (end_begins Left w.judge.connections j.apart named)
   own_stage e some (selecting f) = selecting (selecting_begins local Right w true (λ c h k. refl) f)
-  own_stage e some (selected f) = selected (selected_begins Right w true f)
+  own_stage e some (selected f) = selected (zeroed_begins Right w.end w.put w.begun w.judge f)
 
   other_stage : Stage local w → Stage local (record w { judge = packet_begins Left w.judge })
   other_stage (lines f c named) = lines (lines_begin local w f) c (side_begins Left w.judge.connections j.apart named)
   other_stage (selecting f) = selecting (selecting_begins local Left w w.begun (λ c h k. h k) f)
-  other_stage (selected f) = selected (selected_begins Left w w.begun f)
+  other_stage (selected f) = selected (zeroed_elsewhere Right w.end w.put w.begun w.judge f)
 
   abbrev pub Passes : Value → List Value → Type 0
   Passes v rest = IsFineAt v w.judge × Stage local (record w { put = rest; begun = false; judge = (takes Right v w.judge).state })
@@ -143,16 +145,14 @@ module _ (local : Local) (w : Whole) (j : Joined local w) where
       let all = firm_in None f.class (λ no. cc no) in
       let (fine, after) = selecting_passes local w j.apart all calm.right v rest begun e f in (inl fine, selected after)
   passes_stage v rest e begun calm (selected f) =
-      let all = firm_in (Some Zero) f.class (λ no. cc no) in
-      let (fine, after) = selected_passes local w j.apart all calm.right v rest begun e f in (inl fine, selected after)
+      let (fine, after) = zeroed_passes Right w.end w.put w.begun w.judge v rest calm.right e begun f in (inl fine, selected after)
 
   comes_stage : (v : Value) → HasFieldsInRange v → IsCalm w.judge.course → IsCalm (takes Left v w.judge).state.course → Stage local w →
       Stage local (record w { judge = (takes Left v w.judge).state; coming = w.coming ++ v ∷ [] })
   comes_stage v ranges calm calm_after (lines f c named) = grind (arith, comes_so)
   comes_stage v ranges calm calm_after (selecting f) =
-      selecting (selecting_comes w j.apart (firm_in None f.class (λ no. cc no)) v (j.fine calm.left) calm_after local f)
-  comes_stage v ranges calm calm_after (selected f) =
-      selected (selected_comes w j.apart (firm_in (Some Zero) f.class (λ no. cc no)) v (j.fine calm.left) calm_after f)
+      selecting (selecting_comes w v local f (j.fine calm.left) calm_after)
+  comes_stage v ranges calm calm_after (selected f) = selected (selected_comes w.end w.put w.begun w.judge f j.apart v)
 
 pub next_joined : (local : Local) (event : Event) (w new : Whole) → Happens Right event w new → Joined local w → Joined local new
 next_joined local arrives w new (u, coming, is) j = subst (Joined local) (sym is) (record {
@@ -200,11 +200,11 @@ next_joined local passes_own w new (v, put, begun, is) j = subst (Joined local) 
   right = λ left.
       let l = lasts_passing (passing Right v) w.judge in
       let before : IsCalm w.judge.course = record { left = l.left left; right = j.right (l.left left) } in
-      own_judged v w.judge (mild w v (passes_stage local w j v new.put put begun before (j.stage before)).0) before.right;
+      own_judged Right v w.judge (mild w v (passes_stage local w j v new.put put begun before (j.stage before)).0) before.right left;
   fine = λ left.
       let l = lasts_passing (passing Right v) w.judge in
       let before : IsCalm w.judge.course = record { left = l.left left; right = j.right (l.left left) } in
-      own_fine Right v w.judge (right_not (takes Right v w.judge).told.finding
+      own_fine Right v w.judge (mild_not (takes Right v w.judge).told.finding
       (mild w v (passes_stage local w j v new.put put begun before (j.stage before)).0)) (j.fine (l.left left));
   informed = next_informed Right passes_own w _ (v, put, begun, refl) j.informed;
 })
@@ -227,7 +227,8 @@ next_joined local (passes_other v) w new (ranges, is) j = subst (Joined local) (
   two = still_two (passing Left v) w.judge j.two;
   stage = λ calm.
       let before = calm_was (passing Left v) w calm in comes_stage local w j v ranges before calm (j.stage before);
-  right = grind (arith, lasts_passing, other_judged);
+  right = λ left.
+      other_judged Right v w.judge (j.right ((lasts_passing (passing Left v) w.judge).left left)) left;
   fine = λ left.
       let l = lasts_passing (passing Left v) w.judge in other_fine Right v w.judge (j.fine (l.left left));
   informed = next_informed Right (passes_other v) w _ (ranges, refl) j.informed;
@@ -238,7 +239,7 @@ next_joined local passes_rubbish w new is j = subst (Joined local) (sym is) (rec
   passings = j.passings ++ rubbish Left ∷ [];
   judge = judge_next local w (rubbish Left) j;
   two = still_two (rubbish Left) w.judge j.two;
-  stage = λ calm. by_reach w.judge.course.class_seen w.judge.course calm;
+  stage = λ calm. by_reach Left w.judge.course.class_seen w.judge.course calm;
   right = grind (arith, lasts_passing);
   fine = grind (arith, lasts_passing, rubbish_fine);
   informed = next_informed Right passes_rubbish w _ refl j.informed;
@@ -286,7 +287,7 @@ first_joined local = record {
     some = λ h. absurd (cc h);
     few = tt;
     untagged = tt;
-    timely = λ strays last. record { judges = λ i c at. no_item i c at; answers = tt; firsts = tt; known = tt };
+    timely = λ strays last. record { judges = λ i c at. no_item i c at; gives = tt; firsts = tt; known = tt };
   }) (grind (arith, orderly_fresh))
       (record { lost = λ i c at. no_item i c at; used = λ n i k c e at. no_item i c at; known = λ n i k c e at. no_item i c at });
 }

@@ -1,12 +1,12 @@
 -- The user of a whole called end makes a call: it sends TSDUs on an open connection, closes one, or ends the carrier.
 -- For the law on a whole called end.
-use Rattle.osi_fair.proofs.Vocabulary.{[], ap, arith, Bool, false, if◌then◌else◌, is_some, length, List, None, Option, refl, Some, subst}
-use Rattle.osi_fair.proofs.Vocabulary.{sym, true, ℕ, ◌++◌, ◌∙◌, ◌∷◌, ◌≡◌, ◌≤◌, eqb-true, append-nil, AllByRecursion, ◌==◌, Value}
-use Rattle.osi_fair.proofs.Vocabulary.{longest_tsdu, Standing, with_tsdu, Two, Local, orderly_closed, orderly_ended, orderly_sent}
-use Rattle.osi_fair.proofs.Vocabulary.{orderly_sent_all, put_other, put_here, closed_with, closes_in, ended_by, open_link, sent, sent_all}
-use Rattle.osi_fair.proofs.Vocabulary.{IsOrderly, pumped, value_at, breaks, closes_call, connects, sends, sends_all, user_does, UserCall}
-use Rattle.osi_fair.proofs.Vocabulary.{closing, ends as ends_as, linked, EndReason, Follows, link_now, put_by, put_closing, put_sent}
-use Rattle.osi_fair.proofs.Vocabulary.{put_together, MayCall, Whole, State}
+use Rattle.osi_fair.proofs.Vocabulary.{[], AllByRecursion, ap, append-nil, arith, Bool, breaks, closed_with, closes_call, closes_in}
+use Rattle.osi_fair.proofs.Vocabulary.{closing, connects, ended_by, EndReason, ends as ends_as, eqb-true, false, Follows, if◌then◌else◌}
+use Rattle.osi_fair.proofs.Vocabulary.{is_some, IsOrderly, length, link_now, linked, List, Local, longest_tsdu, MayCall, None, open_link}
+use Rattle.osi_fair.proofs.Vocabulary.{Option, orderly_closed, orderly_ended, orderly_sent, orderly_sent_all, pumped, put_by, put_closing}
+use Rattle.osi_fair.proofs.Vocabulary.{put_here, put_other, put_sent, put_together, refl, Right, sends, sends_all, sent, sent_all, Some}
+use Rattle.osi_fair.proofs.Vocabulary.{Standing, State, subst, sym, true, Two, user_does, UserCall, Value, value_at, Whole, with_tsdu, ℕ}
+use Rattle.osi_fair.proofs.Vocabulary.{◌++◌, ◌==◌, ◌∙◌, ◌∷◌, ◌≡◌, ◌≤◌}
 use Rattle.osi_carrier.specs.Calls.{sent_on}
 use Rattle.osi_fair.proofs.small_facts_that_many_lemmas_use.{none_of}
 use Rattle.osi_fair.proofs.what_becomes_of_a_called_end.{IsCalled, Same, called_still, none_by_call}
@@ -16,7 +16,7 @@ use Rattle.osi_fair.proofs.each_connection_of_a_called_end.{Called}
 use Rattle.osi_fair.proofs.what_a_called_end_does_to_its_lines.{Leaves, line_steps, shuts, still}
 use Rattle.osi_fair.proofs.what_a_called_end_leaves_alone.{is_over}
 use Rattle.osi_fair.proofs.units_by_their_place.{values}
-use Rattle.osi_fair.proofs.what_is_live_at_a_called_end.{IsLive, timely_calls}
+use Rattle.osi_fair.proofs.what_is_live_at_an_end.{IsLive, timely_calls}
 use Rattle.osi_fair.proofs.a_dt_of_class_zero_passes.{unlike}
 use Rattle.osi_fair.proofs.each_connection_has_its_line.{IsNoCc}
 
@@ -91,7 +91,8 @@ module _ (local : Local) (w : Whole) (f : Called local w) (c : IsCalled local w.
     line_steps local w f t units w.coming f.came r peer link here was rows same.given (λ m other. refl) (λ p. refl)
         (λ q k row come among. record { taken = []; later = come; is = refl; among = among; follows = follows q k row })
         (λ q k row. subst (λ (i : ℕ). Leaves r i t) (same_peer peer q link k (sym here ∙ row)) (still l there))
-        f.come f.few f.untagged none (λ strays last. timely_calls s t w.coming w.judge.connections (values f.tagged) (given_same same.given)
+        f.come f.few f.untagged none (λ strays last. timely_calls Right s t w.coming w.judge.connections (values f.tagged)
+        (given_same same.given)
         (λ m k. row_lives t r rows (ap is_some there) m (m == r) refl k) (f.timely strays was)),
     grind (arith, called_still),
   )
@@ -133,7 +134,7 @@ module _ (local : Local) (w : Whole) (f : Called local w) (c : IsCalled local w.
             (grind (arith, follows_closed, open_of))
             (λ q k row. shuts (ap link_now there)) f.come f.few f.untagged
             (none_by_call (closes_call r reason) s)
-            (λ strays last. timely_calls s t w.coming w.judge.connections (values f.tagged) (given_same same.given)
+            (λ strays last. timely_calls Right s t w.coming w.judge.connections (values f.tagged) (given_same same.given)
             (λ m k. row_lives t r rows (ap is_some there) m (m == r) refl k) (f.timely strays was)),
         grind (arith, called_still, orderly_closed r reason s c.orderly),
       )

@@ -1,15 +1,15 @@
 -- A whole called end takes a unit: a CR, a unit for an open connection or for one that is not open, or one for which it ends.
 -- For the law on a whole called end.
-use Rattle.osi_fair.proofs.Vocabulary.{[], ap, arith, Bool, false, inl, inr, is_some, List, None, Option, refl, Some, subst, sym, true, ℕ}
-use Rattle.osi_fair.proofs.Vocabulary.{◌++◌, ◌+◌, ◌-◌, ◌<◌, ◌∙◌, ◌∷◌, ◌≡◌, ◌≤◌, ◌⊎◌, eq-eqb, eqb-true, ltb-false, ltb-true, append-nil}
-use Rattle.osi_fair.proofs.Vocabulary.{AllByRecursion, IsSome, slice_get, ◌&&◌, ◌==◌, ◌||◌, acknowledge, confirm, Connect, data0, data2}
-use Rattle.osi_fair.proofs.Vocabulary.{destination_of, disconnect, disconnected, error, request, Value, Standing, accept, refuse}
-use Rattle.osi_fair.proofs.Vocabulary.{selected_by, Selection, Class, Two, Zero, Local, orderly_unit, push_other, beyond, push_here}
-use Rattle.osi_fair.proofs.Vocabulary.{without_here, acceptance, opened_link, unit_octets, AreUpTo, IsOrderly, RiseFrom, accepts}
-use Rattle.osi_fair.proofs.Vocabulary.{answers_by, answers_request, before_class, denies, has_peer, in_class, is_full, to_closing}
-use Rattle.osi_fair.proofs.Vocabulary.{to_connection, to_unknown, Rows, value_at, asked, closing, Live, fails, linked, UnexpectedUnit}
-use Rattle.osi_fair.proofs.Vocabulary.{EndReason, is_live, is_refused, Connection, Left, HoldsOfOne, put_for, Whole, State, outcome}
-use Rattle.osi_fair.proofs.Vocabulary.{CarrierOutcome, puts_none, outcome_over, outcome_quiet, state_is, to_linked}
+use Rattle.osi_fair.proofs.Vocabulary.{[], accept, acceptance, accepts, acknowledge, AllByRecursion, answers_by, answers_request, ap}
+use Rattle.osi_fair.proofs.Vocabulary.{append-nil, AreUpTo, arith, asked, before_class, beyond, Bool, CarrierOutcome, Class, closing}
+use Rattle.osi_fair.proofs.Vocabulary.{confirm, Connect, Connection, data0, data2, denies, destination_of, disconnect, disconnected}
+use Rattle.osi_fair.proofs.Vocabulary.{EndReason, eq-eqb, eqb-true, error, fails, false, has_peer, HoldsOfOne, in_class, inl, inr, is_full}
+use Rattle.osi_fair.proofs.Vocabulary.{is_live, is_refused, is_some, IsOrderly, IsSome, Left, linked, List, Live, Local, ltb-false}
+use Rattle.osi_fair.proofs.Vocabulary.{ltb-true, None, opened_link, Option, orderly_unit, outcome, outcome_over, outcome_quiet, push_here}
+use Rattle.osi_fair.proofs.Vocabulary.{push_other, put_for, puts_none, refl, refuse, request, Right, RiseFrom, Rows, selected_by, Selection}
+use Rattle.osi_fair.proofs.Vocabulary.{slice_get, Some, Standing, State, state_is, subst, sym, to_closing, to_connection, to_linked}
+use Rattle.osi_fair.proofs.Vocabulary.{to_unknown, true, Two, UnexpectedUnit, unit_octets, Value, value_at, Whole, without_here, Zero, ℕ}
+use Rattle.osi_fair.proofs.Vocabulary.{◌&&◌, ◌++◌, ◌+◌, ◌-◌, ◌<◌, ◌==◌, ◌||◌, ◌∙◌, ◌∷◌, ◌≡◌, ◌≤◌, ◌⊎◌}
 unfoldable use Rattle.osi_carrier.specs.React.{react}
 use Rattle.osi_fair.proofs.small_facts_that_many_lemmas_use.{and_false, differ, first_is, number_is, or_first, or_last}
 use Rattle.osi_fair.proofs.a_called_end_answers_a_cr.{Place, is_accepted, is_refused as refuses_it, place}
@@ -24,14 +24,13 @@ use Rattle.osi_fair.proofs.each_connection_of_a_called_end.{comes, past, refuses
 use Rattle.osi_fair.proofs.units_by_their_place.{Placed, at_first, first_at, units_at, values}
 use Rattle.osi_fair.proofs.what_a_called_end_does_to_its_lines.{Leaves, Took, line_steps}
 use Rattle.osi_fair.proofs.what_a_called_end_leaves_alone.{is_over, left_alone}
-use Rattle.osi_fair.proofs.what_is_live_at_a_called_end.{IsLive, Timely, shuts_of, timely_takes}
+use Rattle.osi_fair.proofs.what_is_live_at_an_end.{IsLive, Timely, shuts_of, timely_takes}
 use Rattle.osi_fair.proofs.which_units_are_for_a_connection.{first_kept, first_left, named_not, named_so, those}
 use Rattle.osi_fair.proofs.what_becomes_of_a_called_end.{above_up, rows_none, IsCalled, Same, called_still, no_row, touch_rows, touch_none}
 use Rattle.osi_fair.proofs.what_becomes_of_a_called_end.{touch_lives, push_lives, none_but_cr, OpenSo, open_so, dc_follows}
 use Rattle.osi_fair.proofs.what_becomes_of_a_called_end.{closing_touches, closing_puts, closing_same}
 use Rattle.osi_fair.proofs.a_called_end_makes_a_call.{given_same, same_peer}
 use Rattle.osi_fair.proofs.a_dt_of_class_zero_passes.{unlike}
-use Rattle.osi_fair.proofs.each_connection_has_its_line.{IsNoCc}
 
 -- ---- small facts
 
@@ -117,10 +116,10 @@ module _ (local : Local) (w : Whole) (f : Called local w) (c : IsCalled local w.
   untagged_all : Untagged (head.o, u) × AllByRecursion Untagged head.later
   untagged_all = subst (AllByRecursion Untagged) head.is f.untagged
 
-  timely_then : s.ended ≡ None → (e : State) → s.given ≤ e.given → ((m : ℕ) → IsLive s m → (shuts_of u ≡ Some m → ⊥) → IsLive e m) →
-      w.judge.course.disconnects.strays ≡ false → Timely e later w.judge.connections (values f.tagged)
-  timely_then was e given lives none = timely_takes s e u later w.judge.connections (values f.tagged) given lives
-      (subst (λ (l : List Value). Timely s l w.judge.connections (values f.tagged)) come (f.timely none was))
+  timely_then : s.ended ≡ None → (e : State) → s.given ≤ e.given → ((m : ℕ) → IsLive s m → (shuts_of Right u ≡ Some m → ⊥) → IsLive e m) →
+      w.judge.course.disconnects.strays ≡ false → Timely Right e later w.judge.connections (values f.tagged)
+  timely_then was e given lives none = timely_takes Right s e u later w.judge.connections (values f.tagged) given lives
+      (subst (λ (l : List Value). Timely Right s l w.judge.connections (values f.tagged)) come (f.timely none was))
 
   -- a DR for what is gone comes only if a DR has closed nothing
   gone_dr : s.ended ≡ None → (n source reason : ℕ) (user : List ℕ) → u ≡ disconnect n source reason user → value_at n s.live ≡ None →

@@ -1,9 +1,9 @@
 -- A whole calling end is fair as long as the other side is judged, whatever classes it offers: by its stages.
 -- For the law of that name.
-use Rattle.osi_fair.proofs.Vocabulary.{[], Zero, false, List, Some, subst, sym, true, ◌∙◌, ◌∷◌, ◌≡◌, ◌⊎◌, request, Value, Two, Local}
-use Rattle.osi_fair.proofs.Vocabulary.{is_stopped, takes, Course, Left, Right, Kept, NotJudged, TooMany, passes, rubbish, unit as passing}
-use Rattle.osi_fair.proofs.Vocabulary.{begin, Event, HappenAlong, Happens, Whole, arith}
-use Rattle.osi_fair.proofs.a_calling_end_goes_on_in_class_zero.{zeroed_passes}
+use Rattle.osi_fair.proofs.Vocabulary.{[], arith, begin, Course, Event, false, HappenAlong, Happens, inl, is_stopped, Kept, Left, List}
+use Rattle.osi_fair.proofs.Vocabulary.{Local, NotJudged, passes, request, Right, rubbish, Some, subst, sym, takes, TooMany, Traffic, true}
+use Rattle.osi_fair.proofs.Vocabulary.{Two, unit as passing, Value, Whole, Zero, ◌∙◌, ◌∷◌, ◌≡◌, ◌⊎◌}
+use Rattle.osi_fair.proofs.an_end_goes_on_in_class_zero.{zeroed_passes}
 use Rattle.osi_fair.proofs.a_calling_end_is_fair_in_class_2.{IsFine, Joined, fine_request, first_joined, goes, mild_of, next_joined}
 use Rattle.osi_fair.proofs.how_requests_go_on.{Stage, asks, known, zero, answered, ended, quiet, refused, waits}
 use Rattle.osi_fair.proofs.no_request_is_blamed.{Holds as Staged, holds_first, holds_next, is_right}
@@ -45,7 +45,7 @@ module _ (local : Local) (w : Whole) (v : Value) (rest : List Value) (j : Stands
   by_stage (waits r is none not_begun cs strays judge p o offers waiting dcs) = none_put v rest w.put e none
   by_stage (refused r is none not_begun cs strays judge done dcs u more coming are refusal too) = none_put v rest w.put e none
   by_stage (answered r is none not_begun dcs n x more coming are class has after so z) = none_put v rest w.put e none
-  by_stage (zero has z) = grind (arith, left, zeroed_passes w.end w.judge v rest left (grind arith))
+  by_stage (zero has z) = inl (zeroed_passes Left w.end w.put w.begun w.judge v rest left e begun z).0
   by_stage (known two seen has) =
       (goes local w (j.two has) v rest e begun (going_two w.judge.course two left right)).fine
 
@@ -58,13 +58,16 @@ own_stays : (local : Local) (w : Whole) (v : Value) (rest : List Value) → Stan
     IsJudged (takes Left v w.judge).state.course
 own_stays local w v rest j e begun right =
     let l = lasts_passing (passing Left v) w.judge in
-    own_judged v w.judge (mild_of w v (is_fine local w v rest j e begun (l.right right))) (j.judged (l.right right)) right
+    own_judged Left v w.judge (mild_of w v (is_fine local w v rest j e begun (l.right right))) (j.judged (l.right right)) right
 
 rubbish_stays : (local : Local) (w : Whole) → Stands local w → IsJudged (passes (rubbish Right) w.judge).course
 rubbish_stays local w j right = grind (arith, lasts_passing)
 
+other_stays : (v : Value) (s : Traffic) → IsJudged s.course → IsJudged (takes Right v s).state.course
+other_stays v s j right = other_judged Left v s (j ((lasts_passing (passing Right v) s).right right)) right
+
 next_judged : (local : Local) (event : Event) (w new : Whole) → Happens Left event w new → Stands local w → IsJudged new.judge.course
-next_judged local event w new is j = search (arith, own_stays, lasts_passing, other_judged, rubbish_stays)
+next_judged local event w new is j = search (arith, own_stays, lasts_passing, other_stays, rubbish_stays)
 
 all_stand : (local : Local) (events : List Event) (w new : Whole) → HappenAlong Left w events new → Stands local w → Stands local new
 all_stand local [] w new e j = subst (Stands local) (sym e) j
@@ -92,7 +95,7 @@ module _ (local : Local) (w : Whole) (v : Value) (rest : List Value) (e : w.put 
   zero_by (waits r is none not_begun cs strays judge p o offers waiting dcs) = none_put v rest w.put e none
   zero_by (refused r is none not_begun cs strays judge done dcs u more coming are refusal too) = none_put v rest w.put e none
   zero_by (answered r is none not_begun dcs n x more coming are class_of has after so z) = none_put v rest w.put e none
-  zero_by (zero has z) = grind (arith, left, zeroed_passes w.end w.judge v rest left (grind arith))
+  zero_by (zero has z) = (zeroed_passes Left w.end w.put w.begun w.judge v rest left e begun z).0
   zero_by (known two seen has) = absurd (cc (sym two ∙ class))
 
 pub calling_fair_in_class_0 : (local : Local) (events : List Event) (w : Whole) (v : Value) (rest : List Value) →

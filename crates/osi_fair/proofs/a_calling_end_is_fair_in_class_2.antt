@@ -1,16 +1,16 @@
 -- A whole calling end is fair in class 2 as long as the other side is judged, also after a connection has lost its judgement: by induction
 -- over what happens. For the law of that name.
-use Rattle.osi_fair.proofs.Vocabulary.{[], ap, Bool, false, inl, inr, List, None, refl, Some, subst, sym, true, ℕ, ◌++◌, ◌∙◌, ◌∷◌, ◌≡◌, ◌⊎◌}
-use Rattle.osi_fair.proofs.Vocabulary.{AllByRecursion, not, slice_get, ◌||◌, disconnect, disconnected, HasFieldsInRange, request, Value}
-use Rattle.osi_fair.proofs.Vocabulary.{Zero, Local, orderly_asks, orderly_closed, orderly_ended, orderly_fresh, orderly_sent}
-use Rattle.osi_fair.proofs.Vocabulary.{orderly_sent_all, orderly_unit, IsOrderly, react, value_at, breaks, closes_call as closes, connects}
-use Rattle.osi_fair.proofs.Vocabulary.{sends, sends_all, user_does, UserCall, is_stopped, packet_begins, takes, Connection, Course, Left}
-use Rattle.osi_fair.proofs.Vocabulary.{Right, Kept, NotJudged, TooMany, packet, passes, rubbish, unit as passing, put_by, put_for, arrives}
-use Rattle.osi_fair.proofs.Vocabulary.{begin, calls, Event, HappenAlong, Happens, MayCall, passes_rubbish, Whole, arith, State}
-use Rattle.osi_fair.proofs.Vocabulary.{begins_other, begins_own}
+use Rattle.osi_fair.proofs.Vocabulary.{[], AllByRecursion, ap, arith, arrives, begin, begins_other, begins_own, Bool, breaks, calls}
+use Rattle.osi_fair.proofs.Vocabulary.{closes_call as closes, Connection, connects, Course, disconnect, disconnected, Event, false}
+use Rattle.osi_fair.proofs.Vocabulary.{HappenAlong, Happens, HasFieldsInRange, inl, inr, is_stopped, IsOrderly, Kept, Left, List, Local}
+use Rattle.osi_fair.proofs.Vocabulary.{MayCall, None, not, NotJudged, orderly_asks, orderly_closed, orderly_ended, orderly_fresh}
+use Rattle.osi_fair.proofs.Vocabulary.{orderly_sent, orderly_sent_all, orderly_unit, packet, packet_begins, passes, passes_rubbish, put_by}
+use Rattle.osi_fair.proofs.Vocabulary.{put_for, react, refl, request, Right, rubbish, sends, sends_all, slice_get, Some, State, subst, sym}
+use Rattle.osi_fair.proofs.Vocabulary.{takes, TooMany, true, unit as passing, user_does, UserCall, Value, value_at, Whole, Zero, ℕ, ◌++◌}
+use Rattle.osi_fair.proofs.Vocabulary.{◌||◌, ◌∙◌, ◌∷◌, ◌≡◌, ◌⊎◌}
 use Rattle.osi_fair.specs.Wholes.{passes_other, passes_own}
 use Rattle.osi_fair.proofs.small_facts_that_many_lemmas_use.{differ, none_of}
-use Rattle.osi_fair.proofs.a_dr_for_what_is_gone.{Firsts, Holds as Kept_so, Known, before_going, next_holds}
+use Rattle.osi_fair.proofs.a_dr_for_what_is_gone.{Holds as Kept_so, Known, before_going, next_holds}
 use Rattle.osi_fair.proofs.a_dc_follows_a_dr.{Informed, dc_known, first_informed, next_informed}
 use Rattle.osi_fair.proofs.a_dc_for_a_stray_dr_passes.{dc_goes}
 use Rattle.osi_fair.proofs.a_stray_dc_of_the_other_side_passes.{idle_passes, idle_peers}
@@ -26,10 +26,11 @@ use Rattle.osi_fair.proofs.no_request_is_blamed.{Holds as Staged, holds_first, h
 use Rattle.osi_fair.proofs.the_end_is_judged_as_the_other_side_is.{IsMild}
 use Rattle.osi_fair.proofs.names_stay_apart_though_one_is_lost.{AreNamedApart, end_begins, side_begins}
 use Rattle.osi_fair.proofs.what_a_calling_end_still_has.{call_after, over_not, unit_after}
-use Rattle.osi_fair.proofs.what_becomes_of_a_connection.{IsIdle, Told, comes_for}
+use Rattle.osi_fair.proofs.what_becomes_of_a_connection.{Told, comes_for}
+use Rattle.osi_fair.proofs.which_unit_of_the_other_side_passes.{IsIdle}
 use Rattle.osi_fair.proofs.which_units_are_for_a_connection.{IsOf, is_dc, ours_so}
-use Rattle.osi_fair.proofs.what_the_other_side_closes.{IsOngoing, IsDr, IsPlain, closed_by}
-use Rattle.osi_fair.proofs.what_is_live_at_a_called_end.{IsLive}
+use Rattle.osi_fair.proofs.what_the_other_side_closes.{IsOngoing, IsDr, IsPlain, dr_is}
+use Rattle.osi_fair.proofs.what_is_live_at_an_end.{Firsts, IsLive, shuts_of}
 use Rattle.osi_fair.proofs.an_end_has_broken_no_rule.{mild_not, other_fine, own_fine, rubbish_fine}
 use Rattle.osi_fair.proofs.how_a_calling_end_asks.{over_takes}
 
@@ -54,9 +55,9 @@ orderly_calls (sends_all r tsdus) s may h = orderly_sent_all r tsdus s h
 orderly_calls (closes r reason) s may h = orderly_closed r reason s h
 orderly_calls (breaks reason) s may h = orderly_ended reason s h
 
-head_live : (w : Whole) (u : Value) (later : List Value) → w.coming ≡ u ∷ later → Firsts (IsLive w.end) w.coming →
-    IsDr u → (n : ℕ) → closed_by u ≡ Some n → IsLive w.end n
-head_live w u later e firsts = (subst (Firsts (IsLive w.end)) e firsts).0
+head_live : (w : Whole) (u : Value) (later : List Value) → w.coming ≡ u ∷ later → Firsts Left (IsLive w.end) w.coming →
+    IsDr u → (n : ℕ) → shuts_of Left u ≡ Some n → IsLive w.end n
+head_live w u later e firsts dr n k = (subst (Firsts Left (IsLive w.end)) e firsts).0 n (dr_is u n dr k)
 
 plain_of : (c : Course) → IsOngoing c → c.disconnects.strays ≡ false → IsPlain c
 plain_of c h strays = record { left = h.sure.left; right = h.sure.right; strays = strays; two = h.two }
@@ -68,7 +69,7 @@ module _ (local : Local) (w : Whole) (j : Joined local w) where
   -- a DR that the end takes is for a connection that it has, or a DR that closed nothing has passed
   known_by : (b : Bool) → w.judge.course.disconnects.strays ≡ b → IsOngoing w.judge.course → (u : Value) (later : List Value) →
       w.coming ≡ u ∷ later →
-      w.end.ended ≡ None → IsDr u → (n : ℕ) → closed_by u ≡ Some n → IsLive w.end n ⊎ (w.judge.course.disconnects.strays ≡ true)
+      w.end.ended ≡ None → IsDr u → (n : ℕ) → shuts_of Left u ≡ Some n → IsLive w.end n ⊎ (w.judge.course.disconnects.strays ≡ true)
   known_by b e going u later come was dr n k = grind (arith, head_live, plain_of)
 
   taking : (u : Value) (later : List Value) → w.coming ≡ u ∷ later → IsOngoing w.judge.course →
@@ -87,7 +88,7 @@ module _ (local : Local) (w : Whole) (j : Joined local w) where
       × AreNamedApart Right (takes Right v w.judge).state.connections
 
   other_by : (v : Value) → HasFieldsInRange v → IsOngoing (takes Right v w.judge).state.course → (f : Followed local w) →
-      IsOngoing w.judge.course → Told v w.judge (takes Right v w.judge) ⊎ IsIdle v w.judge (takes Right v w.judge) → AfterOther v
+      IsOngoing w.judge.course → Told v w.judge (takes Right v w.judge) ⊎ IsIdle Right v w.judge (takes Right v w.judge) → AfterOther v
   other_by v ranges after f going (inl told) = (
     other_passes local w f j.kept.sane (j.peers going) j.staged.newer v ranges told after.sure after.two,
     other_peers local w f j.kept.sane (j.peers going) j.staged.newer v ranges told after.sure after.two,

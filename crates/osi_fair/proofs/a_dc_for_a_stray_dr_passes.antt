@@ -3,7 +3,7 @@
 use Rattle.osi_fair.proofs.Vocabulary.{arith, [], Bool, false, if◌then◌else◌, inl, inr, List, None, Option, refl, Some, subst, sym, true, ℕ}
 use Rattle.osi_fair.proofs.Vocabulary.{◌∷◌, ◌≡◌, eqb-true, not, position, slice_get, ◌||◌, disconnected, Value, Class, Two, Zero, Local}
 use Rattle.osi_fair.proofs.Vocabulary.{first_failed, is_due, is_named, at_found, at_place, none_told, one_told, Outcome, route, route_in}
-use Rattle.osi_fair.proofs.Vocabulary.{routed, set, Traffic, takes, Connection, Left, Right, found, in_doubt, Broke, NotJudged, Whole}
+use Rattle.osi_fair.proofs.Vocabulary.{routed, set, Traffic, takes, Connection, Left, Right, in_doubt, Broke, NotJudged, Whole}
 use Rattle.osi_rules.specs.declared.findings.Rule.TheVariants as rule
 use Rattle.osi_fair.proofs.small_facts_that_many_lemmas_use.{and_first, and_second, both, judged_same, or_last}
 use Rattle.osi_fair.proofs.Vocabulary.{knows_disconnect, may_answer}

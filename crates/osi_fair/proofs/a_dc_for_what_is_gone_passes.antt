@@ -1,17 +1,16 @@
 -- A DC with which a whole called end answers a DR for what is gone passes: it answers nothing at the judge, and changes nothing.
 -- For the law on a whole called end.
-use Rattle.osi_fair.proofs.Vocabulary.{arith, [], ap, Bool, false, if◌then◌else◌, List, None, Option, Some, subst, true, ℕ, ◌∙◌, ◌∷◌, ◌≡◌}
-use Rattle.osi_fair.proofs.Vocabulary.{eqb-true, not, slice_get, ◌&&◌, ◌==◌, ◌||◌, disconnected, Value, Local, first_failed, is_due}
-use Rattle.osi_fair.proofs.Vocabulary.{is_closing, is_open, at_found, Outcome, Traffic, takes, Connection, Right, Finding, Broke, NotJudged}
-use Rattle.osi_fair.proofs.Vocabulary.{Whole}
+use Rattle.osi_fair.proofs.Vocabulary.{[], ap, arith, at_found, Bool, Broke, Connection, disconnected, eqb-true, false, Finding}
+use Rattle.osi_fair.proofs.Vocabulary.{first_failed, if◌then◌else◌, is_closing, is_due, is_open, knows_disconnect, List, Local, may_answer}
+use Rattle.osi_fair.proofs.Vocabulary.{None, not, NotJudged, Option, Outcome, Right, slice_get, Some, subst, takes, Traffic, true, Value}
+use Rattle.osi_fair.proofs.Vocabulary.{Whole, ℕ, ◌&&◌, ◌==◌, ◌||◌, ◌∙◌, ◌∷◌, ◌≡◌}
 use Rattle.osi_rules.specs.declared.findings.Rule.TheVariants as rule
 use Rattle.osi_fair.proofs.small_facts_that_many_lemmas_use.{and_false, differ, is_false}
-use Rattle.osi_fair.proofs.Vocabulary.{knows_disconnect, may_answer}
 use Rattle.osi_fair.proofs.a_dc_follows_a_dr.{may_so}
 use Rattle.osi_fair.proofs.a_unit_of_a_called_end_passes.{IsFineAt}
-use Rattle.osi_fair.proofs.each_connection_of_a_called_end.{AreStrays, Called, IsStray, Stand, answers}
+use Rattle.osi_fair.proofs.each_connection_of_a_called_end.{Running, AreStrays, Called, IsStray, Stand, answers}
 use Rattle.osi_fair.proofs.units_by_their_place.{Placed, first_at, units_at, values}
-use Rattle.osi_fair.proofs.what_a_called_end_closes_is_to_pass.{close_waits}
+use Rattle.osi_fair.proofs.a_line_since_its_connection_opened.{close_waits}
 use Rattle.osi_fair.proofs.which_units_are_for_a_connection.{is_dc}
 use Rattle.osi_fair.proofs.while_no_class_is_selected.{set_same}
 
@@ -59,11 +58,17 @@ module _ (local : Local) (w : Whole) (f : Called local w) (right : w.judge.cours
   begun_not : (i : ℕ) → (w.begun && first_at i f.tagged) ≡ false
   begun_not i = ap (λ (l : List Placed). w.begun && first_at i l) tagged ∙ and_false w.begun
 
+  run_waits : (q : ℕ) (c : Connection) (g : Running f.shut w.end w.coming (units_at q f.tagged) (w.begun && first_at q f.tagged) (f.refs q)
+      c) → c.is_judged ≡ true → is_open c.right.phase ≡ true → f.shut g.r ≡ true → units_at q f.tagged ≡ [] → ⊥
+  run_waits q c g judged up shut none =
+      close_waits Right g.r g.peer g.line g.tracks (ap (λ (x : Connection). x.is_judged) g.judge ∙ judged) (g.shut_is shut)
+      (ap (λ (x : Connection). is_open x.right.phase) g.judge ∙ up) (g.put ∙ none)
+
   due_not : {A : Type 0} (q : ℕ) (c : Connection) → slice_get w.judge.connections q ≡ Some c → c.is_judged ≡ true →
       is_open c.right.phase ≡ true →
       stray.n ≡ c.right.reference →
       Stand local f.shut w.end w.coming (units_at q f.tagged) (units_at q f.came) (w.begun && first_at q f.tagged) (f.refs q) c → A
-  due_not q c h judged up same h2 = grind (arith, differ, stray, close_waits)
+  due_not q c h judged up same h2 = grind (arith, differ, stray, run_waits)
 
   no_due : (q : ℕ) (c : Connection) → slice_get w.judge.connections q ≡ Some c → c.is_judged ≡ true → is_due Right c stray.n ≡ false
   no_due q c at judged = is_false (is_due Right c stray.n) (λ h.

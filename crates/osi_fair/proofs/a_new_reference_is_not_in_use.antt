@@ -8,7 +8,6 @@ use Rattle.osi_fair.proofs.Vocabulary.{is_not_judged, is_stopped, route_in, rout
 use Rattle.osi_fair.proofs.Vocabulary.{Right, Finding, Kept, TooMany, Reach, Route, all_asked, all_written, asked_as, asked_in, all_passed}
 use Rattle.osi_fair.proofs.Vocabulary.{packet, passes, Passing, rubbish, unit}
 use Rattle.osi_carrier.specs.Runs.{Act}
-use Rattle.osi_rules.specs.declared.findings.Rule.TheVariants as rule
 use Rattle.osi_fair.proofs.what_holds_of_one_item.{HoldsOfEach, each_add, each_map, each_set}
 use Rattle.osi_fair.proofs.a_reference_names_one_connection.{no_item}
 use Rattle.osi_fair.proofs.references_of_requests_rise.{asked_below}

@@ -1,6 +1,6 @@
 -- What a carrier does with a piece of its stream is events of its whole end, as it takes the packets that the piece completes.
 -- For the law on packets.
-use Rattle.osi_fair.proofs.Vocabulary.{[], ap, append_assoc, arith, Bool, false, if◌then◌else◌, inl, inr, is_some, length, List, None}
+use Rattle.osi_fair.proofs.Vocabulary.{[], ap, append_assoc, arith, Bool, false, inl, inr, is_some, length, List, None}
 use Rattle.osi_fair.proofs.Vocabulary.{Option, refl, subst, sym, take, true, ℕ, ◌++◌, ◌∙◌, ◌∷◌, ◌≡◌, ◌⊎◌, append-nil, take_all, ◌||◌}
 use Rattle.osi_fair.proofs.Vocabulary.{ArePackets, Fed, Value, Happening, Carrying, Feeds, FindsNoMemory, FindsNoRoom, Goes, RunsDry}
 use Rattle.osi_fair.proofs.Vocabulary.{Starves, StopsBehind, waits, put_back, EndReason, Direction, IsFed, units_in, Whole}

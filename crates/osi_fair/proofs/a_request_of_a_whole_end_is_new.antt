@@ -1,13 +1,14 @@
 -- The CRs that a whole calling end has put and that have not passed have references above those of all that have passed.
 -- For the law on requests.
-use Rattle.osi_fair.proofs.Vocabulary.{[], ap, arith, false, List, subst, suc, sym, ℕ, ◌++◌, ◌+◌, ◌∙◌, ◌∷◌, ◌≡◌, ◌≤◌, flat_map-append}
-use Rattle.osi_fair.proofs.Vocabulary.{append-nil, AllByRecursion, list_any, Connect, request, Value, effect, connection_of, react}
-use Rattle.osi_fair.proofs.Vocabulary.{user_does, UserCall, uses, is_not_judged, Traffic, Left, asked_in, packet, passes, unit as passing}
-use Rattle.osi_fair.proofs.Vocabulary.{put_by, arrives, calls, Event, Happens, passes_rubbish, Whole, Right, State, begins_other}
-use Rattle.osi_fair.proofs.Vocabulary.{begins_own}
+use Rattle.osi_fair.proofs.Vocabulary.{[], AllByRecursion, ap, append-nil, arith, arrives, asked_in, begins_other, begins_own, calls}
+use Rattle.osi_fair.proofs.Vocabulary.{Connect, connection_of, effect, Event, false, flat_map-append, Happens, is_not_judged, Left, List}
+use Rattle.osi_fair.proofs.Vocabulary.{list_any, packet, passes, passes_rubbish, put_by, react, request, Right, State, subst, suc, sym}
+use Rattle.osi_fair.proofs.Vocabulary.{Traffic, unit as passing, user_does, UserCall, uses, Value, Whole, ℕ, ◌++◌, ◌+◌, ◌<◌, ◌∙◌, ◌∷◌, ◌≡◌}
+use Rattle.osi_fair.proofs.Vocabulary.{◌≤◌}
 use Rattle.osi_fair.specs.Wholes.{passes_other, passes_own}
 use Rattle.osi_fair.proofs.a_new_reference_is_not_in_use.{AreBelow, FewAsked, all_unlike, still_below, unused}
-use Rattle.osi_fair.proofs.references_of_requests_rise.{Rise, all_gives, closed_gives, ended_gives, not_less, rises_by, sent_gives}
+use Rattle.osi_fair.proofs.references_of_requests_rise.{Rise, all_gives, closed_gives, ended_gives, not_less, rise_from, rises_by}
+use Rattle.osi_fair.proofs.references_of_requests_rise.{sent_gives}
 use Rattle.osi_fair.proofs.which_requests_are_put.{asked_among, call_asks, unit_asks}
 
 -- ---- how many references were given
@@ -31,6 +32,15 @@ up_join n (x ∷ xs) ys (one, more) b = (one, up_join n xs ys more b)
 rise_next : (k n : ℕ) (rs : List ℕ) → Rise k rs → UpTo n rs → k ≤ n → Rise k (rs ++ (n + 1) ∷ [])
 rise_next k n [] a b h = (omega arith, tt)
 rise_next k n (r ∷ rs) (above, rise) (one, more) h = (above, rise_next r n rs rise more one)
+
+rise_parts : (n : ℕ) (v : Value) (vs : List Value) → Rise n (asked_among (v ∷ vs)) →
+    ((x : Connect) → v ≡ request x → n < x.source) × Rise n (asked_among vs)
+rise_parts n v vs rise = grind (arith, rise_from)
+
+pub rise_all : (n : ℕ) (vs : List Value) → Rise n (asked_among vs) →
+    AllByRecursion (λ (v : Value). (x : Connect) → v ≡ request x → n < x.source) vs
+rise_all n [] h = tt
+rise_all n (v ∷ vs) h = let (one, more) = rise_parts n v vs h in (one, rise_all n vs more)
 
 -- The last CR that has passed, of those of this end; those that have not passed are above it.
 pub record Newer (w : Whole) : Type 0 where

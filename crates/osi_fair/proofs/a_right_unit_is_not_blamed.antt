@@ -1,14 +1,13 @@
 -- A unit that is right on a connection is not blamed, however many connections there are.
 -- For the law of that name.
-use Rattle.osi_fair.proofs.Vocabulary.{[], arith, Bool, false, IfSome, length, List, Option, refl, Some, subst, suc, sym, true, zero, ℕ}
-use Rattle.osi_fair.proofs.Vocabulary.{◌<◌, ◌∷◌, ◌≡◌, lt-ltb, position-Some, fails_before_first, get_or_from_slice_get, slice_get_within}
-use Rattle.osi_fair.proofs.Vocabulary.{position_or_len, position, slice_get, destination_of, Value, Two, is_named, class_for, fresh}
-use Rattle.osi_fair.proofs.Vocabulary.{is_stopped, Traffic as State, takes, Connection, Direction, Finding, IsAtPlace, IsRight, all_passed}
-use Rattle.osi_fair.proofs.Vocabulary.{HoldsOfOne, Passing}
+use Rattle.osi_fair.proofs.Vocabulary.{[], all_passed, arith, Bool, class_for, Connection, destination_of, Direction, fails_before_first}
+use Rattle.osi_fair.proofs.Vocabulary.{false, Finding, fresh, get_or_from_slice_get, HoldsOfOne, IfSome, is_named, is_stopped, IsAtPlace}
+use Rattle.osi_fair.proofs.Vocabulary.{IsRight, Kept, length, List, lt-ltb, NotJudged, Option, Passing, position, position-Some}
+use Rattle.osi_fair.proofs.Vocabulary.{position_or_len, refl, slice_get, slice_get_within, Some, subst, suc, sym, takes, Traffic as State}
+use Rattle.osi_fair.proofs.Vocabulary.{true, Two, Value, zero, ℕ, ◌<◌, ◌∷◌, ◌≡◌, ◌⊎◌}
 use Rattle.osi_fair.proofs.a_reference_names_one_connection.{names_one}
 use Rattle.osi_fair.proofs.a_unit_is_an_act_of_its_line.{found_is}
 use Rattle.osi_fair.proofs.what_holds_of_one_item.{first_true}
-use Rattle.osi_fair.proofs.a_called_end_is_judged_as_the_other_side_is.{IsNotBlamed}
 
 -- ---- the first item of which something holds
 
@@ -30,6 +29,10 @@ pub is_first : {X : Type 0} (f : X → Bool) (xs : List X) (p : ℕ) (x : X) →
 is_first f xs p x at h = grind (arith, slice_get_within, fails_there, lt-ltb)
 
 -- ---- a unit that is right
+
+-- right, or not judged
+abbrev pub IsNotBlamed : Finding → Type 0
+IsNotBlamed f = (f ≡ Kept) ⊎ (f ≡ NotJudged)
 
 same_item : {X : Type 0} (x y : X) → Some x ≡ Some y → x ≡ y
 same_item x y e = cc

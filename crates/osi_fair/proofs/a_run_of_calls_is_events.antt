@@ -1,6 +1,6 @@
 -- What a carrier does in calls, one after the other, is events of its whole end: one by one, up to the call after which it has ended,
 -- and then nothing. For the law on packets.
-use Rattle.osi_fair.proofs.Vocabulary.{arith, [], ap, append_assoc, drop, is_some, List, None, Option, refl, Some, subst, sym, take, true}
+use Rattle.osi_fair.proofs.Vocabulary.{arith, [], ap, append_assoc, is_some, List, None, Option, refl, Some, subst, sym, true}
 use Rattle.osi_fair.proofs.Vocabulary.{ℕ, ◌++◌, ◌∙◌, ◌∷◌, ◌≡◌, append-nil, take-append-drop, flat_map, packets_joined, ArePackets, Fed}
 use Rattle.osi_fair.proofs.Vocabulary.{Value, back_joined, Happening, Carrying, Feeds, Call, calling, Calls, carried_in, feeding, put_back}
 use Rattle.osi_fair.proofs.Vocabulary.{told_in, used_in, user_does, UserCall, EndReason, Direction, AreFedFrom, IsRun, MadeAlong, MayMake}

@@ -1,8 +1,8 @@
 -- A DC of the other side passes that answers nothing: the lines of its connection may take it, and nothing else changes.
 -- For the law on a whole end.
-use Rattle.osi_fair.proofs.Vocabulary.{arith, [], ap, Bool, false, if◌then◌else◌, List, refl, Some, subst, sym, true, ◌++◌, ◌∙◌, ◌∷◌, ◌≡◌}
-use Rattle.osi_fair.proofs.Vocabulary.{◌≢◌, Connect, HasFieldsInRange, request, Value, Two, Local, reach_of, Traffic, takes, Connection}
-use Rattle.osi_fair.proofs.Vocabulary.{Right, Finding, NotJudged, after_finding, finding_of, Line, Whole, passes_other, eqb-true}
+use Rattle.osi_fair.proofs.Vocabulary.{[], after_finding, ap, arith, Bool, Connect, Connection, eqb-true, false, Finding, finding_of}
+use Rattle.osi_fair.proofs.Vocabulary.{HasFieldsInRange, Left, Line, List, Local, NotJudged, passes_other, reach_of, refl, request, Right}
+use Rattle.osi_fair.proofs.Vocabulary.{Some, subst, sym, takes, Traffic, true, Two, Value, Whole, ◌++◌, ◌∙◌, ◌∷◌, ◌≡◌, ◌≢◌}
 use Rattle.osi_rules.specs.declared.findings.Reach.TheVariants as reach
 use Rattle.osi_fair.proofs.small_facts_that_many_lemmas_use.{and_first, and_second, differ, is_false, judged_same, open_or_closing}
 use Rattle.osi_fair.proofs.a_dc_for_a_stray_dr_passes.{not_due}
@@ -10,16 +10,16 @@ use Rattle.osi_fair.proofs.no_two_open_connections_have_one_peer.{left_open}
 use Rattle.osi_fair.proofs.a_unit_of_the_other_side_passes.{dc_no_cc}
 use Rattle.osi_fair.proofs.what_has_come_with_one_unit_more.{following_other, row_add, waiting_dc, early_other}
 use Rattle.osi_fair.proofs.each_connection_has_its_line.{AreGiven, Followed, Following, IsAnswer, IsAsking, IsNoCc, all_so, is_tracked}
-use Rattle.osi_fair.proofs.each_connection_has_its_line.{tracks_on}
-use Rattle.osi_fair.proofs.what_becomes_of_a_connection.{IsIdle}
+use Rattle.osi_fair.proofs.which_unit_of_the_other_side_passes.{IsIdle}
 use Rattle.osi_fair.proofs.what_keeps_names_apart.{Sound}
 use Rattle.osi_fair.proofs.names_stay_apart_though_one_is_lost.{AreNamedApart, each_sound}
 use Rattle.osi_fair.proofs.what_the_other_side_closes.{IsSane}
 use Rattle.osi_fair.proofs.which_units_are_for_a_connection.{is_dc, names, picked_more}
-use Rattle.osi_fair.proofs.what_is_live_at_a_called_end.{all_add}
+use Rattle.osi_fair.proofs.small_facts_that_many_lemmas_use.{all_add}
+use Rattle.osi_fair.proofs.a_line_since_its_connection_opened.{tracks_on}
 
 module _ (local : Local) (w : Whole) (f : Followed local w) (sane : IsSane w.judge) (peers : AreNamedApart Right w.judge.connections)
-    (v : Value) (ranges : HasFieldsInRange v) (t : IsIdle v w.judge (takes Right v w.judge)) where
+    (v : Value) (ranges : HasFieldsInRange v) (t : IsIdle Right v w.judge (takes Right v w.judge)) where
   abbrev more : List Value
   more = w.coming ++ v ∷ []
 
@@ -44,7 +44,7 @@ module _ (local : Local) (w : Whole) (f : Followed local w) (sane : IsSane w.jud
         line = line;
         left = g.left;
         right = g.right;
-        tracks = tracks_on g.r g.peer g.line line (passes_other w.judge.course false v ∷ []) g.tracks (
+        tracks = tracks_on Left g.r g.peer g.line line (passes_other w.judge.course false v ∷ []) g.tracks (
           line,
           (
             ranges,

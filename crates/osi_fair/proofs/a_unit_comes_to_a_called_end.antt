@@ -1,34 +1,35 @@
 -- A unit of the other side passes at the judge of a whole called end, for one of its connections, or a DC that answers nothing.
 -- For the law on a whole called end.
-use Rattle.osi_fair.proofs.Vocabulary.{[], ap, arith, Bool, false, if◌then◌else◌, inl, inr, List, None, Option, refl, set, Some, subst, sym}
-use Rattle.osi_fair.proofs.Vocabulary.{true, ℕ, ◌++◌, ◌∙◌, ◌∷◌, ◌≡◌, ◌≢◌, ◌≤◌, ◌⊎◌, eqb-true, append-nil, AllByRecursion, not, slice_get}
-use Rattle.osi_fair.proofs.Vocabulary.{◌&&◌, ◌==◌, ◌||◌, acknowledge, confirm, Connect, data0, data2, destination_of, disconnect}
-use Rattle.osi_fair.proofs.Vocabulary.{disconnected, error, HasFieldsInRange, request, Value, Standing, Class, Two, Local, is_applied}
-use Rattle.osi_fair.proofs.Vocabulary.{reach_of, first_failed, is_closed, is_closing, is_named, is_open, is_over, is_refused, is_silent}
-use Rattle.osi_fair.proofs.Vocabulary.{connection_after, course_after, found, found_on, is_stray, one_told, Outcome, reached, Traffic}
-use Rattle.osi_fair.proofs.Vocabulary.{takes, uses_source, Connection, Course, Left, Right, Finding, Broke, NotJudged, Reach, Half, Phase}
-use Rattle.osi_fair.proofs.Vocabulary.{after_finding, finding_of, Line, unit as passing, Whole, noted, passes_other}
+use Rattle.osi_fair.proofs.Vocabulary.{[], after_finding, AllByRecursion, ap, append-nil, arith, Bool, Broke, Class, closing_phase, confirm}
+use Rattle.osi_fair.proofs.Vocabulary.{Connect, Connection, connection_after, Course, course_after, destination_of, disconnect}
+use Rattle.osi_fair.proofs.Vocabulary.{disconnected, eqb-true, false, Finding, finding_of, first_failed, found, found_on, Half}
+use Rattle.osi_fair.proofs.Vocabulary.{HasFieldsInRange, inl, inr, is_applied, is_closed, is_closing, is_due, is_named, is_open, is_over}
+use Rattle.osi_fair.proofs.Vocabulary.{is_refused, is_silent, is_stray, knows_disconnect, Left, Line, List, Local, may_answer, None, not}
+use Rattle.osi_fair.proofs.Vocabulary.{noted, NotJudged, one_told, Option, Outcome, passes_other, Phase, Reach, reach_of, reached, refl}
+use Rattle.osi_fair.proofs.Vocabulary.{request, Right, set, slice_get, Some, Standing, subst, sym, takes, Traffic, true, Two}
+use Rattle.osi_fair.proofs.Vocabulary.{unit as passing, uses_source, Value, Whole, ℕ, ◌&&◌, ◌++◌, ◌==◌, ◌||◌, ◌∙◌, ◌∷◌, ◌≡◌, ◌≢◌, ◌≤◌, ◌⊎◌}
 use Rattle.osi_rules.specs.declared.findings.Reach.TheVariants as reach
 use Rattle.osi_rules.specs.declared.findings.Rule.TheVariants as rule
-use Rattle.osi_fair.proofs.small_facts_that_many_lemmas_use.{all_add, both as is_both, closing_shuts, differ, judged_same, not_not}
-use Rattle.osi_fair.proofs.small_facts_that_many_lemmas_use.{number_is, or_left, or_right, set_none}
+use Rattle.osi_fair.proofs.small_facts_that_many_lemmas_use.{all_add, both as is_both, differ, judged_same, not_not}
+use Rattle.osi_fair.proofs.small_facts_that_many_lemmas_use.{and_first, and_second, number_is, or_last, or_left, or_right, set_none}
 use Rattle.osi_fair.proofs.how_a_unit_of_right_passes.{strays_more}
 use Rattle.osi_fair.proofs.names_stay_apart_though_one_is_lost.{AreNamedApart, each_sound, left_set}
 use Rattle.osi_fair.proofs.a_reference_names_one_connection.{applied_judged}
-use Rattle.osi_fair.proofs.what_a_called_end_closes_is_to_pass.{other_was}
 use Rattle.osi_fair.proofs.each_connection_of_a_called_end.{stands_at, Among, AreAbove, Asked, Called, IsDc, IsFor, Row, Running, Stand}
 use Rattle.osi_fair.proofs.each_connection_of_a_called_end.{Untagged, among_more, among_skip, answers, closes, comes, over, past, refuses}
 use Rattle.osi_fair.proofs.each_connection_of_a_called_end.{runs, talks}
 use Rattle.osi_fair.proofs.left_selects_no_class.{left_class}
 use Rattle.osi_fair.proofs.units_by_their_place.{Placed, at_join, first_at, units_at, values, values_join}
-use Rattle.osi_fair.proofs.what_is_live_at_a_called_end.{Answers, IsHeld, Timely, dr_for, shuts_of, timely_closes, timely_comes}
-use Rattle.osi_fair.proofs.what_is_put_before_the_cc_passes.{acts_join}
+use Rattle.osi_fair.proofs.what_is_live_at_an_end.{Gives, IsHeld, IsLively, Timely, dr_for, is_there, shuts_of}
+use Rattle.osi_fair.proofs.what_is_live_at_an_end.{timely_closes, timely_comes}
 use Rattle.osi_fair.proofs.what_keeps_names_apart.{AreApart, Sound}
 use Rattle.osi_fair.proofs.what_lasts_at_the_judge.{Lasts, lasts_passing}
-use Rattle.osi_fair.proofs.what_stays_of_each_connection.{left_judged, left_own, own_stays, right_then}
+use Rattle.osi_fair.proofs.what_stays_of_each_connection.{judged_was as judged_before, left_judged, left_own, own_stays, right_then}
 use Rattle.osi_fair.proofs.which_units_are_for_a_connection.{first_left, named_not, named_so, names, those, those_join, picked_more}
 use Rattle.osi_fair.proofs.while_no_class_is_selected.{after_change}
-use Rattle.osi_fair.proofs.which_unit_comes_to_a_called_end.{IsCalm, IsNear, calm_before, calm_near, calm_noted}
+use Rattle.osi_fair.proofs.which_unit_of_the_other_side_passes.{IsCalm, IsNear, calm_before, calm_near, calm_noted}
+use Rattle.osi_fair.proofs.a_line_since_its_connection_opened.{tracks_on}
+use Rattle.osi_fair.proofs.each_connection_of_a_called_end.{running_on}
 
 -- ---- small facts
 
@@ -62,21 +63,20 @@ reached_strays r c = grind arith
 lost_so : (v : Value) (applied : Bool) (c : Connection) → (connection_after Left v applied reach.Connection c).is_judged ≡ false
 lost_so v applied c = grind arith
 
-open_by : (s : Traffic) (c : Connection) (v : Value) (applied : Bool) (r : Reach) → is_applied (found_on Left s c v) ≡ applied →
-    is_open (connection_after Left v applied r c).left.phase ≡ true → is_open c.left.phase ≡ true
-open_by s c v applied r e h = grind (arith, left_own, left_judged)
+closing_not : (a was : Bool) (half : Half) →
+    (a && (is_silent (closing_phase was half).phase || is_open (closing_phase was half).phase)) ≡ true → ⊥
+closing_not a was half h = grind arith
+
+-- a unit of left opens nothing that was closed
+there_by : (s : Traffic) (c : Connection) (v : Value) (applied : Bool) (r : Reach) → is_applied (found_on Left s c v) ≡ applied →
+    is_there (connection_after Left v applied r c).right (connection_after Left v applied r c).left ≡ true → is_there c.right c.left ≡ true
+there_by s c v applied r e h = grind (arith, left_own, left_judged, right_then)
 
 -- the CCs that are to pass give other references
-answers_above : (given last n : ℕ) (vs : List Value) → n ≤ last → AreAbove given last vs → AllByRecursion (Answers (λ m. m ≡ n → ⊥)) vs
+answers_above : (given last n : ℕ) (vs : List Value) → n ≤ last → AreAbove given last vs → AllByRecursion (Gives Right (λ m. m ≡ n → ⊥)) vs
 answers_above given last n [] up h = tt
-answers_above given last n (request x ∷ vs) up h = (λ m y e. absurd (cc e), answers_above given last n vs up h)
 answers_above given last n (confirm destination x ∷ vs) up (above, h) = grind (arith, answers_above given x.source n vs (omega arith) h)
-answers_above given last n (disconnect destination source reason user ∷ vs) up h = grind (arith, answers_above given last n vs up h)
-answers_above given last n (disconnected destination source ∷ vs) up h = (λ m y e. absurd (cc e), answers_above given last n vs up h)
-answers_above given last n (data0 end user ∷ vs) up h = (λ m y e. absurd (cc e), answers_above given last n vs up h)
-answers_above given last n (data2 destination number end user ∷ vs) up h = (λ m y e. absurd (cc e), answers_above given last n vs up h)
-answers_above given last n (acknowledge credit destination number ∷ vs) up h = (λ m y e. absurd (cc e), answers_above given last n vs up h)
-answers_above given last n (error destination cause ∷ vs) up h = (λ m y e. absurd (cc e), answers_above given last n vs up h)
+answers_above given last n (v ∷ vs) up h = (λ m y e. absurd (cc e), answers_above given last n vs up h)
 
 -- ---- all connections
 
@@ -250,25 +250,11 @@ module _ (local : Local) (w : Whole) (f : Called local w) (apart : AreApart w.ju
         near.part (ap (λ (x : Connection). reach_of (Some Two) (finding_of Left w.judge.course in_use x v)) (sym g.judge) ∙ e) in
         record {
           ref = g.index ∙ ap (λ (i : ℕ). Some i) (sym r_is);
-          stand = runs (record {
-            r = g.r;
-            peer = g.peer;
-            index = g.index;
-            line = line;
-            judge = judge;
-            put = g.put;
-            begun_is = g.begun_is;
-            first = g.first;
-            acts = g.acts ++ passes_other w.judge.course in_use v ∷ [];
-            opened = g.opened;
-            along = acts_join Right g.r g.peer g.acts (passes_other w.judge.course in_use v ∷ []) g.first g.line line g.along
-                (line, (ranges, dest_r, some, refl), refl);
-            there = ap (λ (h : Half). is_open h.phase) next_right ∙ g.there;
-            right = ap (λ (h : Half). h.reference) next_right ∙ g.right;
-            left = next_left ∙ g.left;
-            row = row_add g.r g.peer g.line.link g.line.coming (named_so g.r v dest_r) g.row;
-            shut_is = g.shut_is;
-          }) (asks_none q ∙ none);
+          stand = runs (running_on g line
+              (tracks_on Right g.r g.peer g.line line (passes_other w.judge.course in_use v ∷ []) g.tracks
+              (line, (ranges, dest_r, some, refl), refl)) judge g.put g.begun_is (ap (λ (h : Half). is_open h.phase) next_right ∙ g.there)
+              (ap (λ (h : Half). h.reference) next_right) next_left
+              (row_add g.r g.peer g.line.link g.line.coming (named_so g.r v dest_r) g.row) g.shut_is) (asks_none q ∙ none);
         }
 
     here_by : Stand local f.shut w.end w.coming (units_at q f.tagged) (units_at q f.came) (w.begun && first_at q f.tagged) (f.refs q) c →
@@ -319,47 +305,51 @@ module _ (local : Local) (w : Whole) (f : Called local w) (apart : AreApart w.ju
     -- ---- what it closes
 
     abbrev TimelyNow : Type 0
-    TimelyNow = Timely w.end more (takes Left v w.judge).state.connections (values f.tagged)
+    TimelyNow = Timely Right w.end more (takes Left v w.judge).state.connections (values f.tagged)
 
     judged_was : next.is_judged ≡ true → c.is_judged ≡ true
-    judged_was h = other_was v (is_applied found_so) far c h
+    judged_was h = judged_before Left v (is_applied found_so) far c h
 
-    held_at : Timely w.end w.coming cs (values f.tagged) → (i : ℕ) (x : Connection) →
-        ((i ≡ q) × (x ≡ next)) ⊎ ((i ≡ q → ⊥) × (slice_get cs i ≡ Some x)) → x.is_judged ≡ true → is_open x.left.phase ≡ true →
-        is_open x.right.phase ≡ true → IsHeld w.end w.coming x.right.reference
-    held_at h i x (inl (same, so)) j a b =
-        subst (λ (k : Half). IsHeld w.end w.coming k.reference) (sym (ap (λ (y : Connection). y.right) so ∙ next_right))
-        (h.judges q c at (judged_was (ap (λ (y : Connection). y.is_judged) (sym so) ∙ j))
-        (grind (arith, open_by))
-        (ap (λ (k : Half). is_open k.phase) (sym (ap (λ (y : Connection). y.right) so ∙ next_right)) ∙ b))
-    held_at h i x (inr (other, there)) j a b = h.judges i x there j a b
+    was_there : is_there next.right next.left ≡ true → is_there c.right c.left ≡ true
+    was_there h = there_by w.judge c v (is_applied found_so) far refl h
+
+    held_at : Timely Right w.end w.coming cs (values f.tagged) → (i : ℕ) (x : Connection) →
+        ((i ≡ q) × (x ≡ next)) ⊎ ((i ≡ q → ⊥) × (slice_get cs i ≡ Some x)) → IsLively Right (IsHeld Right w.end w.coming) x
+    held_at h i x (inl (same, so)) = subst (IsLively Right (IsHeld Right w.end w.coming)) (sym so) (λ j there.
+        subst (λ (k : Half). IsHeld Right w.end w.coming k.reference) (sym next_right)
+        (h.judges q c at (judged_was j) (was_there there)))
+    held_at h i x (inr (other, there)) = h.judges i x there
 
     -- left has it open no more, or it is judged no more
     abbrev IsShut : Type 0
-    IsShut = next.is_judged ≡ true → is_open next.left.phase ≡ true → ⊥
+    IsShut = next.is_judged ≡ true → is_there next.right next.left ≡ true → ⊥
 
     run_ref : (i : ℕ) (x : Connection) (o : Option ℕ) (mine asks : List Value) (begun : Bool) → is_open x.right.phase ≡ true →
         Stand local f.shut w.end w.coming mine asks begun o x → o ≡ Some x.right.reference
     run_ref i x o mine asks begun up k = grind (arith, differ)
 
     other_ref : (i : ℕ) (x : Connection) → ((i ≡ q) × (x ≡ next)) ⊎ ((i ≡ q → ⊥) × (slice_get cs i ≡ Some x)) →
-        IsShut → x.is_judged ≡ true → is_open x.left.phase ≡ true → is_open x.right.phase ≡ true → x.right.reference ≡ n → ⊥
-    other_ref i x (inl (same, so)) shut j a b e = grind arith
-    other_ref i x (inr (other, there)) shut j a b e =
-        let ref = run_ref i x (f.refs i) (units_at i f.tagged) (units_at i f.came) (w.begun && first_at i f.tagged) b
+        IsShut → x.is_judged ≡ true → is_there x.right x.left ≡ true → x.right.reference ≡ n → ⊥
+    other_ref i x (inl (same, so)) shut j is_there_so e = grind arith
+    other_ref i x (inr (other, there)) shut j is_there_so e =
+        let ref = run_ref i x (f.refs i) (units_at i f.tagged) (units_at i f.came) (w.begun && first_at i f.tagged)
+        (and_first (is_open x.right.phase) (is_silent x.left.phase || is_open x.left.phase) is_there_so)
         (f.stands i x there) in
         other (sym (f.homes i n (ref ∙ ap (λ (j : ℕ). Some j) e)).0 ∙ (f.homes q n here.ref).0)
 
-    timely_nothing : Timely w.end w.coming cs (values f.tagged) → shuts_of v ≡ None → dr_for v ≡ None → TimelyNow
-    timely_nothing h none no_dr = timely_comes w.end w.coming cs (takes Left v w.judge).state.connections (values f.tagged) v none no_dr
-        (λ i x there j a b. held_at h i x (item i x there) j a b) h
+    timely_nothing : Timely Right w.end w.coming cs (values f.tagged) → shuts_of Right v ≡ None → dr_for v ≡ None → TimelyNow
+    timely_nothing h none no_dr =
+        timely_comes Right w.end w.coming cs (takes Left v w.judge).state.connections (values f.tagged) v none no_dr
+        (λ i x there. held_at h i x (item i x there)) h
 
-    timely_one : Timely w.end w.coming cs (values f.tagged) → shuts_of v ≡ Some n → ((m : ℕ) → dr_for v ≡ Some m → IsHeld w.end w.coming
+    timely_one : Timely Right w.end w.coming cs (values f.tagged) → shuts_of Right v ≡ Some n → ((m : ℕ) → dr_for v ≡ Some m →
+        IsHeld Right w.end w.coming
         m) →
         IsShut → TimelyNow
     timely_one h shuts dr shut =
-        timely_closes w.end w.coming cs (takes Left v w.judge).state.connections (values f.tagged) v n shuts dr (f.homes q n here.ref).1
-        (λ i x there j a b. (held_at h i x (item i x there) j a b, other_ref i x (item i x there) shut j a b))
+        timely_closes Right w.end w.coming cs (takes Left v w.judge).state.connections (values f.tagged) v n shuts dr
+        (f.homes q n here.ref).1
+        (λ i x there j so. (held_at h i x (item i x there) j so, other_ref i x (item i x there) shut j so))
         (answers_above w.end.given f.last n (values f.tagged) (subst (λ (i : ℕ). i ≤ f.last) name_is (f.tops q c at)) f.above) h
 
     dest_is : (m : ℕ) → destination_of v ≡ Some m → m ≡ n
@@ -370,7 +360,17 @@ module _ (local : Local) (w : Whole) (f : Called local w) (apart : AreApart w.ju
         (is_open c.right.phase ≡ true → A) → A
     open_by_stand a b h k = grind (arith, silent_not, closed_not, sound, differ, is_both, refused_over, off_over, parts)
 
-    dr_so : (takes Left v w.judge).state.course.disconnects.strays ≡ false → Timely w.end w.coming cs (values f.tagged) →
+    -- a DR that has its effect
+    dr_shuts : is_applied found_so ≡ true → (destination source reason : ℕ) (user : List ℕ) →
+        v ≡ disconnect destination source reason user →
+        is_there next.right next.left ≡ true → ⊥
+    dr_shuts applied destination source reason user e so =
+        let left_is = ap (λ (b : Bool). (connection_after Left v b far c).left) applied
+        ∙ ap (λ (u : Value). (connection_after Left u true far c).left) e ∙ left_own (disconnect destination source reason user) far c in
+        closing_not (is_open next.right.phase) (is_silent c.left.phase) c.left
+        (ap (λ (h : Half). is_open next.right.phase && (is_silent h.phase || is_open h.phase)) (sym left_is) ∙ so)
+
+    dr_so : (takes Left v w.judge).state.course.disconnects.strays ≡ false → Timely Right w.end w.coming cs (values f.tagged) →
         (destination source reason : ℕ)
         (user : List ℕ) → v ≡ disconnect destination source reason user → TimelyNow
     dr_so none h destination source reason user e =
@@ -378,34 +378,46 @@ module _ (local : Local) (w : Whole) (f : Called local w) (apart : AreApart w.ju
         sym (ap (λ (k : Course). k.disconnects.strays) course_is
         ∙ reached_strays (reach_of w.judge.course.class_seen found_so) (course_after Left c v (is_applied found_so) w.judge.course)
         ∙ ap (λ (u : Value). (course_after Left c u (is_applied found_so) w.judge.course).disconnects.strays) e) ∙ none in
-        let both = or_right w.judge.course.disconnects.strays (not (is_applied found_so) || is_stray Left c source) strays in
-        let applied = not_not (is_applied found_so) (or_left (not (is_applied found_so)) (is_stray Left c source) both) in
+        let told = or_right w.judge.course.disconnects.strays (not (is_applied found_so) || is_stray Left c source) strays in
+        let applied = not_not (is_applied found_so) (or_left (not (is_applied found_so)) (is_stray Left c source) told) in
         let judged = applied_judged c.is_judged (found Left w.judge.course (uses_source Left cs v) c v) applied in
-        let stray = or_right (not (is_applied found_so)) (is_stray Left c source) both in
+        let stray = or_right (not (is_applied found_so)) (is_stray Left c source) told in
         let opened = not_not (is_open c.left.phase) (or_left (not (is_open c.left.phase)) (not (source == c.left.reference)
         || is_closing c.right.phase) stray) in
         let first = or_right (not (source == c.left.reference)) (is_closing c.right.phase) (or_right (not (is_open c.left.phase))
         (not (source == c.left.reference) || is_closing c.right.phase) stray) in
         open_by_stand opened first (f.stands q c at) (λ up.
-        timely_one h (ap shuts_of e ∙ (sym (ap destination_of e) ∙ dest))
-        (λ m k. subst (λ (i : ℕ). IsHeld w.end w.coming i) (name_is ∙ sym (dest_is m (ap destination_of e ∙ (sym (ap dr_for e) ∙ k))))
-        (h.judges q c at judged opened up))
-        (λ j a. differ (is_open next.left.phase) a
-        (ap (λ (b : Bool). is_open (connection_after Left v b far c).left.phase) applied
-        ∙ ap (λ (u : Value). is_open (connection_after Left u true far c).left.phase) e
-        ∙ ap (λ (x : Half). is_open x.phase) (left_own (disconnect destination source reason user) far c)
-        ∙ closing_shuts (is_silent c.left.phase) c.left)))
+        timely_one h (ap (shuts_of Right) e ∙ (sym (ap destination_of e) ∙ dest))
+        (λ m k. subst (λ (i : ℕ). IsHeld Right w.end w.coming i) (name_is ∙ sym (dest_is m (ap destination_of e ∙ (sym (ap dr_for e) ∙ k))))
+        (h.judges q c at judged (is_both (is_open c.right.phase) (is_silent c.left.phase || is_open c.left.phase) up
+        (or_last (is_silent c.left.phase) (is_open c.left.phase) opened))))
+        (λ j so. dr_shuts applied destination source reason user e so))
 
     still_near : next.is_judged ≡ true → far ≡ reach.Connection → ⊥
     still_near j e = grind (arith, differ, lost_so)
 
-    dc_so : (takes Left v w.judge).state.course.disconnects.strays ≡ false → Timely w.end w.coming cs (values f.tagged) →
-        (destination source : ℕ) →
-        v ≡ disconnected destination source → TimelyNow
-    dc_so none h destination source e =
-        grind (arith, timely_one, shuts_of, dr_for, judged_was, judged_same, dc_applied, lasts, still_near, near, differ, left_own)
+    dc_has : (takes Left v w.judge).state.course.disconnects.strays ≡ false → next.is_judged ≡ true → (destination source : ℕ) →
+        v ≡ disconnected destination source → is_applied found_so ≡ true
+    dc_has none j destination source e =
+        let drs = w.judge.course.disconnects in
+        dc_applied (is_due Left c source) (not (is_silent c.left.phase)) (may_answer Left drs)
+        (ap (λ (b : Bool). b && knows_disconnect Left drs) (lasts.strays none)) found_so
+        (judged_same c.is_judged (found Left w.judge.course (uses_source Left cs v) c v) (judged_was j)
+        ∙ ap (λ (u : Value). found Left w.judge.course (uses_source Left cs v) c u) e)
+        (still_near j) near.part
 
-    timely_so : (takes Left v w.judge).state.course.disconnects.strays ≡ false → Timely w.end w.coming cs (values f.tagged) → (u : Value) →
+    dc_so : (takes Left v w.judge).state.course.disconnects.strays ≡ false → Timely Right w.end w.coming cs (values f.tagged) →
+        (destination source : ℕ) → v ≡ disconnected destination source → TimelyNow
+    dc_so none h destination source e =
+        timely_one h (ap (shuts_of Right) e ∙ (sym (ap destination_of e) ∙ dest)) (λ m k. absurd (cc (sym (ap dr_for e) ∙ k)))
+        (λ j so.
+        let left_is = ap (λ (b : Bool). (connection_after Left v b far c).left) (dc_has none j destination source e)
+        ∙ ap (λ (u : Value). (connection_after Left u true far c).left) e ∙ left_own (disconnected destination source) far c in
+        differ false (and_second (is_open next.right.phase) false
+        (ap (λ (h : Half). is_open next.right.phase && (is_silent h.phase || is_open h.phase)) (sym left_is) ∙ so)) refl)
+
+    timely_so : (takes Left v w.judge).state.course.disconnects.strays ≡ false → Timely Right w.end w.coming cs (values f.tagged) →
+        (u : Value) →
         v ≡ u →
         TimelyNow
     timely_so none h u e = grind (arith, not_cr, dr_so, dc_so, timely_nothing)

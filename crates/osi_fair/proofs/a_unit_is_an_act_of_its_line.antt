@@ -1,15 +1,15 @@
 -- Of a unit in class 2 that names a connection the rules of transport find what the line of that connection says.
 -- For the law of that name.
-use Rattle.osi_fair.proofs.Vocabulary.{arith, [], ap, List, map, option_map, refl, Some, suc, zero, ℕ, ◌∷◌, ◌≡◌, slice_get, slice_set}
-use Rattle.osi_fair.proofs.Vocabulary.{destination_of, Value, begins, one_told, Outcome, packet_begins, route_two, Traffic as State, takes}
-use Rattle.osi_fair.proofs.Vocabulary.{uses_source, Connection, Direction, Named, IsAtPlace, after_finding, finding_of}
+use Rattle.osi_fair.proofs.Vocabulary.{[], after_finding, ap, arith, begins, Connection, destination_of, Direction, finding_of, IsAtPlace}
+use Rattle.osi_fair.proofs.Vocabulary.{List, map, Named, one_told, option_map, Outcome, packet_begins, refl, route_two, slice_get}
+use Rattle.osi_fair.proofs.Vocabulary.{slice_set, Some, suc, takes, Traffic as State, uses_source, Value, zero, ℕ, ◌∷◌, ◌≡◌}
 
-route_is : (d : Direction) (v : Value) (n : ℕ) → destination_of v ≡ Some n → route_two d v ≡ Named n
+pub route_is : (d : Direction) (v : Value) (n : ℕ) → destination_of v ≡ Some n → route_two d v ≡ Named n
 route_is d v n e = grind arith
 
 module _ (d : Direction) (v : Value) (s : State) (n place : ℕ) (c : Connection) (at : IsAtPlace d s n place c)
     (named : destination_of v ≡ Some n) where
-  takes_is : takes d v s ≡ one_told d place c v s
+  pub takes_is : takes d v s ≡ one_told d place c v s
   takes_is = grind (arith, route_is)
 
   pub found_is : (takes d v s).told.finding ≡ finding_of d s.course (uses_source d s.connections v) c v

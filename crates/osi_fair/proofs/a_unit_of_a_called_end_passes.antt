@@ -1,40 +1,37 @@
 -- A unit of a whole called end passes: a CC, a DR that refuses a CR, or a unit of an open connection. Each is right.
 -- For the law on a whole called end.
-use Rattle.osi_fair.proofs.Vocabulary.{[], ap, arith, Bool, false, inl, inr, List, None, Option, refl, set, Some, subst, sym, true, ℕ, ◌++◌}
-use Rattle.osi_fair.proofs.Vocabulary.{◌<◌, ◌∙◌, ◌∷◌, ◌≡◌, ◌≤◌, ◌⊎◌, eq-eqb, AllByRecursion, list_any, position_or_len, position, slice_get}
-use Rattle.osi_fair.proofs.Vocabulary.{◌&&◌, ◌==◌, confirm, Connect, destination_of, disconnect, error, Value, Class, Two, Local}
-use Rattle.osi_fair.proofs.Vocabulary.{acceptance, opened_link, is_named, is_open, is_over, is_silent, other, uses, course_after, found}
-use Rattle.osi_fair.proofs.Vocabulary.{found_on, half_after, route, sent_on, silent_half, takes, uses_source, Connection, Course, Left}
-use Rattle.osi_fair.proofs.Vocabulary.{Right, Kept, NotJudged, Half, Refused, Named, ActsAlong, after_finding, finding_of, IsRight, Line}
-use Rattle.osi_fair.proofs.Vocabulary.{opened_line, unit as passing, Whole, acknowledge, data0, data2, disconnected, if◌then◌else◌, not}
-use Rattle.osi_fair.proofs.Vocabulary.{one_told, Outcome, request, Traffic, has_broken, passes_own}
+use Rattle.osi_fair.proofs.Vocabulary.{[], acceptance, AllByRecursion, ap, arith, Bool, Class, confirm, Connect, Connection, Course}
+use Rattle.osi_fair.proofs.Vocabulary.{course_after, destination_of, disconnect, eq-eqb, error, false, found_on, Half, half_after, inl, inr}
+use Rattle.osi_fair.proofs.Vocabulary.{is_named, is_open, is_over, is_silent, Kept, Left, Line, List, list_any, Local, Named, None, not}
+use Rattle.osi_fair.proofs.Vocabulary.{NotJudged, opened_line, opened_link, Option, other, position, refl, Refused, Right, route, sent_on}
+use Rattle.osi_fair.proofs.Vocabulary.{set, silent_half, slice_get, Some, subst, sym, takes, Traffic, true, Two, unit as passing, uses}
+use Rattle.osi_fair.proofs.Vocabulary.{uses_source, Value, Whole, ℕ, ◌&&◌, ◌<◌, ◌==◌, ◌||◌, ◌∙◌, ◌∷◌, ◌≡◌, ◌≤◌, ◌⊎◌}
 use Rattle.osi_rules.specs.declared.findings.Reach.TheVariants as reach
-use Rattle.osi_rules.specs.declared.findings.Rule.TheVariants as rule
-use Rattle.osi_fair.proofs.small_facts_that_many_lemmas_use.{and_false, any_none, both as is_both, differ, first_is, judged_so, name_so}
+use Rattle.osi_fair.proofs.small_facts_that_many_lemmas_use.{and_false, and_first, any_none, both as is_both, differ, first_is, judged_so}
+use Rattle.osi_fair.proofs.small_facts_that_many_lemmas_use.{name_so}
 use Rattle.osi_fair.proofs.small_facts_that_many_lemmas_use.{number_is, rest_is, set_none, unequal}
-use Rattle.osi_fair.proofs.a_right_unit_is_not_blamed.{first_there, is_first, named_of}
+use Rattle.osi_fair.proofs.a_right_unit_is_not_blamed.{named_of}
 use Rattle.osi_fair.proofs.all_are_judged_unless_one_broke.{AreJudged}
-use Rattle.osi_fair.proofs.an_end_closes_last.{right_holds as run_holds, waits_open}
-use Rattle.osi_fair.proofs.an_open_end_is_fair.{open_is_fair, turned_line}
 use Rattle.osi_fair.proofs.each_connection_of_a_called_end.{AreAbove, AreStrays, Answering, Asked, Called, IsUnlinked, Row, Running, Stand}
 use Rattle.osi_fair.proofs.each_connection_of_a_called_end.{line_of, answers, past, refuses, runs, comes}
 use Rattle.osi_fair.proofs.how_a_connection_opens.{called_opens, two_right}
 use Rattle.osi_fair.proofs.units_by_their_place.{Placed, at_elsewhere, at_first, at_here, at_other, first_at, units_at, values}
-use Rattle.osi_fair.proofs.what_a_called_end_closes_is_to_pass.{sent_judged}
-use Rattle.osi_fair.proofs.what_holds_of_one_item.{first_true}
-use Rattle.osi_fair.proofs.names_stay_apart_though_one_is_lost.{AreNamedApart, end_set, only_named}
-use Rattle.osi_fair.proofs.what_a_line_keeps_though_it_is_lost.{Keeps, line_keeps, own_seen_after}
+use Rattle.osi_fair.proofs.names_stay_apart_though_one_is_lost.{AreNamedApart, end_set}
+use Rattle.osi_fair.proofs.what_a_line_keeps_though_it_is_lost.{own_seen_after}
 use Rattle.osi_fair.proofs.a_reference_names_one_connection.{not_first}
-use Rattle.osi_fair.proofs.what_is_live_at_a_called_end.{Answers, IsHeld, Timely}
-use Rattle.osi_fair.proofs.what_is_put_before_the_cc_passes.{acts_join}
+use Rattle.osi_fair.proofs.what_is_live_at_an_end.{Gives, IsHeld, IsLively, Timely, is_there}
 use Rattle.osi_fair.proofs.what_keeps_names_apart.{AreApart}
 use Rattle.osi_fair.proofs.what_lasts_at_the_judge.{Lasts, lasts_passing}
 use Rattle.osi_fair.proofs.what_stays_of_each_connection.{left_then, right_own}
-use Rattle.osi_fair.proofs.which_units_are_for_a_connection.{line_named, names_in as is_at}
+use Rattle.osi_fair.proofs.which_units_are_for_a_connection.{names_in as is_at}
 use Rattle.osi_fair.proofs.while_no_class_is_selected.{after_change, set_same}
-use Rattle.osi_fair.proofs.how_a_unit_of_right_passes.{no_list, use_so, route_two_so, class_seen_same, strays_more, above_next, half_keeps}
-use Rattle.osi_fair.proofs.how_a_unit_of_right_passes.{half_started, finding_kept, conns_kept, course_kept, takes_so}
-use Rattle.osi_fair.proofs.a_unit_of_a_whole_end_passes.{put_open as open_of}
+use Rattle.osi_fair.proofs.how_a_unit_of_right_passes.{no_list, use_so, class_seen_same, strays_more, above_next}
+use Rattle.osi_fair.proofs.small_facts_that_many_lemmas_use.{half_keeps}
+use Rattle.osi_fair.proofs.how_a_unit_of_right_passes.{finding_kept, conns_kept, course_kept}
+use Rattle.osi_fair.proofs.small_facts_that_many_lemmas_use.{half_started}
+use Rattle.osi_fair.proofs.a_line_since_its_connection_opened.{LostPassed, RightPassed, dest as named_dest, lost_passes as line_lost}
+use Rattle.osi_fair.proofs.a_line_since_its_connection_opened.{name_first, right_passes}
+use Rattle.osi_fair.proofs.each_connection_of_a_called_end.{running_on}
 
 -- ---- small facts
 
@@ -50,13 +47,7 @@ idle_seen c u course = grind arith
 above_down : (given n m : ℕ) (vs : List Value) → n < m → AreAbove given m vs → AreAbove given n vs
 above_down given n m [] less h = omega arith
 above_down given n m (confirm destination x ∷ vs) less (more, h) = (omega arith, h)
-above_down given n m (request x ∷ vs) less h = above_down given n m vs less h
-above_down given n m (disconnect destination source reason user ∷ vs) less h = above_down given n m vs less h
-above_down given n m (disconnected destination source ∷ vs) less h = above_down given n m vs less h
-above_down given n m (data0 end user ∷ vs) less h = above_down given n m vs less h
-above_down given n m (data2 destination number end user ∷ vs) less h = above_down given n m vs less h
-above_down given n m (acknowledge credit destination number ∷ vs) less h = above_down given n m vs less h
-above_down given n m (error destination cause ∷ vs) less h = above_down given n m vs less h
+above_down given n m (_ ∷ vs) less h = above_down given n m vs less h
 
 above_less : (given n : ℕ) (v : Value) (vs : List Value) → AreAbove given n (v ∷ vs) → AreAbove given n vs
 above_less given n v vs h = grind (arith, above_down)
@@ -83,14 +74,6 @@ module _ (local : Local) (w : Whole) (f : Called local w) (apart : AreApart w.ju
 
   lasts : Lasts w.judge.course (takes Right u w.judge).state.course
   lasts = lasts_passing (passing Right u) w.judge
-
-  name_first : (n p : ℕ) (c : Connection) → slice_get cs p ≡ Some c → is_named Right n c ≡ true → position (is_named Right n) cs ≡ Some p
-  name_first n p c at is =
-      let q = position_or_len (is_named Right n) cs in
-      let first = is_first (is_named Right n) cs p c at is in
-      let (e, there) = first_there (is_named Right n) cs p q c first in
-      let so = first_true (is_named Right n) cs q e first there in
-      grind (arith, only_named Left cs n named p q c e at there is so)
 
   module _ (p : ℕ) (later : List Placed) (tagged : f.tagged ≡ (Some p, u) ∷ later) (rest_are : rest ≡ values later) (c : Connection)
       (at : slice_get cs p ≡ Some c) where
@@ -121,8 +104,7 @@ module _ (local : Local) (w : Whole) (f : Called local w) (apart : AreApart w.ju
         (seen : (takes Right u w.judge).state.course.class_seen ≡ w.judge.course.class_seen) (top : ℕ) (more : f.last ≤ top)
         (next_top : next.right.reference ≤ top) (above : AreAbove w.end.given top (values later))
         (past_two : (takes Right u w.judge).state.course.class ≡ Some Two → 1 ≤ w.end.given)
-        (held : Timely w.end w.coming cs (values f.tagged) → next.is_judged ≡ true → is_open next.left.phase ≡ true →
-        is_open next.right.phase ≡ true → IsHeld w.end w.coming next.right.reference) where
+        (held : Timely Right w.end w.coming cs (values f.tagged) → IsLively Right (IsHeld Right w.end w.coming) next) where
       item : (i : ℕ) (x : Connection) → slice_get (takes Right u w.judge).state.connections i ≡ Some x →
           ((i ≡ p) × (x ≡ next)) ⊎ ((i ≡ p → ⊥) × (slice_get cs i ≡ Some x))
       item i x h = after_change cs p i next x (ap (λ (l : List Connection). slice_get l i) (sym conns) ∙ h)
@@ -146,11 +128,10 @@ module _ (local : Local) (w : Whole) (f : Called local w) (apart : AreApart w.ju
           (units_at i later ≡ []) × (units_at i f.came ≡ []) × ((r : ℕ) → f.refs i ≡ Some r → IsUnlinked w.end r)
       gone_by i none = search (arith, other_mine)
 
-      held_by : Timely w.end w.coming cs (values f.tagged) → (i : ℕ) (x : Connection) →
-          ((i ≡ p) × (x ≡ next)) ⊎ ((i ≡ p → ⊥) × (slice_get cs i ≡ Some x)) → x.is_judged ≡ true → is_open x.left.phase ≡ true →
-          is_open x.right.phase ≡ true → IsHeld w.end w.coming x.right.reference
-      held_by h i x (inl (same, is)) j a b = grind arith
-      held_by h i x (inr (not_p, there)) j a b = h.judges i x there j a b
+      held_by : Timely Right w.end w.coming cs (values f.tagged) → (i : ℕ) (x : Connection) →
+          ((i ≡ p) × (x ≡ next)) ⊎ ((i ≡ p → ⊥) × (slice_get cs i ≡ Some x)) → IsLively Right (IsHeld Right w.end w.coming) x
+      held_by h i x (inl (same, is)) = subst (IsLively Right (IsHeld Right w.end w.coming)) (sym is) (held h)
+      held_by h i x (inr (not_p, there)) = h.judges i x there
 
       passed : Called local after
       passed = record {
@@ -184,8 +165,8 @@ module _ (local : Local) (w : Whole) (f : Called local w) (apart : AreApart w.ju
         timely = λ none last.
             let h = f.timely (lasts.strays none) last in
             record {
-              judges = λ i x there j a b. held_by h i x (item i x there) j a b;
-              answers = (subst (λ (l : List Placed). AllByRecursion (Answers (IsHeld w.end w.coming)) (values l)) tagged h.answers).1;
+              judges = λ i x there. held_by h i x (item i x there);
+              gives = (subst (λ (l : List Placed). AllByRecursion (Gives Right (IsHeld Right w.end w.coming)) (values l)) tagged h.gives).1;
               firsts = h.firsts;
               known = h.known;
             };
@@ -230,7 +211,7 @@ module _ (local : Local) (w : Whole) (f : Called local w) (apart : AreApart w.ju
       cc_route = grind (arith, u_cc)
 
       cc_first : position (is_named Right n) cs ≡ Some p
-      cc_first = name_first n p c at cc_named
+      cc_first = name_first Right cs named n p c at cc_named
 
       abbrev cc_next : Connection
       cc_next = sent_on Right cc_is c
@@ -253,10 +234,12 @@ module _ (local : Local) (w : Whole) (f : Called local w) (apart : AreApart w.ju
         judge = refl;
         put = sym (rest_is u cc_is (units_at p later) h.more (sym mine_is ∙ h.mine_is));
         begun_is = refl;
-        first = opened_line (opened_link Two h.size local h.x.credit) cc_next;
-        acts = h.acts;
-        opened = grind (arith, called_opens);
-        along = h.along cc_next;
+        tracks = record {
+          first = opened_line (opened_link Two h.size local h.x.credit) cc_next;
+          acts = h.acts;
+          opened = grind (arith, called_opens);
+          along = h.along cc_next;
+        };
         there = refl;
         right = refl;
         left = ap (λ (x : Half). x.reference) h.asked.left;
@@ -270,7 +253,8 @@ module _ (local : Local) (w : Whole) (f : Called local w) (apart : AreApart w.ju
         passed cc_next cc_conns cc_stand (inr cc_two) (λ up. cc_two)
             (ap (λ (k : Course). k.class_seen) cc_course) h.r (let less = above_cc.0 in omega arith) (omega arith) above_cc.1
             (λ k. let up = (f.homes p h.r h.index).1 in let one = f.positive p h.r h.index in omega arith)
-            (λ k j a b. (subst (λ (l : List Placed). AllByRecursion (Answers (IsHeld w.end w.coming)) (values l)) tagged k.answers).0 n
+            (λ k j there. (subst (λ (l : List Placed). AllByRecursion (Gives Right (IsHeld Right w.end w.coming))
+            (values l)) tagged k.gives).0 n
             (acceptance Two h.size h.x local h.r) u_cc),
         subst (AreNamedApart Left) (sym cc_conns) (end_set Left w.judge apart named p c at cc_next
             (live_of n c cc_named) h.asked.judged h.asked.judged refl refl refl),
@@ -297,7 +281,7 @@ module _ (local : Local) (w : Whole) (f : Called local w) (apart : AreApart w.ju
       dr_route = grind (arith, u_dr)
 
       dr_first : position (is_named Right x.source) cs ≡ Some p
-      dr_first = name_first x.source p c at dr_named
+      dr_first = name_first Right cs named x.source p c at dr_named
 
       abbrev dr_next : Connection
       dr_next = sent_on Right dr c
@@ -325,7 +309,8 @@ module _ (local : Local) (w : Whole) (f : Called local w) (apart : AreApart w.ju
             (λ up. dr_not up) (ap (λ (k : Course). k.class_seen) dr_course) f.last (omega arith)
             (subst (λ (h : Half). h.reference ≤ f.last) (sym dr_right) (omega arith))
             (subst (λ (v : Value). AreAbove w.end.given f.last (v ∷ values later)) u_dr above_all)
-            (λ k. f.past_two (sym (ap (λ (c : Course). c.class) dr_course) ∙ k)) (λ k j a b. dr_not b),
+            (λ k. f.past_two (sym (ap (λ (c : Course). c.class) dr_course) ∙ k)) (λ k j there. dr_not (and_first
+            (is_open dr_next.right.phase) (is_silent c.left.phase || is_open c.left.phase) there)),
         subst (AreNamedApart Left) (sym dr_conns) (end_set Left w.judge apart named p c at dr_next
             (live_of x.source c dr_named) a.judged a.judged refl refl refl),
       )
@@ -334,29 +319,27 @@ module _ (local : Local) (w : Whole) (f : Called local w) (apart : AreApart w.ju
 
     module _ (g : Running f.shut w.end w.coming (units_at p f.tagged) (w.begun && first_at p f.tagged) (f.refs p) c)
         (asks : units_at p f.came ≡ []) (is_judged : c.is_judged ≡ true) where
-      is_right : IsRight Right c u
-      is_right = grind (arith, open_is_fair, begins)
+      run_put : g.line.put ≡ u ∷ units_at p later
+      run_put = g.put ∙ mine_is
+
+      run_begun : g.line.begun ≡ true
+      run_begun = g.begun_is ∙ begins
 
       dest : destination_of u ≡ Some g.peer
-      dest = search (arith, line_named, turned_line, run_holds)
+      dest = named_dest Right w.judge named g.r g.peer g.line g.tracks u (units_at p later) run_put run_begun p c at g.judge
 
-      run_first : position (is_named Right g.peer) cs ≡ Some p
-      run_first = name_first g.peer p c at (named_of (destination_of u) g.peer Right c dest is_right.named)
-
-      run_route : route Right w.judge.course u ≡ Named g.peer
-      run_route = route_two_so w.judge.course.class (has_broken Left w.judge.course) u g.peer (f.two p c at g.there) dest
+      run : RightPassed Right w.judge g.r g.peer g.line u (units_at p later) p c
+      run = right_passes Right w.judge named g.r g.peer g.line g.tracks u (units_at p later) run_put run_begun p c at g.judge right
+          (f.two p c at g.there) is_judged
 
       abbrev in_use : Bool
       in_use = uses_source Right cs u
 
-      run_kept : found_on Right w.judge c u ≡ Kept
-      run_kept = judged_so c.is_judged (found Right w.judge.course in_use c u) Kept (is_judged) (is_right.kept w.judge.course in_use)
-
       no_cc : (m : ℕ) (x : Connect) → u ≡ confirm m x → ⊥
-      no_cc m x e = grind (arith, is_right, is_right.kept w.judge.course in_use)
+      no_cc m x e = grind (arith, run.right.kept w.judge.course in_use)
 
       no_er : (m cause : ℕ) → u ≡ error m cause → ⊥
-      no_er m cause e = search (arith, is_right, is_right.kept w.judge.course in_use)
+      no_er m cause e = search (arith, run.right.kept w.judge.course in_use)
 
       abbrev next : Connection
       next = sent_on Right u c
@@ -367,74 +350,40 @@ module _ (local : Local) (w : Whole) (f : Called local w) (apart : AreApart w.ju
       next_left : next.left ≡ c.left
       next_left = left_then u true reach.Nothing c
 
+      was_there : is_there next.right next.left ≡ true → is_there c.right c.left ≡ true
+      was_there h = grind (arith, next_left)
+
       next_reference : next.right.reference ≡ c.right.reference
       next_reference = ap (λ (h : Half). h.reference) next_right ∙ half_keeps u c.right no_cc
 
-      run_conns : (takes Right u w.judge).state.connections ≡ set cs p next
-      run_conns = conns_kept u w.judge g.peer p c right run_route run_first at run_kept
-
-      run_course : (takes Right u w.judge).state.course ≡ course_after Right c u true w.judge.course
-      run_course = course_kept u w.judge g.peer p c right run_route run_first at run_kept
-
       abbrev line : Line
-      line = record g.line {
-        put = units_at p later;
-        begun = false;
-        judge = after_finding Right (finding_of Right w.judge.course in_use g.line.judge u) u g.line.judge;
-      }
-
-      judge_is : line.judge ≡ next
-      judge_is = grind (arith, run_kept)
-
-      along : ActsAlong Right g.r g.peer g.first (g.acts ++ passes_own w.judge.course in_use ∷ []) line
-      along = search (arith, acts_join)
+      line = record g.line { put = units_at p later; begun = false; judge = next }
 
       not_linked : is_open next.right.phase ≡ false → (r : ℕ) → r ≡ g.r → Row w.end w.coming g.r g.peer g.line.link g.line.coming →
           IsUnlinked w.end r
-      not_linked shut r same k live q link here = grind (arith, differ, run_holds, along, judge_is, sent_judged, open_of)
-
-      -- the end puts nothing after it has closed the connection
-      none_left : (l : List Value) → units_at p later ≡ l → is_open next.right.phase ≡ false → l ≡ []
-      none_left [] e shut = refl
-      none_left (v ∷ vs) e shut = grind (arith, differ, judge_is, waits_open, along, sent_judged, no_list)
+      not_linked shut r same k live q link here = grind (arith, differ, run.linked)
 
       run_stand : (b : Bool) → is_open next.right.phase ≡ b → StandAfter p next
-      run_stand true up = runs (record {
-        r = g.r;
-        peer = g.peer;
-        index = g.index;
-        line = line;
-        judge = judge_is;
-        put = refl;
-        begun_is = refl;
-        first = g.first;
-        acts = g.acts ++ passes_own w.judge.course in_use ∷ [];
-        opened = g.opened;
-        along = along;
-        there = up;
-        right = next_reference ∙ g.right;
-        left = ap (λ (h : Half). h.reference) next_left ∙ g.left;
-        row = g.row;
-        shut_is = g.shut_is;
-      }) asks
+      run_stand true up =
+          runs (running_on g line run.tracks refl refl refl up next_reference (ap (λ
+          (h : Half). h.reference) next_left) g.row g.shut_is) asks
       run_stand false shut = past (ap (λ (h : Half). is_silent h.phase) next_right ∙ half_started u c.right (grind arith))
-          shut (none_left (units_at p later) refl shut) asks
+          shut (run.none_left shut) asks
           (λ r e. not_linked shut r (number_is r g.r (sym e ∙ g.index)) g.row)
           (grind (arith, next_reference, next_right, no_er))
 
       pub run_passes : Passed
       run_passes = (
-        inl (finding_kept u w.judge g.peer p c right run_route run_first at run_kept),
-        passed next run_conns (run_stand (is_open next.right.phase) refl) (inr (lasts.two (f.two p c at g.there)))
+        inl run.kept,
+        passed next run.conns (run_stand (is_open next.right.phase) refl) (inr (lasts.two (f.two p c at g.there)))
             (λ up. lasts.two (f.two p c at g.there))
-            (ap (λ (k : Course). k.class_seen) run_course ∙ class_seen_same c u w.judge.course) f.last (omega arith)
+            (ap (λ (k : Course). k.class_seen) run.course ∙ class_seen_same c u w.judge.course) f.last (omega arith)
             (subst (λ (i : ℕ). i ≤ f.last) (sym next_reference) (f.tops p c at)) (above_next w.end.given f.last u (values later) no_cc
             above_all)
             (λ k. f.past_two (f.two p c at g.there))
-            (λ k j a b. subst (λ (i : ℕ). IsHeld w.end w.coming i) (sym next_reference)
-            (k.judges p c at is_judged (ap (λ (h : Half). is_open h.phase) (sym next_left) ∙ a) g.there)),
-        subst (AreNamedApart Left) (sym run_conns) (end_set Left w.judge apart named p c at next
-            (live_of g.peer c (named_of (destination_of u) g.peer Right c dest is_right.named)) (sent_judged u c ∙ is_judged) is_judged
+            (λ k j there. subst (IsHeld Right w.end w.coming) (sym next_reference) (k.judges p c at is_judged (was_there there))),
+        subst (AreNamedApart Left) (sym run.conns) (end_set Left w.judge apart named p c at next
+            (live_of g.peer c (named_of (destination_of u) g.peer Right c dest run.right.named)) run.judged is_judged
             next_left (own_knows u c) (own_seen_after u true reach.Nothing c)),
       )
 
@@ -442,71 +391,39 @@ module _ (local : Local) (w : Whole) (f : Called local w) (apart : AreApart w.ju
 
     module _ (g : Running f.shut w.end w.coming (units_at p f.tagged) (w.begun && first_at p f.tagged) (f.refs p) c)
         (asks : units_at p f.came ≡ []) (is_lost : c.is_judged ≡ false) where
-      keeps : Keeps Right g.r g.peer g.line
-      keeps = line_keeps Right g.r g.peer g.first g.line g.acts g.opened g.along
-
-      lost_put : g.line.put ≡ u ∷ units_at p later
-      lost_put = g.put ∙ mine_is
-
-      lost_named : is_named Right g.peer c ≡ true
-      lost_named = grind (arith, keeps, name_so, eq-eqb)
-
-      lost_takes : takes Right u w.judge ≡ one_told Right p c u w.judge
-      lost_takes = takes_so u w.judge g.peer p c right (grind (arith, route_two_so, lost_put, keeps))
-          (name_first g.peer p c at lost_named) at
+      lost : LostPassed Right w.judge g.r g.peer g.line u (units_at p later) p c
+      lost = line_lost Right w.judge named g.r g.peer g.line g.tracks u (units_at p later) (g.put ∙ mine_is) (g.begun_is ∙ begins) p c at
+          g.judge right (f.two p c at g.there) is_lost
 
       lost_conns : (takes Right u w.judge).state.connections ≡ set cs p c
-      lost_conns = grind (arith, lost_takes, set)
-
-      lost_course : (takes Right u w.judge).state.course ≡ course_after Right c u false w.judge.course
-      lost_course = grind (arith, lost_takes)
-
-      lost_finding : (takes Right u w.judge).told.finding ≡ NotJudged
-      lost_finding = ap (λ (o : Outcome). o.told.finding) lost_takes ∙ (grind arith)
+      lost_conns = lost.conns ∙ sym (set_same cs p c at)
 
       is_loose : (b : Bool) → w.judge.course.loose ≡ b → b ≡ true
       is_loose b e = grind (arith, differ)
 
-      abbrev lost_line : Line
-      lost_line = record g.line {
-        put = units_at p later;
-        begun = false;
-        judge = after_finding Right (finding_of Right w.judge.course false g.line.judge u) u g.line.judge;
-      }
-
       lost_stand : StandAfter p c
-      lost_stand = runs (record {
-        r = g.r;
-        peer = g.peer;
-        index = g.index;
-        line = lost_line;
-        judge = grind arith;
-        put = refl;
-        begun_is = refl;
-        first = g.first;
-        acts = g.acts ++ passes_own w.judge.course false ∷ [];
-        opened = g.opened;
-        along = grind (arith, acts_join, lost_put, begins);
-        there = g.there;
-        right = g.right;
-        left = g.left;
-        row = g.row;
-        shut_is = g.shut_is;
-      }) asks
+      lost_stand =
+          runs (running_on g (record g.line {
+            put =
+                units_at p later;
+            begun = false;
+            judge = c;
+          }) lost.tracks refl refl refl g.there refl refl
+          g.row g.shut_is) asks
 
       lost_above : AreAbove w.end.given f.last (values later)
       lost_above = above_less w.end.given f.last u (values later) above_all
 
       pub lost_passes : Passed
       lost_passes = (
-        inr (lost_finding, inr (is_loose w.judge.course.loose refl)),
+        inr (lost.found, inr (is_loose w.judge.course.loose refl)),
         passed c lost_conns lost_stand (inr (lasts.two (f.two p c at g.there)))
             (λ up. lasts.two (f.two p c at g.there))
-            (ap (λ (k : Course). k.class_seen) lost_course ∙ idle_seen c u w.judge.course) f.last (omega arith)
+            (ap (λ (k : Course). k.class_seen) lost.course ∙ idle_seen c u w.judge.course) f.last (omega arith)
             (f.tops p c at) lost_above
             (λ k. f.past_two (f.two p c at g.there))
-            (λ k j a b. k.judges p c at j a b),
-        subst (AreNamedApart Left) (sym (lost_conns ∙ set_same cs p c at)) named,
+            (λ k. k.judges p c at),
+        subst (AreNamedApart Left) (sym lost.conns) named,
       )
 
     run_by : (g : Running f.shut w.end w.coming (units_at p f.tagged) (w.begun && first_at p f.tagged) (f.refs p) c) →

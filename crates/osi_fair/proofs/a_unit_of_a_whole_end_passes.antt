@@ -1,26 +1,18 @@
 -- A unit of a whole calling end passes: a CR, whose connection waits then, or a unit of an open connection that is judged, which is right.
 -- For the law on a whole end.
-use Rattle.osi_fair.proofs.Vocabulary.{arith, [], ap, Bool, false, if◌then◌else◌, inl, inr, List, None, Option, refl, set, Some, subst, sym}
-use Rattle.osi_fair.proofs.Vocabulary.{true, ℕ, ◌++◌, ◌∙◌, ◌∷◌, ◌≡◌, ◌⊎◌, eqb-true, AllByRecursion, position_or_len, not, position}
-use Rattle.osi_fair.proofs.Vocabulary.{half_after, is_closing, sent_on, slice_get, ◌&&◌, ◌==◌, ◌||◌, confirm, Connect, destination_of}
-use Rattle.osi_fair.proofs.Vocabulary.{request, Value, Standing, Class, Two, Local, value_at, asked, Live, linked, is_applied, reach_of}
-use Rattle.osi_fair.proofs.Vocabulary.{is_free, is_named, is_open, is_over, is_silent, asked_by, found, Outcome, placed, Traffic, takes}
-use Rattle.osi_fair.proofs.Vocabulary.{uses_source, Connection, Left, Right, Finding, Kept, NotJudged, Half, after_finding, finding_of}
-use Rattle.osi_fair.proofs.Vocabulary.{IsRight, Line, unit as passing, Whole, State, passes_own}
-use Rattle.osi_rules.specs.Sides.{sends}
+use Rattle.osi_fair.proofs.Vocabulary.{[], AllByRecursion, ap, arith, asked, asked_by, Bool, Class, Connect, Connection, destination_of}
+use Rattle.osi_fair.proofs.Vocabulary.{eqb-true, false, Half, inl, inr, is_applied, is_closing, is_free, is_open, is_over, is_silent}
+use Rattle.osi_fair.proofs.Vocabulary.{IsRight, Kept, Left, Line, linked, List, Live, Local, None, not, Option, Outcome, placed, position}
+use Rattle.osi_fair.proofs.Vocabulary.{refl, request, Right, sent_on, set, slice_get, Some, Standing, subst, sym, takes, Traffic, true, Two}
+use Rattle.osi_fair.proofs.Vocabulary.{unit as passing, Value, value_at, Whole, ℕ, ◌&&◌, ◌++◌, ◌==◌, ◌||◌, ◌∙◌, ◌∷◌, ◌≡◌, ◌⊎◌}
 use Rattle.osi_fair.proofs.small_facts_that_many_lemmas_use.{and_false, and_first, and_second, both, differ, first_is, no_list, rest_is}
-use Rattle.osi_fair.proofs.small_facts_that_many_lemmas_use.{set_other, sized_judged, some_same as item_is}
+use Rattle.osi_fair.proofs.small_facts_that_many_lemmas_use.{set_other, some_same as item_is}
 use Rattle.osi_fair.proofs.a_reference_names_one_connection.{not_first}
-use Rattle.osi_fair.proofs.names_stay_apart_though_one_is_lost.{AreNamedApart, each_sound, end_set, only_named, right_asked}
-use Rattle.osi_fair.proofs.a_right_unit_is_not_blamed.{first_there, is_first, named_of}
-use Rattle.osi_fair.proofs.a_unit_is_an_act_of_its_line.{after_is, found_is}
-use Rattle.osi_fair.proofs.an_end_closes_last.{waits_open}
-use Rattle.osi_fair.proofs.an_open_end_is_fair.{open_is_fair}
-use Rattle.osi_fair.proofs.each_connection_has_its_line.{followed_at, Followed, Following, IsAnswer, IsAsking, IsOwned, Row, Tracked}
-use Rattle.osi_fair.proofs.each_connection_has_its_line.{Tracks, Waiting, AreSettled, IsSettled, IsSpare, all_so, asking, asks, closes}
-use Rattle.osi_fair.proofs.each_connection_has_its_line.{is_tracked, is_waiting, no_spare, of, over, put_some, stray, why_before, talks}
-use Rattle.osi_fair.proofs.each_connection_has_its_line.{tracks_hold, tracks_on}
-use Rattle.osi_fair.proofs.what_holds_of_a_line.{PutsAt, Tally}
+use Rattle.osi_fair.proofs.names_stay_apart_though_one_is_lost.{AreNamedApart, each_sound, end_set, right_asked}
+use Rattle.osi_fair.proofs.each_connection_has_its_line.{followed_at, followed_on, Followed, Following, IsAnswer, IsAsking, IsOwned, Row}
+use Rattle.osi_fair.proofs.each_connection_has_its_line.{Tracked}
+use Rattle.osi_fair.proofs.each_connection_has_its_line.{Waiting, AreSettled, IsSettled, IsSpare, all_so, asking, asks}
+use Rattle.osi_fair.proofs.each_connection_has_its_line.{is_tracked, is_waiting, no_spare, of, put_some, stray, why_before}
 use Rattle.osi_fair.proofs.what_holds_of_one_item.{after_add, after_set, first_true}
 use Rattle.osi_fair.proofs.what_lasts_at_the_judge.{lasts_passing}
 use Rattle.osi_fair.proofs.left_selects_no_class.{left_class}
@@ -33,6 +25,8 @@ use Rattle.osi_fair.proofs.while_no_class_is_selected.{after_change, set_there}
 use Rattle.osi_fair.proofs.no_two_open_connections_have_one_peer.{added_still, left_open, one_peer, right_there, there_not_silent}
 use Rattle.osi_fair.proofs.no_two_open_connections_have_one_peer.{tracked_over}
 use Rattle.osi_fair.proofs.a_dt_of_class_zero_passes.{unlike}
+use Rattle.osi_fair.proofs.a_line_since_its_connection_opened.{RightPassed, known as known_here, named_here, right_passes}
+use Rattle.osi_rules.specs.declared.findings.Reach.TheVariants as reach
 
 -- ---- a CR
 
@@ -52,20 +46,7 @@ stays_placed new cs None h i e at busy = added_still cs i new e at
 stays_placed new cs (Some q) h i e at busy =
     set_other cs q i new e (λ same. busy (first_true is_free cs q e h (ap (λ (n : ℕ). slice_get cs n) (sym same) ∙ at))) at
 
--- ---- the same line with other units
-
-pub row_same : (local : Local) (end : State) (coming : List Value) (r peer : ℕ) (line after : Line) → after.link ≡ line.link →
-    after.coming ≡ line.coming → Row local end coming r peer line → Row local end coming r peer after
-row_same local end coming r peer line after link same (asks there x source two early dcs first is) =
-    asks there x source two early dcs (first ∙ ap (λ (l : List Value). early ++ confirm r x ∷ l) (sym same)) (link ∙ is)
-row_same local end coming r peer line after link same (talks l there is all) = talks l there (link ∙ is) (all ∙ sym same)
-row_same local end coming r peer line after link same (closes o there q e is all) = closes o there q e (link ∙ is) (all ∙ sym same)
-row_same local end coming r peer line after link same (over h) = over h
-
--- of a link that is there, the end has not closed the connection
-pub put_open : (r peer limit : ℕ) (x : Tally) (mine theirs : Half) (put : List Value) (link : Option Standing) (l : Standing) →
-    PutsAt r peer limit x mine theirs put link → link ≡ Some l → is_open mine.phase ≡ true
-put_open r peer limit x mine theirs put link l h e = grind arith
+-- ---- what the end has
 
 -- the end has asked for it, or has it open
 abbrev is_held : Option Live → Bool
@@ -199,21 +180,6 @@ module _ (local : Local) (w : Whole) (f : Followed local w) (sane : IsSane w.jud
 
   -- ---- a unit of an open connection passes
 
-  pub name_first : (n p : ℕ) (c : Connection) → slice_get cs p ≡ Some c → is_named Left n c ≡ true →
-      position (is_named Left n) cs ≡ Some p
-  name_first n p c at named =
-      let q = position_or_len (is_named Left n) cs in
-      let first = is_first (is_named Left n) cs p c at named in
-      let (e, there) = first_there (is_named Left n) cs p q c first in
-      let so = first_true (is_named Left n) cs q e first there in
-      grind (arith, only_named Right cs n peers p q c e at there named so)
-
-  named_parts : (a b d : Bool) → (not a && (not b && d)) ≡ true → b ≡ false
-  named_parts a b d h = grind arith
-
-  judged_so : (j : Bool) (g : Finding) → j ≡ true → g ≡ Kept → (if j then g else NotJudged) ≡ Kept
-  judged_so j g h e = grind arith
-
   -- the first of the units with the references of a line is the line's
   pub put_first : (u : Value) (others line spare : List Value) → u ∷ others ≡ line ++ spare → (line ≡ [] → spare ≡ []) →
       (vs : List Value) × ((line ≡ u ∷ vs) × (others ≡ vs ++ spare))
@@ -249,90 +215,63 @@ module _ (local : Local) (w : Whole) (f : Followed local w) (sane : IsSane w.jud
     line_begun : g.line.begun ≡ true
     line_begun = grind (arith, put_some, first_put, leads, is_ours, both, named_by)
 
-    right : IsRight Left c u
-    right =
-        let fair = open_is_fair Left g.r g.peer g.tracks.first g.line g.tracks.acts g.tracks.opened g.tracks.along line_begun
-        (ap (λ (x : Connection). x.is_judged) g.judge ∙ judged) in
-        grind (arith, first_put)
-
-    is_its_name : is_named Left n c ≡ true
-    is_its_name = named_of (destination_of u) n Left c named right.named
+    abbrev l : Line
+    l = g.line
 
     seen : w.judge.course.class_seen ≡ Some Two
-    seen = f.seen p c at tracked (named_parts (is_over Left c) (is_silent c.seen_by_left.phase) (c.seen_by_left.reference == n) is_its_name)
+    seen = f.seen p c at tracked (known_here Left w.judge peers g.r g.peer l g.tracks u still first_put line_begun p c at g.judge)
 
-    abbrev in_use : Bool
-    in_use = uses_source Left cs u
+    passes : RightPassed Left w.judge g.r g.peer l u still p c
+    passes = right_passes Left w.judge peers g.r g.peer l g.tracks u still first_put line_begun p c at g.judge left seen judged
 
-    abbrev finding : Connection → Finding
-    finding x = finding_of Left w.judge.course in_use x u
-
-    kept : finding c ≡ Kept
-    kept = judged_so c.is_judged (found Left w.judge.course in_use c u) judged (right.kept w.judge.course in_use)
+    right : IsRight Left c u
+    right = passes.right
 
     pub own_kept : (takes Left u w.judge).told.finding ≡ Kept
-    own_kept = found_is Left u w.judge n p c (grind (arith, seen, is_its_name, name_first)) named ∙ kept
+    own_kept = passes.kept
 
     abbrev next : Connection
-    next = after_finding Left (finding c) u c
+    next = sent_on Left u c
 
     abbrev after : Whole
     after = record w { put = rest; begun = false; judge = (takes Left u w.judge).state }
 
     next_all : (takes Left u w.judge).state.connections ≡ set cs p next
-    next_all = after_is Left u w.judge n p c (grind (arith, seen, is_its_name, name_first)) named
-
-    next_is : next ≡ sent_on Left u c
-    next_is = ap (λ (x : Finding). after_finding Left x u c) kept
+    next_all = passes.conns
 
     next_judged : next.is_judged ≡ true
-    next_judged = ap (λ (x : Connection). x.is_judged) next_is ∙ sized_judged u (sends Left (half_after u c.left) c) ∙ judged
+    next_judged = passes.judged
 
     abbrev line_after : Line
-    line_after = record g.line {
-      put = still;
-      begun = false;
-      judge = after_finding Left (finding g.line.judge) u g.line.judge;
-    }
-
-    tracks_after : Tracks g.r g.peer line_after
-    tracks_after = tracks_on g.r g.peer g.line line_after (passes_own w.judge.course in_use ∷ []) g.tracks
-        (line_after, (u, first_put, line_begun, refl), refl)
-
-    judge_after : line_after.judge ≡ next
-    judge_after = ap (λ (x : Connection). after_finding Left (finding x) u x) g.judge
+    line_after = record l { put = still; begun = false; judge = next }
 
     next_at : slice_get (takes Left u w.judge).state.connections p ≡ Some next
     next_at = ap (λ (l : List Connection). slice_get l p) next_all ∙ set_there cs p next c at
 
     next_left : next.left.reference ≡ c.left.reference
-    next_left = (own_stays (is_applied (finding c)) w.judge u (reach_of (Some Two) (finding c)) c refl).reference
+    next_left = (own_stays true w.judge u reach.Nothing c (ap is_applied passes.found)).reference
 
     next_right : next.right ≡ c.right
-    next_right = right_then u (is_applied (finding c)) (reach_of (Some Two) (finding c)) c
+    next_right = right_then u true reach.Nothing c
 
     tracked_if : is_open next.left.phase ≡ true → is_tracked next ≡ true
     tracked_if h = grind (arith, both, right, next_right, right_there)
 
     -- as long as the end has its link, it has not closed the connection
     linked_open : (link : Standing) → g.line.link ≡ Some link → is_tracked next ≡ true
-    linked_open link h =
-        let held = tracks_hold g.r g.peer line_after tracks_after (grind (arith, judge_after, next_judged)) in
-        tracked_if (grind (arith, judge_after, put_open))
+    linked_open link h = tracked_if (passes.linked link h)
 
     row_open : w.end.ended ≡ None → (o : Option Live) → value_at g.r w.end.live ≡ o → is_held o ≡ true →
         Row local w.end w.coming g.r g.peer g.line →
         is_tracked next ≡ true
     row_open lasts o e held l = grind (arith, linked_open, differ)
 
-    -- the end puts nothing after it has closed the connection
-    none_by : (l : List Value) → still ≡ l → is_tracked next ≡ false → l ≡ []
-    none_by [] e h = refl
-    none_by (v ∷ vs) e h = grind (arith, differ, tracked_if, judge_after, waits_open, tracks_after, next_judged, no_list)
+    -- the units with its references are spare, if the end has closed the connection
+    shut_if : is_tracked next ≡ false → is_open next.left.phase ≡ false
+    shut_if h = grind (arith, differ, tracked_if)
 
-    -- so the units with its references are spare then
     spare_left : is_tracked next ≡ false → ours g.r g.peer rest ≡ g.spare
-    spare_left h = parts.1.1 ∙ ap (λ (l : List Value). l ++ g.spare) (none_by still refl h)
+    spare_left h = parts.1.1 ∙ ap (λ (l : List Value). l ++ g.spare) (passes.none_left (shut_if h))
 
     item : (i : ℕ) (x : Connection) → slice_get (takes Left u w.judge).state.connections i ≡ Some x →
         ((i ≡ p) × (x ≡ next)) ⊎ ((i ≡ p → ⊥) × (slice_get cs i ≡ Some x))
@@ -348,22 +287,8 @@ module _ (local : Local) (w : Whole) (f : Followed local w) (sane : IsSane w.jud
     -- ---- lines
 
     line_next : Following local rest false after.judge.course.disconnects.strays w.end w.coming next
-    line_next = record {
-      r = g.r;
-      peer = g.peer;
-      line = line_after;
-      left = next_left ∙ g.left;
-      right = ap (λ (x : Half). x.reference) next_right ∙ g.right;
-      tracks = tracks_after;
-      judge = judge_after;
-      spare = g.spare;
-      put_is = parts.1.1;
-      spares = spares_still u g.r g.peer g.spare g.spares;
-      gone = g.gone;
-      begun_is = λ first. refl;
-      row = row_same local w.end w.coming g.r g.peer g.line line_after refl refl g.row;
-      calm = λ j. g.calm judged;
-    }
+    line_next = followed_on g line_after passes.tracks refl refl refl next_left (ap (λ (x : Half). x.reference) next_right) parts.1.1
+        (spares_still u g.r g.peer g.spare g.spares) (λ first. refl) (λ j. judged)
 
     line_other : (i : ℕ) (x : Connection) → (i ≡ p → ⊥) → slice_get cs i ≡ Some x → is_tracked x ≡ true →
         Following local rest false after.judge.course.disconnects.strays w.end w.coming x
@@ -508,9 +433,10 @@ module _ (local : Local) (w : Whole) (f : Followed local w) (sane : IsSane w.jud
         }
 
     live : is_over Left c ≡ false
-    live = not_first (is_over Left c) (not (is_silent c.seen_by_left.phase) && (c.seen_by_left.reference == n)) is_its_name
+    live = not_first (is_over Left c) (not (is_silent c.seen_by_left.phase) && (c.seen_by_left.reference == g.peer))
+        (named_here Left w.judge peers g.r g.peer l g.tracks u still first_put line_begun p c at g.judge)
 
     pub own_peers : AreNamedApart Right after.judge.connections
     own_peers = subst (AreNamedApart Right) (sym next_all) (end_set Right w.judge sane.apart peers p c at next live next_judged judged
-        next_right (ap (λ (x : Connection). x.seen_by_right) next_is ∙ own_seen u c)
-        (ap (λ (x : Connection). x.seen_by_left) next_is ∙ own_sees u c))
+        next_right (own_seen u c)
+        (own_sees u c))

@@ -1,34 +1,32 @@
 -- A unit of the other side passes at the judge of a whole calling end: what it does to the line of its connection, and to no other.
 -- For the law on a whole end.
-use Rattle.osi_fair.proofs.Vocabulary.{[], ap, arith, Bool, false, if◌then◌else◌, inl, inr, is_some, List, None, Option, refl, set, Some}
-use Rattle.osi_fair.proofs.Vocabulary.{subst, sym, true, ℕ, ◌++◌, ◌<◌, ◌∙◌, ◌∷◌, ◌≡◌, ◌≢◌, ◌⊎◌, eqb-true, AllByRecursion, list_any}
-use Rattle.osi_fair.proofs.Vocabulary.{slice_get, ◌&&◌, ◌==◌, ◌||◌, confirm, Connect, destination_of, HasFieldsInRange, request, Value}
-use Rattle.osi_fair.proofs.Vocabulary.{Class, Two, Zero, Local, agreed_size, opened_link, value_at, asked, is_applied, reach_of, is_closed}
-use Rattle.osi_fair.proofs.Vocabulary.{is_closing, is_open, is_over, is_refused, is_silent, uses, class_for, class_of, connection_after}
-use Rattle.osi_fair.proofs.Vocabulary.{course_after, found_on, half_after, Outcome, reached, sent_on, takes, not, uses_source, Connection}
-use Rattle.osi_fair.proofs.Vocabulary.{Course, Right, Finding, Broke, Kept, Reach, Half, Phase, after_finding, finding_of, Line}
-use Rattle.osi_fair.proofs.Vocabulary.{opened_line, unit as passing, Whole, noted, passes_other}
+use Rattle.osi_fair.proofs.Vocabulary.{[], after_finding, agreed_size, ap, arith, asked, Bool, Broke, Class, class_for, class_of, confirm}
+use Rattle.osi_fair.proofs.Vocabulary.{Connect, Connection, connection_after, Course, course_after, destination_of, eqb-true, false}
+use Rattle.osi_fair.proofs.Vocabulary.{Finding, finding_of, found_on, Half, half_after, HasFieldsInRange, if◌then◌else◌, inl, inr}
+use Rattle.osi_fair.proofs.Vocabulary.{is_applied, is_closed, is_closing, is_open, is_over, is_refused, is_silent, is_some, Kept, Left}
+use Rattle.osi_fair.proofs.Vocabulary.{Line, List, list_any, Local, None, not, noted, opened_line, opened_link, Option, Outcome}
+use Rattle.osi_fair.proofs.Vocabulary.{passes_other, Phase, Reach, reach_of, reached, refl, request, Right, sent_on, set, slice_get, Some}
+use Rattle.osi_fair.proofs.Vocabulary.{subst, sym, takes, true, Two, unit as passing, uses, uses_source, Value, value_at, Whole, Zero, ℕ}
+use Rattle.osi_fair.proofs.Vocabulary.{◌&&◌, ◌++◌, ◌<◌, ◌==◌, ◌||◌, ◌∙◌, ◌∷◌, ◌≡◌, ◌≢◌, ◌⊎◌}
 use Rattle.osi_rules.specs.declared.findings.Reach.TheVariants as reach
 use Rattle.osi_rules.specs.declared.findings.Rule.TheVariants as rule
 use Rattle.osi_fair.proofs.small_facts_that_many_lemmas_use.{and_false as none_begun, and_first, and_not, and_second, both, differ, no_two}
 use Rattle.osi_fair.proofs.small_facts_that_many_lemmas_use.{set_other, sized_judged, some_same as item_is}
 use Rattle.osi_fair.proofs.a_reference_names_one_connection.{not_first}
 use Rattle.osi_fair.proofs.names_stay_apart_though_one_is_lost.{AreNamedApart, each_sound, right_set, applied_ends_none}
-use Rattle.osi_fair.proofs.a_request_of_a_whole_end_is_new.{Newer}
+use Rattle.osi_fair.proofs.a_request_of_a_whole_end_is_new.{Newer, rise_all}
 use Rattle.osi_fair.proofs.no_two_open_connections_have_one_peer.{left_open, right_there, there_not_silent, uses_tracked}
 use Rattle.osi_fair.proofs.a_unit_of_a_whole_end_passes.{all_two}
 use Rattle.osi_fair.proofs.each_connection_has_its_line.{why_before, Followed, Following, IsAnswer, IsAsking, IsNoCc, IsOwned, Tracked}
 use Rattle.osi_fair.proofs.each_connection_has_its_line.{AreGiven, AreSettled, Waiting, all_so, asking, asks, is_tracked, is_waiting, of}
-use Rattle.osi_fair.proofs.each_connection_has_its_line.{stray, tracks_on}
+use Rattle.osi_fair.proofs.each_connection_has_its_line.{stray}
 use Rattle.osi_fair.proofs.how_a_connection_opens.{calling_opens}
-use Rattle.osi_fair.proofs.references_of_requests_rise.{Rise, rise_from}
 use Rattle.osi_fair.proofs.what_holds_of_one_item.{none_true}
 use Rattle.osi_fair.proofs.what_keeps_names_apart.{Sound}
 use Rattle.osi_fair.proofs.what_lasts_at_the_judge.{IsCalm, lasts_passing}
 use Rattle.osi_fair.proofs.what_stays_of_each_connection.{judged_was, left_then, right_judged, right_own}
 use Rattle.osi_fair.proofs.what_belongs_to_no_open_connection.{strays_last}
 use Rattle.osi_fair.proofs.what_the_other_side_closes.{IsSane, is_name}
-use Rattle.osi_fair.proofs.which_requests_are_put.{asked_among}
 use Rattle.osi_fair.proofs.which_units_are_for_a_connection.{IsOf, dc_not_ours, is_dc, is_ours, leads_none, named_not, named_so, names}
 use Rattle.osi_fair.proofs.which_units_are_for_a_connection.{picked_more, ours_not, picked_none, those}
 use Rattle.osi_fair.proofs.while_no_class_is_selected.{after_change, set_there}
@@ -36,20 +34,10 @@ use Rattle.osi_fair.proofs.what_becomes_of_a_connection.{Answered, Told, answere
 use Rattle.osi_fair.proofs.what_becomes_of_a_connection.{opens, refused, waits_on}
 use Rattle.osi_fair.proofs.what_has_come_with_one_unit_more.{early_other, following_other, row_add, row_or, spares_on, waiting_dc}
 use Rattle.osi_fair.proofs.what_has_come_with_one_unit_more.{waiting_other}
-use Rattle.osi_fair.proofs.how_a_unit_of_right_passes.{half_started}
+use Rattle.osi_fair.proofs.small_facts_that_many_lemmas_use.{half_started}
 use Rattle.osi_fair.proofs.a_dt_of_class_zero_passes.{unlike}
-use Rattle.osi_fair.proofs.what_is_live_at_a_called_end.{all_add}
-
--- ---- the CRs that are to pass
-
-rise_parts : (n : ℕ) (v : Value) (vs : List Value) → Rise n (asked_among (v ∷ vs)) →
-    ((x : Connect) → v ≡ request x → n < x.source) × Rise n (asked_among vs)
-rise_parts n v vs rise = grind (arith, rise_from)
-
-rise_all : (n : ℕ) (vs : List Value) → Rise n (asked_among vs) →
-    AllByRecursion (λ (v : Value). (x : Connect) → v ≡ request x → n < x.source) vs
-rise_all n [] h = tt
-rise_all n (v ∷ vs) h = let (one, more) = rise_parts n v vs h in (one, rise_all n vs more)
+use Rattle.osi_fair.proofs.small_facts_that_many_lemmas_use.{all_add}
+use Rattle.osi_fair.proofs.a_line_since_its_connection_opened.{tracks_on}
 
 -- ---- phases
 
@@ -215,7 +203,7 @@ module _ (local : Local) (w : Whole) (f : Followed local w) (sane : IsSane w.jud
         line = line;
         left = ap (λ (x : Half). x.reference) nxt_left ∙ g.left;
         right = right ∙ g.right;
-        tracks = tracks_on g.r g.peer g.line line (passes_other w.judge.course in_use v ∷ []) g.tracks
+        tracks = tracks_on Left g.r g.peer g.line line (passes_other w.judge.course in_use v ∷ []) g.tracks
             (line, (ranges, dest, some, refl), refl);
         judge = judge;
         spare = g.spare;

@@ -1,23 +1,21 @@
 -- A unit of a whole calling end passes that is not judged: it changes no connection at the judge, and if it is of a line, that of a
 -- connection which has lost its judgement. For the law on a whole end.
-use Rattle.osi_fair.proofs.Vocabulary.{Right, arith, [], ap, Bool, false, inl, inr, List, None, Option, refl, set, Some, subst, sym, true}
-use Rattle.osi_fair.proofs.Vocabulary.{ℕ, ◌++◌, ◌∙◌, ◌∷◌, ◌≡◌, ◌⊎◌, eq-eqb, AllByRecursion, position, slice_get, ◌&&◌, Connect}
-use Rattle.osi_fair.proofs.Vocabulary.{destination_of, disconnected, request, Value, Class, Two, Local, is_named, is_silent, found, Traffic}
-use Rattle.osi_fair.proofs.Vocabulary.{takes, Connection, Course, Left, Kept, NotJudged, after_finding, finding_of, Line, unit as passing}
-use Rattle.osi_fair.proofs.Vocabulary.{Whole, passes_own}
-use Rattle.osi_fair.proofs.small_facts_that_many_lemmas_use.{and_false, both, name_so, no_list}
-use Rattle.osi_fair.proofs.a_unit_of_a_whole_end_passes.{name_first, own_kept, own_passes, own_peers, put_first, row_same}
-use Rattle.osi_fair.proofs.each_connection_has_its_line.{followed_at, AreSettled, Followed, Following, IsAnswer, IsAsking, IsOwned}
-use Rattle.osi_fair.proofs.each_connection_has_its_line.{IsSpare, all_so, asking, idle_line, is_tracked, of, put_some, stray, tracks_keep}
-use Rattle.osi_fair.proofs.each_connection_has_its_line.{tracks_on, why_before}
+use Rattle.osi_fair.proofs.Vocabulary.{[], AllByRecursion, ap, arith, Bool, Class, Connect, Connection, Course, disconnected, false, inl}
+use Rattle.osi_fair.proofs.Vocabulary.{inr, Kept, Left, List, Local, None, NotJudged, Option, refl, request, Right, slice_get, Some, subst}
+use Rattle.osi_fair.proofs.Vocabulary.{sym, takes, Traffic, true, Two, unit as passing, Value, Whole, ℕ, ◌&&◌, ◌++◌, ◌∙◌, ◌∷◌, ◌≡◌, ◌⊎◌}
+use Rattle.osi_fair.proofs.small_facts_that_many_lemmas_use.{and_false, both, no_list}
+use Rattle.osi_fair.proofs.a_unit_of_a_whole_end_passes.{own_kept, own_passes, own_peers, put_first}
+use Rattle.osi_fair.proofs.each_connection_has_its_line.{followed_at, followed_on, AreSettled, Followed, Following, IsAnswer, IsAsking}
+use Rattle.osi_fair.proofs.each_connection_has_its_line.{IsOwned}
+use Rattle.osi_fair.proofs.each_connection_has_its_line.{IsSpare, all_so, asking, idle_line, is_tracked, of, put_some, stray}
+use Rattle.osi_fair.proofs.each_connection_has_its_line.{why_before}
 use Rattle.osi_fair.proofs.left_selects_no_class.{left_class}
 use Rattle.osi_fair.proofs.names_stay_apart_though_one_is_lost.{AreNamedApart}
-use Rattle.osi_fair.proofs.what_a_line_keeps_though_it_is_lost.{Keeps}
 use Rattle.osi_fair.proofs.what_belongs_to_no_open_connection.{strays_last}
 use Rattle.osi_fair.proofs.what_lasts_at_the_judge.{lasts_passing}
 use Rattle.osi_fair.proofs.what_the_other_side_closes.{IsSane}
 use Rattle.osi_fair.proofs.which_units_are_for_a_connection.{IsOf, picked_first, picked_rest, is_ours, leads, ours, ours_is}
-use Rattle.osi_fair.proofs.while_no_class_is_selected.{set_same}
+use Rattle.osi_fair.proofs.a_line_since_its_connection_opened.{LostPassed, known as known_here, lost_passes}
 
 -- ---- what the judge finds of a unit of a connection that has lost its judgement
 
@@ -25,13 +23,6 @@ use Rattle.osi_fair.proofs.while_no_class_is_selected.{set_same}
 pub record IsIgnored (u : Value) (s : Traffic) : Type 0 where
   pub found : (takes Left u s).told.finding ≡ NotJudged
   pub same : (takes Left u s).state.connections ≡ s.connections
-
-module _ (u : Value) (s : Traffic) (n p : ℕ) (c : Connection) (left : s.course.left_stopped ≡ false)
-    (class : s.course.class_seen ≡ Some Two) (dest : destination_of u ≡ Some n)
-    (first : position (is_named Left n) s.connections ≡ Some p) (at : slice_get s.connections p ≡ Some c)
-    (lost : c.is_judged ≡ false) where
-  pub lost_ignored : IsIgnored u s
-  lost_ignored = grind (arith, set, set_same)
 
 -- ---- at the end
 
@@ -91,42 +82,23 @@ module _ (local : Local) (w : Whole) (f : Followed local w) (sane : IsSane w.jud
       parts : (us : List Value) × ((g.line.put ≡ u ∷ us) × (ours g.r g.peer rest ≡ us ++ g.spare))
       parts = put_first local w f sane peers u (ours g.r g.peer rest) g.line.put g.spare ours_so_far (put_some v vs g.spare g.line.put some)
 
-      abbrev line_after : Line
-      line_after = record g.line {
-        put = parts.0;
-        begun = false;
-        judge = after_finding Left (finding_of Left w.judge.course false g.line.judge u) u g.line.judge;
-      }
+      line_begun : g.line.begun ≡ true
+      line_begun = grind (arith, put_some, leads, is_ours, both)
+
+      seen_so : w.judge.course.class_seen ≡ Some Two
+      seen_so =
+          f.seen p c at tracked (known_here Left w.judge peers g.r g.peer g.line g.tracks u parts.0 parts.1.0 line_begun p c at g.judge)
+
+      passes : LostPassed Left w.judge g.r g.peer g.line u parts.0 p c
+      passes =
+          lost_passes Left w.judge peers g.r g.peer g.line g.tracks u parts.0 parts.1.0 line_begun p c at g.judge left seen_so lost
 
       pop_put : Following local rest false course.disconnects.strays w.end w.coming c
-      pop_put = record {
-        r = g.r;
-        peer = g.peer;
-        line = line_after;
-        left = g.left;
-        right = g.right;
-        tracks = tracks_on g.r g.peer g.line line_after (passes_own w.judge.course false ∷ []) g.tracks
-            (line_after, (u, parts.1.0, grind (arith, put_some, leads, is_ours, both), refl), refl);
-        judge = grind arith;
-        spare = g.spare;
-        put_is = parts.1.1;
-        spares = spares_on g.spare g.spares;
-        gone = g.gone;
-        begun_is = λ first. refl;
-        row = row_same local w.end w.coming g.r g.peer g.line line_after refl refl g.row;
-        calm = g.calm;
-      }
+      pop_put = followed_on g (record g.line { put = parts.0; begun = false; judge = c }) passes.tracks refl refl refl refl refl parts.1.1
+          (spares_on g.spare g.spares) (λ first. refl) (λ j. j)
 
-      -- as it passes it names its connection
       put_ignored : IsIgnored u w.judge
-      put_ignored =
-          let k : Keeps Left g.r g.peer g.line = tracks_keep g.r g.peer g.line g.tracks in
-          let (there, is) = subst (λ (x : Connection). (is_silent x.seen_by_left.phase ≡ false) ×
-          (x.seen_by_left.reference ≡ g.peer)) g.judge
-          (k.seen_so (grind (arith, put_some, leads, is_ours, both))) in
-          let named : is_named Left g.peer c ≡ true = grind (arith, name_so, eq-eqb) in
-          lost_ignored u w.judge g.peer p c left (f.seen p c at tracked there) (ours_is g.r g.peer u mine).named
-          (name_first local w f sane peers g.peer p c at named) at lost
+      put_ignored = record { found = passes.found; same = passes.conns }
 
     pop_by : (l : List Value) → g.line.put ≡ l → Following local rest false course.disconnects.strays w.end w.coming c
     pop_by [] none = pop_spare none

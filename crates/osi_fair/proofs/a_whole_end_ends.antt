@@ -1,8 +1,8 @@
 -- A whole calling end ends: it puts nothing then, and what it has put still passes by its lines.
 -- For the law on a whole end.
-use Rattle.osi_fair.proofs.Vocabulary.{Right, [], arith, Bool, false, is_some, List, None, refl, Some, true, ℕ, ◌++◌, ◌∙◌, ◌∷◌, ◌≡◌, ◌≤◌}
-use Rattle.osi_fair.proofs.Vocabulary.{◌⊎◌, append-nil, AllByRecursion, Value, Local, IsOrderly, in_two, react, user_does, UserCall}
-use Rattle.osi_fair.proofs.Vocabulary.{Connection, put_by, put_for, MayCall, Whole, Connect, request, subst, sym, State, state_is}
+use Rattle.osi_fair.proofs.Vocabulary.{[], AllByRecursion, append-nil, arith, Bool, Connect, Connection, false, in_two, is_some, IsOrderly}
+use Rattle.osi_fair.proofs.Vocabulary.{Left, List, Local, MayCall, None, put_by, put_for, react, refl, request, Right, Some, State}
+use Rattle.osi_fair.proofs.Vocabulary.{state_is, subst, sym, true, user_does, UserCall, Value, Whole, ℕ, ◌++◌, ◌∙◌, ◌∷◌, ◌≡◌, ◌≤◌, ◌⊎◌}
 use Rattle.osi_fair.proofs.small_facts_that_many_lemmas_use.{none_of as no_end}
 use Rattle.osi_fair.proofs.a_request_of_a_whole_end_is_new.{Newer, unit_gives}
 use Rattle.osi_fair.proofs.a_whole_end_makes_a_call.{end_calls, nothing_so, same_up}
@@ -14,9 +14,9 @@ use Rattle.osi_fair.proofs.how_a_calling_end_asks.{Idle, outcome_is, over_calls,
 use Rattle.osi_fair.proofs.references_of_requests_rise.{all_gives, closed_gives, ended_gives, sent_gives}
 use Rattle.osi_fair.proofs.what_a_calling_end_still_has.{OffersTwo, SelectsTwo, all_last, over_not, sent_lasts}
 use Rattle.osi_fair.proofs.names_stay_apart_though_one_is_lost.{AreNamedApart}
-use Rattle.osi_fair.proofs.what_the_other_side_closes.{IsDr, IsSane, closed_by}
+use Rattle.osi_fair.proofs.what_the_other_side_closes.{IsDr, IsSane}
 use Rattle.osi_fair.proofs.which_units_are_for_a_connection.{IsDc, keep, those, names}
-use Rattle.osi_fair.proofs.what_is_live_at_a_called_end.{IsLive}
+use Rattle.osi_fair.proofs.what_is_live_at_an_end.{IsLive, shuts_of}
 
 -- ---- as it ends it puts nothing
 
@@ -82,7 +82,7 @@ module _ (local : Local) (w : Whole) (f : Followed local w) (sane : IsSane w.jud
 
   takes_by : (b : Bool) (u : Value) (later : List Value) → is_some (react u w.end).ended ≡ b → w.coming ≡ u ∷ later →
       ((react u w.end).ended ≡ None → w.end.ended ≡ None) →
-      (w.end.ended ≡ None → IsDr u → (m : ℕ) → closed_by u ≡ Some m → IsLive w.end m ⊎ (w.judge.course.disconnects.strays ≡ true)) →
+      (w.end.ended ≡ None → IsDr u → (m : ℕ) → shuts_of Left u ≡ Some m → IsLive w.end m ⊎ (w.judge.course.disconnects.strays ≡ true)) →
       SelectsTwo w.end u →
       Followed local (after u later)
   takes_by true u later h e was live_dr selects =
@@ -93,7 +93,7 @@ module _ (local : Local) (w : Whole) (f : Followed local w) (sane : IsSane w.jud
   takes_by false u later h e was live_dr selects = search (arith, no_end, end_takes)
 
   pub whole_takes : (u : Value) (later : List Value) → w.coming ≡ u ∷ later → ((react u w.end).ended ≡ None → w.end.ended ≡ None) →
-      (w.end.ended ≡ None → IsDr u → (m : ℕ) → closed_by u ≡ Some m → IsLive w.end m ⊎ (w.judge.course.disconnects.strays ≡ true)) →
+      (w.end.ended ≡ None → IsDr u → (m : ℕ) → shuts_of Left u ≡ Some m → IsLive w.end m ⊎ (w.judge.course.disconnects.strays ≡ true)) →
       SelectsTwo w.end u →
       Followed local (after u later)
   whole_takes u later e was live_dr selects = takes_by (is_some (react u w.end).ended) u later refl e was live_dr selects

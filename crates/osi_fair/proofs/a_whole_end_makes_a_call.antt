@@ -1,39 +1,44 @@
 -- The user of a whole calling end makes a call: what it does to an open connection is acts of its line, and a CR waits to pass.
 -- For the law on a whole end.
-use Rattle.osi_fair.proofs.Vocabulary.{Right, [], ap, arith, Bool, false, if◌then◌else◌, inl, inr, is_some, length, List, None, Option}
-use Rattle.osi_fair.proofs.Vocabulary.{refl, Some, subst, sym, true, ℕ, ◌++◌, ◌+◌, ◌∙◌, ◌∷◌, ◌≡◌, ◌≤◌, eqb-true, append-nil, AllByRecursion}
-use Rattle.osi_fair.proofs.Vocabulary.{slice_get, ◌==◌, confirm, Connect, destination_of, request, Value, longest_tsdu, Standing, with_tsdu}
-use Rattle.osi_fair.proofs.Vocabulary.{Class, Two, Local, push_other, put_other, beyond, push_here, put_here, asks as asks_for, closed_on}
-use Rattle.osi_fair.proofs.Vocabulary.{closed_with, closes_in, ended_by, link_of, open_link, sent, sent_all, proposal, proposal_by}
-use Rattle.osi_fair.proofs.Vocabulary.{IsOrderly, pumped, value_at, breaks, closes_call, connects, sends, sends_all, user_does, UserCall}
-use Rattle.osi_fair.proofs.Vocabulary.{asked, closing, Live, linked, EndReason, Connection, Left, Follows, link_now, Line, put_closing}
-use Rattle.osi_fair.proofs.Vocabulary.{put_sent, put_together, MayCall, Whole, State, ltb-false, ltb-true}
+use Rattle.osi_fair.proofs.Vocabulary.{[], AllByRecursion, ap, append-nil, arith, asked, asks as asks_for, beyond, Bool, breaks, Class}
+use Rattle.osi_fair.proofs.Vocabulary.{closed_on, closed_with, closes_call, closes_in, closing, confirm, Connect, Connection, connects}
+use Rattle.osi_fair.proofs.Vocabulary.{destination_of, ended_by, EndReason, eqb-true, false, Follows, if◌then◌else◌, inl, inr, is_some}
+use Rattle.osi_fair.proofs.Vocabulary.{IsOrderly, length, Line, link_of, linked, List, Live, Local, longest_tsdu, ltb-false, ltb-true}
+use Rattle.osi_fair.proofs.Vocabulary.{MayCall, None, open_link, Option, proposal, proposal_by, pumped, push_here, push_other, put_closing}
+use Rattle.osi_fair.proofs.Vocabulary.{put_here, put_other, put_sent, put_together, refl, request, Right, sends, sends_all, sent, sent_all}
+use Rattle.osi_fair.proofs.Vocabulary.{slice_get, Some, Standing, State, subst, sym, true, Two, user_does, UserCall, Value, value_at, Whole}
+use Rattle.osi_fair.proofs.Vocabulary.{with_tsdu, ℕ, ◌++◌, ◌+◌, ◌==◌, ◌∙◌, ◌∷◌, ◌≡◌, ◌≤◌}
 use Rattle.osi_carrier.specs.Calls.{sent_on}
 use Rattle.osi_fair.proofs.small_facts_that_many_lemmas_use.{all_join, differ}
 use Rattle.osi_fair.proofs.a_carrier_follows_lines.{follows_closed, follows_sent}
 use Rattle.osi_fair.proofs.a_request_of_a_whole_end_is_new.{Newer}
-use Rattle.osi_fair.proofs.no_two_open_connections_have_one_peer.{one_peer}
-use Rattle.osi_fair.proofs.what_a_unit_leaves_at_a_calling_end.{Linked, ends, spare_none, still}
+use Rattle.osi_fair.proofs.what_a_unit_leaves_at_a_calling_end.{Linked, ends, still}
 use Rattle.osi_fair.proofs.calls_of_a_line_join.{follows_together, still_open}
 use Rattle.osi_fair.proofs.each_connection_has_its_line.{followed_at, AreGiven, AreSettled, Followed, Following, IsAnswer, IsAsking}
-use Rattle.osi_fair.proofs.each_connection_has_its_line.{IsOwned, Row, Tracked, all_so, asking, asks, closes, over, is_tracked, talks}
-use Rattle.osi_fair.proofs.each_connection_has_its_line.{tracks_keep, tracks_on}
+use Rattle.osi_fair.proofs.each_connection_has_its_line.{IsOwned, Row, Tracked, all_so, asking, asks, closes, over, talks}
 use Rattle.osi_fair.proofs.how_a_connection_opens.{asked_so}
 use Rattle.osi_fair.proofs.references_of_requests_rise.{all_gives, closed_gives, sent_gives}
 use Rattle.osi_fair.proofs.what_a_calling_end_still_has.{OffersTwo}
-use Rattle.osi_fair.proofs.what_a_whole_end_takes.{Owner, Puts, leads_more, of_line, settled_more, some_more, units_ask}
-use Rattle.osi_fair.proofs.what_a_whole_end_takes.{units_owned, units_settled}
+use Rattle.osi_fair.proofs.what_a_whole_end_takes.{Owner, leads_more, of_line, some_more}
 use Rattle.osi_fair.proofs.names_stay_apart_though_one_is_lost.{AreNamedApart}
 use Rattle.osi_fair.proofs.a_unit_of_a_whole_end_passes.{all_two}
 use Rattle.osi_fair.proofs.what_the_other_side_closes.{IsSane}
-use Rattle.osi_fair.proofs.which_units_are_for_a_connection.{AllOurs, all_ours, each_picked, is_dc, is_ours, last_ours, names, none_ours}
-use Rattle.osi_fair.proofs.which_units_are_for_a_connection.{picked_other, ours, picked_join, those}
+use Rattle.osi_fair.proofs.which_units_are_for_a_connection.{each_picked, is_dc, is_ours, names}
+use Rattle.osi_fair.proofs.which_units_are_for_a_connection.{picked_other, those}
 use Rattle.osi_fair.proofs.a_dr_for_what_is_gone.{after_calling}
 use Rattle.osi_fair.proofs.a_called_end_makes_a_call.{all_none, all_open, open_of, rows_all, rows_sent}
 use Rattle.osi_fair.proofs.a_dt_of_class_zero_passes.{unlike}
+use Rattle.osi_fair.proofs.what_a_whole_end_takes.{line_grows, not_asked_then, open_owner, taken_so}
 
 pub same_up : (n : ℕ) → n ≤ n
 same_up n = omega arith
+
+same_linked : (q r : ℕ) (l k : Standing) → Some (linked q l) ≡ Some (linked r k) → q ≡ r
+same_linked q r l k e = cc
+
+each_so : (P : Value → Type 0) (vs : List Value) → ((v : Value) → P v) → AllByRecursion P vs
+each_so P [] h = tt
+each_so P (v ∷ vs) h = (h v, each_so P vs h)
 
 -- ---- a call on an open connection
 
@@ -42,156 +47,26 @@ module _ (local : Local) (w : Whole) (f : Followed local w) (sane : IsSane w.jud
     (rows : (m : ℕ) → (m ≡ n → ⊥) → value_at m t.live ≡ value_at m w.end.live) (class : t.class ≡ w.end.class)
     (given : t.given ≡ w.end.given) (was : w.end.ended ≡ None) (orderly : IsOrderly w.end) (after_row : Linked n peer t)
     (follows : (r q : ℕ) (l : Standing) → r ≡ n → value_at r w.end.live ≡ Some (linked q l) → Follows r q [] units w.end t) where
-  abbrev cs : List Connection
-  cs = w.judge.connections
+  come_all : (r : ℕ) → r ≡ n → those r w.coming ≡ [] ++ those r w.coming
+  come_all r same = refl
 
-  abbrev after : Whole
-  after = record w { end = t; put = w.put ++ units }
-
-  asked_still : (m : ℕ) → value_at m w.end.live ≡ Some asked → value_at m t.live ≡ Some asked
-  asked_still m row = rows m (grind arith) ∙ row
-
-  new_row : (r q : ℕ) (line : Line) → r ≡ n → q ≡ peer → line.link ≡ link_now (value_at r t.live) → those r w.coming ≡ line.coming →
-      Linked n peer t → Row local t w.coming r q line
-  new_row r q line same same_peer is coming (still l there) =
-      let row = ap (λ (i : ℕ). value_at i t.live) same ∙ there ∙ ap (λ (i : ℕ). Some (linked i l)) (sym same_peer) in
-      talks l row (is ∙ ap link_now row) coming
-  new_row r q line same same_peer is coming (ends o there i (inl h)) =
-      let row = ap (λ (j : ℕ). value_at j t.live) same ∙ there in closes o row i (inl h) (is ∙ ap link_now (row ∙ h)) coming
-  new_row r q line same same_peer is coming (ends o there i (inr h)) =
-      let row = ap (λ (j : ℕ). value_at j t.live) same ∙ there in closes o row i (inr h) (is ∙ ap link_now (row ∙ h)) coming
-
-  record Grown (c : Connection) : Type 0 where
-    grown : Following local (w.put ++ units) w.begun w.judge.course.disconnects.strays t w.coming c
-    own : AllOurs n c.right.reference units
-
-  same_linked : (q r : ℕ) (l k : Standing) → Some (linked q l) ≡ Some (linked r k) → q ≡ r
-  same_linked q r l k e = cc
-
-  grows : (p : ℕ) (c : Connection) → slice_get cs p ≡ Some c → (g : Following local w.put w.begun w.judge.course.disconnects.strays w.end
-      w.coming c) →
-      g.r ≡ n →
-      (l : Standing) → value_at g.r w.end.live ≡ Some (linked g.peer l) → g.line.link ≡ Some l → those g.r w.coming ≡ g.line.coming →
-      Grown c
-  grows p c at g same l r is come_all =
-      let acts = follows g.r g.peer l same r in
-      let same_peer = same_linked g.peer peer l link (sym r ∙ ap (λ (i : ℕ). value_at i w.end.live) same ∙ here) in
-      let line : Line = record g.line { link = link_now (value_at g.r t.live); put = g.line.put ++ units } in
-      let tracks = tracks_on g.r g.peer g.line line acts.acts g.tracks
-      (acts.along Left g.line g.line.coming (is ∙ sym (ap link_now r)) refl) in
-      let own = last_ours g.r g.peer g.line.put units (tracks_keep g.r g.peer line tracks).ours in
-      let none = spare_none g.spare g.line.link l g.gone is in
-      record {
-        grown = record {
-          r = g.r;
-          peer = g.peer;
-          line = line;
-          left = g.left;
-          right = g.right;
-          tracks = tracks;
-          judge = g.judge;
-          spare = [];
-          put_is = picked_join (is_ours g.r g.peer) w.put units
-              ∙ ap (λ (v : List Value). v ++ ours g.r g.peer units) (g.put_is ∙ ap (λ (v : List Value). g.line.put ++ v) none
-              ∙ append-nil g.line.put)
-              ∙ ap (λ (v : List Value). g.line.put ++ v) (all_ours g.r g.peer units own) ∙ sym (append-nil (g.line.put ++ units));
-          spares = tt;
-          gone = λ h. absurd (h refl);
-          begun_is = λ first. g.begun_is (λ h. none) ∙ leads_more w.begun (is_ours g.r g.peer) w.put units f.some;
-          row = new_row g.r g.peer line same same_peer refl come_all after_row;
-          calm = g.calm;
-        };
-        own = subst (λ (i : ℕ). AllOurs n i units) (sym g.right) (subst (λ (i : ℕ). AllOurs i g.peer units) same own);
-      }
-
-  grown_by : (p : ℕ) (c : Connection) → slice_get cs p ≡ Some c →
-      (g : Following local w.put w.begun w.judge.course.disconnects.strays w.end w.coming c) → g.r ≡ n →
-      Row local w.end w.coming g.r g.peer g.line → Grown c
-  grown_by p c at g same (over h) = differ (is_some w.end.ended) h (ap is_some was)
-  grown_by p c at g same (talks l r is come_all) = grows p c at g same l r is come_all
-  grown_by p c at g same (asks r x source two early dcs first is) = grind arith
-  grown_by p c at g same (closes o r i (inl h) gone come_all) = grind arith
-  grown_by p c at g same (closes o r i (inr h) gone come_all) = grind arith
+  linked_then : (q : ℕ) (l : Standing) → value_at n w.end.live ≡ Some (linked q l) → Linked n q t
+  linked_then q l row = subst (λ (i : ℕ). Linked n i t) (same_linked peer q link l (sym here ∙ row)) after_row
 
   owner : Owner w.judge n units
-  owner =
-      let ((p, c, at, tracked, left), two) = f.linked was n peer link here in
-      let g = f.lines p c at tracked in
-      record { p = p; c = c; at = at; tracked = tracked; left = left; own = (grown_by p c at g (sym g.left ∙ left) g.row).own }
+  owner = open_owner local w f t units [] w.coming n peer link was here come_all follows linked_then
 
-  put_other_peer : (p : ℕ) (c : Connection) → slice_get cs p ≡ Some c → is_tracked c ≡ true → (r q : ℕ) → c.right.reference ≡ q →
-      (c.left.reference ≡ n → ⊥) → (o : Owner w.judge n units) → ours r q (w.put ++ units) ≡ ours r q w.put
-  put_other_peer p c at tracked r q right other o = search (arith, picked_join, is_ours, ours, none_ours, one_peer, append-nil)
-
-  row_other : (r q : ℕ) (line : Line) → (r ≡ n → ⊥) → Row local w.end w.coming r q line → Row local t w.coming r q line
-  row_other r q line other (asks there x source two early dcs first is) =
-      asks (rows r other ∙ there) x source two early dcs first is
-  row_other r q line other (over h) = differ (is_some w.end.ended) h (ap is_some was)
-  row_other r q line other (talks l there is come_all) = talks l (rows r other ∙ there) is come_all
-  row_other r q line other (closes o there i h is come_all) = closes o (rows r other ∙ there) i h is come_all
-
-  line_other : (p : ℕ) (c : Connection) → slice_get cs p ≡ Some c → is_tracked c ≡ true →
-      (g : Following local w.put w.begun w.judge.course.disconnects.strays w.end w.coming c) → (g.r ≡ n → ⊥) →
-      Following local (w.put ++ units) w.begun w.judge.course.disconnects.strays t w.coming c
-  line_other p c at tracked g other = followed_at g (put_other_peer p c at tracked g.r g.peer g.right (λ e. other (sym g.left ∙ e)) owner)
-      g.spares (leads_more w.begun (is_ours g.r g.peer) w.put units f.some) (row_other g.r g.peer g.line other g.row)
-
-  line_by : (p : ℕ) (c : Connection) → slice_get cs p ≡ Some c → is_tracked c ≡ true →
-      (g : Following local w.put w.begun w.judge.course.disconnects.strays w.end w.coming c) → (b : Bool) → (g.r == n) ≡ b →
-      Following local (w.put ++ units) w.begun w.judge.course.disconnects.strays t w.coming c
-  line_by p c at tracked g true e = (grown_by p c at g (eqb-true g.r n e) g.row).grown
-  line_by p c at tracked g false e = line_other p c at tracked g (unlike g.r n e)
-
-  linked_by : (m q : ℕ) (l : Standing) (b : Bool) → (m == n) ≡ b → value_at m t.live ≡ Some (linked q l) →
-      Tracked cs m × (t.class ≡ Some Two)
-  linked_by m q l b e h = grind (arith, eqb-true, unlike)
-
-  puts : Puts w.judge w.end n units
-  puts = of_line owner (grind (arith, beyond, ltb-true, ltb-false))
-
-  answer_now : (v : Value) → IsAnswer w.judge.course.loose cs w.end v → IsAnswer w.judge.course.loose cs t v
-  answer_now v h m x e lasts (inl row) = ((h m x e was (inl (grind (arith, eqb-true, unlike)))).0, row)
-  answer_now v h m x e lasts (inr firm) = let (k, row) = h m x e was (inr firm) in (k, asked_still m row)
-
-  called_so : Followed local after
-  called_so = record {
-    lines = λ i c at tracked.
-        let g = f.lines i c at tracked in line_by i c at tracked g (g.r == n) refl;
-    waiting = λ i c at waits.
-        let k = f.waiting i c at waits in
-        record {
-          r = k.r;
-          left = k.left;
-          right = k.right;
-          seen = k.seen;
-          early = k.early;
-          row = λ lasts. asked_still k.r (k.row was);
-        };
-    owned = all_join (λ v. IsOwned w.judge v) w.put units f.owned (units_owned w.judge w.end n units puts);
-    linked = λ lasts m q l h. linked_by m q l (m == n) refl h;
-    answers = all_so (λ v. IsAnswer w.judge.course.loose cs w.end v) (λ v. IsAnswer w.judge.course.loose cs t v) w.coming answer_now
-        f.answers;
-    requests = all_join (λ v. (x : Connect) → v ≡ request x → IsAsking local t w.coming x) w.put units
-        (all_so (λ v. (x : Connect) → v ≡ request x → IsAsking local w.end w.coming x) (λ v. (x : Connect) → v ≡ request x →
-        IsAsking local t w.coming x) w.put
-        (λ v h x e. let k = h x e in record
-        { left = k.left; early = k.early; row = λ lasts. asked_still x.source (k.row was) })
-        f.requests)
-        (units_ask w.judge w.end n units (λ x. IsAsking local t w.coming x) puts);
-    two = f.two;
-    silent = f.silent;
-    zero = f.zero;
-    some = λ h. some_more w.put units (f.some h);
-    few = subst (λ (i : ℕ). AllByRecursion (AreGiven i) w.coming) (sym given) f.few;
-    seen = f.seen;
-    settled = all_join (AreSettled cs (w.put ++ units) t.given) w.put units
-        (all_so (AreSettled cs w.put w.end.given) (AreSettled cs (w.put ++ units) t.given) w.put
-        (settled_more cs w.put units w.end.given t.given (λ r. units_ask w.judge w.end n units (λ x. x.source ≡ r → ⊥) puts)
-        (subst (λ (i : ℕ). w.end.given ≤ i) (sym given) (same_up w.end.given))) f.settled)
-        (units_settled w.judge w.end (w.put ++ units) t.given n units puts (grind (arith, asks, all_join, all_so, units_ask, puts)));
-    lost = f.lost;
-    shut = λ lasts i c at closed row. f.shut was i c at closed (grind (arith, eqb-true, unlike));
-  }
+  called_so : Followed local (record w { end = t; put = w.put ++ units })
+  called_so =
+      taken_so local w f sane peers t units [] w.coming n refl (λ r other. refl) rows (λ two. class ∙ two)
+      (subst (λ (i : ℕ). w.end.given ≤ i) (sym given) (same_up w.end.given)) was (λ early row. absurd (cc (sym here ∙ row)))
+      (λ row. absurd (not_asked_then local w f t units [] w.coming n peer link was here come_all follows linked_then row))
+      (each_so (λ v. (m : ℕ) (x : Connect) → v ≡ confirm m x → m ≡ n → w.judge.course.loose ≡ false →
+      Tracked w.judge.connections n × (value_at n w.end.live ≡ Some asked) → value_at n t.live ≡ Some asked) w.coming
+      (λ v m x e same firm k. absurd (cc (sym here ∙ k.1))))
+      (λ p c at tracked g same. line_grows local w f t units [] w.coming n peer link was here come_all follows linked_then c g same)
+      (λ q l row. let (tracked, two) = f.linked was n peer link here in (tracked, class ∙ two))
+      (of_line owner (record { up = grind (arith, beyond, ltb-true, ltb-false); row = λ h. absurd (cc (sym here ∙ h)) }))
 
 -- ---- a call for a connection
 

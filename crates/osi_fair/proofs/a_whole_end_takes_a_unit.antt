@@ -1,27 +1,30 @@
 -- A whole calling end takes a unit: what it was for its connection is an act of the line, and the other lines stay.
 -- For the law on a whole end.
-use Rattle.osi_fair.proofs.Vocabulary.{Right, arith, [], ap, Bool, false, inl, inr, is_some, List, None, Option, refl, Some, subst, sym}
-use Rattle.osi_fair.proofs.Vocabulary.{true, ℕ, ◌++◌, ◌∙◌, ◌∷◌, ◌≡◌, ◌≤◌, ◌⊎◌, ◌==◌, append-nil, AllByRecursion, slice_get, confirm}
-use Rattle.osi_fair.proofs.Vocabulary.{Connect, disconnected, Value, Standing, Two, Local, changes_one, agreed_size, opened_link, IsOrderly}
-use Rattle.osi_fair.proofs.Vocabulary.{to_connection, value_at, asked, closing, Live, linked, Connection, Left, link_now, ignores, Line}
-use Rattle.osi_fair.proofs.Vocabulary.{put_for, Whole, without_here, State, beyond, ltb-false, ltb-true, outcome, CarrierOutcome, state_is}
+use Rattle.osi_fair.proofs.Vocabulary.{[], agreed_size, AllByRecursion, ap, append-nil, arith, asked, beyond, Bool, CarrierOutcome}
+use Rattle.osi_fair.proofs.Vocabulary.{changes_one, closing, confirm, Connect, Connection, disconnected, false, Follows, ignores, inl, inr}
+use Rattle.osi_fair.proofs.Vocabulary.{is_some, IsOrderly, Left, Line, linked, List, Live, Local, ltb-false, ltb-true, None, opened_link}
+use Rattle.osi_fair.proofs.Vocabulary.{Option, outcome, put_for, refl, Right, slice_get, Some, Standing, State, state_is, subst, sym}
+use Rattle.osi_fair.proofs.Vocabulary.{to_connection, true, Two, Value, value_at, Whole, without_here, ℕ, ◌++◌, ◌==◌, ◌∙◌, ◌∷◌, ◌≡◌, ◌≤◌}
+use Rattle.osi_fair.proofs.Vocabulary.{◌⊎◌}
 use Rattle.std.proofs.lemmas.List.{append_assoc}
 unfoldable use Rattle.osi_carrier.specs.React.{react}
 use Rattle.osi_fair.proofs.small_facts_that_many_lemmas_use.{all_join, differ, number_is as same_number, number_is}
 use Rattle.osi_fair.proofs.a_carrier_follows_lines.{follows_open}
 use Rattle.osi_fair.proofs.a_request_of_a_whole_end_is_new.{unit_gives}
 use Rattle.osi_fair.proofs.each_connection_has_its_line.{followed_at, Followed, Following, IsAnswer, IsNoCc, IsSpare, Row, Tracked, asks}
-use Rattle.osi_fair.proofs.each_connection_has_its_line.{closes, is_tracked, over, talks, tracks_keep, tracks_on}
+use Rattle.osi_fair.proofs.each_connection_has_its_line.{closes, is_tracked, over, talks}
 use Rattle.osi_fair.proofs.what_a_calling_end_still_has.{OffersTwo, SelectsTwo, unit_after}
 use Rattle.osi_fair.proofs.what_a_whole_end_takes.{Puts, leads_more, nothing, of_line, of_none, taken_so}
 use Rattle.osi_fair.proofs.names_stay_apart_though_one_is_lost.{AreNamedApart}
-use Rattle.osi_fair.proofs.what_the_other_side_closes.{IsDr, IsSane, closed_by}
-use Rattle.osi_fair.proofs.which_units_are_for_a_connection.{AllOurs, all_ours, picked_first, is_dc, is_ours, last_ours, named_so, names}
-use Rattle.osi_fair.proofs.which_units_are_for_a_connection.{picked_more, picked_other, ours, ours_is, picked_join, those}
+use Rattle.osi_fair.proofs.what_the_other_side_closes.{IsDr, IsSane}
+use Rattle.osi_fair.proofs.which_units_are_for_a_connection.{picked_first, is_dc, is_ours, named_so, names}
+use Rattle.osi_fair.proofs.which_units_are_for_a_connection.{picked_more, picked_other, ours, ours_is, those}
 use Rattle.osi_fair.proofs.what_a_unit_leaves_at_a_calling_end.{Asks, Closes, Linked, Named, asked_so, dr_closes, drops, early_dc}
-use Rattle.osi_fair.proofs.what_a_unit_leaves_at_a_calling_end.{early_parts, ends, linked_so, named_by, no_answer, opened, or_strays}
-use Rattle.osi_fair.proofs.what_a_unit_leaves_at_a_calling_end.{asked_puts, spare_none, stays, still, unknown_so}
-use Rattle.osi_fair.proofs.what_is_live_at_a_called_end.{IsLive}
+use Rattle.osi_fair.proofs.what_a_unit_leaves_at_a_calling_end.{early_parts, linked_so, named_by, no_answer, opened, or_strays}
+use Rattle.osi_fair.proofs.what_a_unit_leaves_at_a_calling_end.{asked_puts, stays, unknown_so}
+use Rattle.osi_fair.proofs.what_is_live_at_an_end.{IsLive, shuts_of}
+use Rattle.osi_fair.proofs.a_line_since_its_connection_opened.{tracks_on}
+use Rattle.osi_fair.proofs.what_a_whole_end_takes.{dc_still, dc_waits, line_grows, not_asked_then, open_owner, other_n}
 
 none_first : (xs ys : List Value) → xs ++ ys ≡ [] → xs ≡ []
 none_first [] ys e = refl
@@ -30,7 +33,8 @@ none_first (x ∷ xs) ys e = absurd (cc e)
 module _ (local : Local) (w : Whole) (f : Followed local w) (sane : IsSane w.judge) (peers : AreNamedApart Right w.judge.connections)
     (offers : OffersTwo w.end) (orderly : IsOrderly w.end) (local_is : w.end.local ≡ local) (was : w.end.ended ≡ None) (u : Value)
     (later : List Value) (come : w.coming ≡ u ∷ later) (lasts : (react u w.end).ended ≡ None)
-    (live_dr : IsDr u → (m : ℕ) → closed_by u ≡ Some m → IsLive w.end m ⊎ (w.judge.course.disconnects.strays ≡ true)) (k : Named u w.end)
+    (live_dr : IsDr u → (m : ℕ) → shuts_of Left u ≡ Some m →
+    IsLive w.end m ⊎ (w.judge.course.disconnects.strays ≡ true)) (k : Named u w.end)
     (selects : SelectsTwo w.end u) where
   abbrev cs : List Connection
   cs = w.judge.connections
@@ -84,7 +88,11 @@ module _ (local : Local) (w : Whole) (f : Followed local w) (sane : IsSane w.jud
   AskedBefore = value_at n t.live ≡ Some asked → value_at n s.live ≡ Some asked
 
   all : AskedBefore → Mine → MineLinked → Puts w.judge s n units → Followed local after
-  all asked_was mine linked_mine owner = search (arith, taken_so, rows, unit_after u s offers selects, unit_gives, asked_dc)
+  all asked_was mine linked_mine owner =
+      taken_so local w f sane peers t units (u ∷ []) later n come (other_n local w f sane peers t units u later n come k.dest was asked_dc)
+      rows (unit_after u s offers selects).class (unit_gives u s) was
+      (dc_waits local w f sane peers t units u later n come k.dest was asked_dc) asked_was
+      (dc_still local w f sane peers t units u later n come k.dest was asked_dc) mine linked_mine owner
 
   not_asked : (o : Option Live) → value_at n t.live ≡ o → (o ≡ Some asked → ⊥) → AskedBefore
   not_asked o there none h = absurd (none (sym there ∙ h))
@@ -108,7 +116,7 @@ module _ (local : Local) (w : Whole) (f : Followed local w) (sane : IsSane w.jud
         line = line;
         left = g.left;
         right = g.right;
-        tracks = tracks_on g.r g.peer g.line line (ignores (u ∷ []) ∷ []) g.tracks (line, (gone, coming, refl), refl);
+        tracks = tracks_on Left g.r g.peer g.line line (ignores (u ∷ []) ∷ []) g.tracks (line, (gone, coming, refl), refl);
         judge = g.judge;
         spare = g.spare ++ more;
         put_is = puts ∙ ap (λ (l : List Value). l ++ more) g.put_is ∙ append_assoc g.line.put g.spare more;
@@ -258,84 +266,19 @@ module _ (local : Local) (w : Whole) (f : Followed local w) (sane : IsSane w.jud
 
   -- ---- an open connection
 
-  record Grown (c : Connection) : Type 0 where
-    grown : Following local (w.put ++ units) w.begun strays t later c
-    own : AllOurs n c.right.reference units
-
-  new_row : (r peer : ℕ) (line : Line) → r ≡ n → line.link ≡ link_now (value_at r t.live) → those r later ≡ line.coming → Linked n peer t →
-      Row local t later r peer line
-  new_row r peer line same link coming (still l there) =
-      let here = ap (λ (i : ℕ). value_at i t.live) same ∙ there in talks l here (link ∙ ap link_now here) coming
-  new_row r peer line same link coming (ends o there q (inl h)) =
-      let here = ap (λ (i : ℕ). value_at i t.live) same ∙ there in
-      closes o here q (inl h) (link ∙ ap link_now (here ∙ h)) coming
-  new_row r peer line same link coming (ends o there q (inr h)) =
-      let here = ap (λ (i : ℕ). value_at i t.live) same ∙ there in
-      closes o here q (inr h) (link ∙ ap link_now (here ∙ h)) coming
-
-  grows : (peer : ℕ) (link : Standing) → value_at n s.live ≡ Some (linked peer link) → s.class ≡ Some Two → (p : ℕ) (c : Connection) →
-      slice_get cs p ≡ Some c → (g : Following local w.put w.begun strays s w.coming c) → g.r ≡ n → (l : Standing) →
-      value_at g.r s.live ≡ Some (linked g.peer l) → g.line.link ≡ Some l → those g.r w.coming ≡ g.line.coming → Grown c
-  grows peer link here two p c at g same l r is come_all =
-      let dest = k.dest ∙ ap (λ (i : ℕ). Some i) (sym same) in
-      let follows = follows_open u s g.r g.peer l orderly.rise two was r dest in
-      let coming = sym come_all ∙ first_n g.r same in
-      let line : Line = record g.line {
-        link = link_now (value_at g.r t.live);
-        put = g.line.put ++ units;
-        coming = those n later;
-      } in
-      let tracks = tracks_on g.r g.peer g.line line follows.acts g.tracks
-      (follows.along Left g.line (those n later) (is ∙ sym (ap link_now r)) coming) in
-      let own = last_ours g.r g.peer g.line.put units (tracks_keep g.r g.peer line tracks).ours in
-      let none = spare_none g.spare g.line.link l g.gone is in
-      let is_linked = linked_so n g.peer l u s t (ap (λ (i : ℕ). value_at i s.live) (sym same) ∙ r) two orderly.rise
-      (t_at _ (ap (λ (i : ℕ). value_at i s.live) (sym same) ∙ r)) in
-      record {
-        grown = record {
-          r = g.r;
-          peer = g.peer;
-          line = line;
-          left = g.left;
-          right = g.right;
-          tracks = tracks;
-          judge = g.judge;
-          spare = [];
-          put_is = picked_join (is_ours g.r g.peer) w.put units
-              ∙ ap (λ (v : List Value). v ++ ours g.r g.peer units) (g.put_is ∙ ap (λ (v : List Value). g.line.put ++ v) none
-              ∙ append-nil g.line.put)
-              ∙ ap (λ (v : List Value). g.line.put ++ v) (all_ours g.r g.peer units own) ∙ sym (append-nil (g.line.put ++ units));
-          spares = tt;
-          gone = λ h. absurd (h refl);
-          begun_is = λ first. g.begun_is (λ h. none) ∙ leads_more w.begun (is_ours g.r g.peer) w.put units f.some;
-          row = new_row g.r g.peer line same refl (grind (arith, those)) is_linked;
-          calm = λ j. (subst (AllByRecursion IsNoCc) coming (g.calm j)).1;
-        };
-        own = subst (λ (i : ℕ). AllOurs n i units) (sym g.right) (subst (λ (i : ℕ). AllOurs i g.peer units) same own);
-      }
-
-  grown_by : (peer : ℕ) (link : Standing) → value_at n s.live ≡ Some (linked peer link) → s.class ≡ Some Two → (p : ℕ) (c : Connection) →
-      slice_get cs p ≡ Some c → (g : Following local w.put w.begun strays s w.coming c) → g.r ≡ n →
-      Row local s w.coming g.r g.peer g.line → Grown c
-  grown_by peer link here two p c at g same (over h) = differ (is_some s.ended) h (ap is_some was)
-  grown_by peer link here two p c at g same (talks l r is come_all) = grows peer link here two p c at g same l r is come_all
-  grown_by peer link here two p c at g same (asks r x source class early dcs first is) = grind arith
-  grown_by peer link here two p c at g same (closes o r i (inl h) gone come_all) = grind arith
-  grown_by peer link here two p c at g same (closes o r i (inr h) gone come_all) = grind arith
-
-  -- an open connection awaits no CC after it
-  still_open : {peer : ℕ} → Linked n peer t → AskedBefore
-  still_open h = grind (arith, not_asked)
-
   at_linked : (peer : ℕ) (link : Standing) → value_at n s.live ≡ Some (linked peer link) → Followed local after
   at_linked peer link here =
-      let ((p, c, at, tracked, left), two) = f.linked was n peer link here in
-      let g = f.lines p c at tracked in
-      let mine = grown_by peer link here two p c at g (sym g.left ∙ left) g.row in
-      all (still_open (linked_so n peer link u s t here two orderly.rise (t_at (Some (linked peer link)) here)))
-      (λ i x there is_there h same. (grown_by peer link here two i x there h same h.row).grown)
-      (λ q l h. ((p, c, at, tracked, left), grind (arith, unit_after)))
-      (of_line (record { p = p; c = c; at = at; tracked = tracked; left = left; own = mine.own })
+      let (tracked, two) = f.linked was n peer link here in
+      let come_n : (r : ℕ) → r ≡ n → those r w.coming ≡ u ∷ those r later =
+      λ r same. first_n r same ∙ ap (λ (i : ℕ). u ∷ those i later) (sym same) in
+      let follows : (r q : ℕ) (l : Standing) → r ≡ n → value_at r s.live ≡ Some (linked q l) → Follows r q (u ∷ []) units s t =
+      λ r q l same row. follows_open u s r q l orderly.rise two was row (k.dest ∙ ap (λ (i : ℕ). Some i) (sym same)) in
+      let linked_then : (q : ℕ) (l : Standing) → value_at n s.live ≡ Some (linked q l) → Linked n q t =
+      λ q l row. linked_so n q l u s t row two orderly.rise (t_at (Some (linked q l)) row) in
+      all (λ h. absurd (not_asked_then local w f t units (u ∷ []) later n peer link was here come_n follows linked_then h))
+      (λ i x there is_there g same. line_grows local w f t units (u ∷ []) later n peer link was here come_n follows linked_then x g same)
+      (λ q l h. (tracked, (unit_after u s offers selects).class two))
+      (of_line (open_owner local w f t units (u ∷ []) later n peer link was here come_n follows linked_then)
       (record { up = grind (arith, beyond, ltb-true, ltb-false); row = λ h. absurd (cc (sym here ∙ h)) }))
 
   by_row : (o : Option Live) → value_at n s.live ≡ o → Followed local after
@@ -344,7 +287,8 @@ module _ (local : Local) (w : Whole) (f : Followed local w) (sane : IsSane w.jud
 pub end_takes : (local : Local) (w : Whole) → Followed local w → IsSane w.judge → AreNamedApart Right w.judge.connections →
     OffersTwo w.end →
     IsOrderly w.end → w.end.local ≡ local → w.end.ended ≡ None → (u : Value) (later : List Value) → w.coming ≡ u ∷ later →
-    (react u w.end).ended ≡ None → (IsDr u → (m : ℕ) → closed_by u ≡ Some m → IsLive w.end m ⊎ (w.judge.course.disconnects.strays ≡ true)) →
+    (react u w.end).ended ≡ None → (IsDr u → (m : ℕ) → shuts_of Left u ≡ Some m →
+    IsLive w.end m ⊎ (w.judge.course.disconnects.strays ≡ true)) →
     SelectsTwo w.end u →
     Followed local (record w { end = react u w.end; put = w.put ++ put_for u w.end; coming = later })
 end_takes local w f sane peers offers orderly local_is was u later come lasts live_dr selects =

@@ -1,9 +1,7 @@
 -- A side that has broken no rule has broken none after a unit of the other side, or after one of its own that breaks none; and what
 -- is noted of a unit. For the laws on whole ends.
-use Rattle.osi_fair.proofs.Vocabulary.{false, ◌∙◌, ◌≡◌, ◌⊎◌, Value, breaks_are_noted, has_erred, is_break, noted, other, takes, Course}
-use Rattle.osi_fair.proofs.Vocabulary.{Direction, Finding, Kept, NotJudged, TooMany, Traffic as State, refused, arith}
-use Rattle.osi_rules.specs.declared.findings.Reach.TheVariants as reach
-use Rattle.osi_rules.specs.declared.findings.Rule.TheVariants as rule
+use Rattle.osi_fair.proofs.Vocabulary.{arith, breaks_are_noted, Course, Direction, false, Finding, has_erred, is_break, Kept, noted}
+use Rattle.osi_fair.proofs.Vocabulary.{NotJudged, other, refused, takes, TooMany, Traffic as State, Value, ◌∙◌, ◌≡◌, ◌⊎◌}
 
 -- ---- what is noted of a unit
 
@@ -30,6 +28,3 @@ rubbish_fine d e s h = (grind arith) ∙ h
 -- a finding that blames nobody
 pub mild_not : (f : Finding) → (f ≡ Kept) ⊎ ((f ≡ TooMany) ⊎ (f ≡ NotJudged)) → is_break f ≡ false
 mild_not f h = grind arith
-
-pub right_not : (f : Finding) → (f ≡ Kept) ⊎ (f ≡ NotJudged) → is_break f ≡ false
-right_not f h = grind arith

@@ -1,11 +1,11 @@
 -- An open end of class 2 is fair, over every list of what happens to it and to the judge: at left, and then at right, which is left
 -- with the sides of the judge exchanged.
 -- For the law of that name.
-use Rattle.osi_fair.proofs.Vocabulary.{Disconnects, false}
-use Rattle.osi_fair.proofs.Vocabulary.{[], ap, arith, Bool, inl, inr, List, subst, sym, true, ℕ, ◌-◌, ◌∙◌, ◌∷◌, ◌≡◌, ◌⊎◌, Value, fresh_two}
-use Rattle.osi_fair.proofs.Vocabulary.{two_standing, is_open, other, found, sent_on, Connection, Course, Direction, Left, Right, Finding}
-use Rattle.osi_fair.proofs.Vocabulary.{Broke, Kept, Half, Act, Acts, ActsAlong, after_finding, answers, begins_elsewhere}
-use Rattle.osi_fair.proofs.Vocabulary.{closes_with as closes, ignores, IsFair, IsOpened, IsRightNow, Line, moves}
+use Rattle.osi_fair.proofs.Vocabulary.{[], Act, Acts, ActsAlong, after_finding, answers, ap, arith, begins_elsewhere, Bool, Broke}
+use Rattle.osi_fair.proofs.Vocabulary.{closes_with as closes, Connection, Course, Direction, Disconnects, false, Finding, finding_of, found}
+use Rattle.osi_fair.proofs.Vocabulary.{fresh_two, Half, ignores, inl, inr, is_open, IsFair, IsOpened, IsRightNow, Kept, Left, Line, List}
+use Rattle.osi_fair.proofs.Vocabulary.{moves, other, Right, sent_on, subst, sym, true, two_standing, Value, ℕ, ◌-◌, ◌∙◌, ◌∷◌, ◌≡◌}
+use Rattle.osi_fair.proofs.Vocabulary.{◌⊎◌}
 use Rattle.osi_rules.specs.declared.findings.Rule.TheVariants as rule
 use Rattle.osi_fair.specs.Lines.{begins_own, passes_own, begins_other, passes_other}
 use Rattle.osi_fair.proofs.what_holds_of_a_line.{Holds, Tally, is_there}
@@ -13,12 +13,11 @@ use Rattle.osi_fair.proofs.what_an_end_does_to_a_line.{moves_hold, closes_hold, 
 use Rattle.osi_fair.proofs.what_passes_of_an_end.{begins_other_holds, first_is as line_first, is_kept, passes_own_holds}
 use Rattle.osi_fair.proofs.small_facts_that_many_lemmas_use.{judged_same}
 use Rattle.osi_fair.proofs.what_each_unit_of_the_other_side_does.{passes_other_holds}
-use Rattle.osi_fair.proofs.Vocabulary.{if◌then◌else◌, finding_of}
 use Rattle.osi_fair.proofs.what_begins_to_pass_is_right.{first_right}
 
 -- ---- a connection that is judged was judged before
 
-sent_judged : (d : Direction) (v : Value) (c : Connection) → (sent_on d v c).is_judged ≡ c.is_judged
+pub sent_judged : (d : Direction) (v : Value) (c : Connection) → (sent_on d v c).is_judged ≡ c.is_judged
 sent_judged d v c = grind arith
 
 was_judged : (d : Direction) (f : Finding) (v : Value) (c : Connection) → (after_finding d f v c).is_judged ≡ true → c.is_judged ≡ true

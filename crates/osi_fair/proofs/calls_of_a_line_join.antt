@@ -1,6 +1,6 @@
 -- What follows the acts of a line twice, one after the other, follows them; so TSDUs that are sent together are acts too.
 -- For the law on carriers and their lines.
-use Rattle.osi_fair.proofs.Vocabulary.{arith, [], append_assoc, if◌then◌else◌, length, List, Option, refl, Some, ℕ, ◌++◌, ◌∙◌, ◌∷◌, ◌≡◌}
+use Rattle.osi_fair.proofs.Vocabulary.{arith, [], append_assoc, length, List, Option, refl, Some, ℕ, ◌++◌, ◌∙◌, ◌∷◌, ◌≡◌}
 use Rattle.osi_fair.proofs.Vocabulary.{◌≤◌, flat_map-append, append-nil, AllByRecursion, Value, longest_tsdu, Standing, with_tsdu, put_here}
 use Rattle.osi_fair.proofs.Vocabulary.{open_link, sent, sent_all, pumped, value_at, Follows, link_now, Line, put_sent, put_together, State}
 use Rattle.osi_fair.proofs.a_carrier_follows_lines.{follows_sent, open_is}

@@ -1,7 +1,6 @@
 -- Class 0 stays selected at the judge, whatever passes.
 -- For the law on a whole end.
 use Rattle.osi_fair.proofs.Vocabulary.{Some, ◌≡◌, Zero, Traffic as State, passes, Passing, arith}
-use Rattle.osi_rules.specs.declared.findings.Rule.TheVariants as rule
 use Rattle.osi_fair.proofs.left_selects_no_class.{left_class}
 pub use Rattle.osi_fair.proofs.one_request_waits.{reached_class}
 

@@ -1,39 +1,17 @@
 -- Each connection of a calling end that is open at the judge has its line: what that says, and that it stays so as packets begin.
 -- For the law on a whole end.
-use Rattle.osi_fair.proofs.Vocabulary.{arith, [], ap, Bool, false, is_some, List, map, None, Option, option_map, refl, Some, subst, sym}
-use Rattle.osi_fair.proofs.Vocabulary.{true, ℕ, ◌++◌, ◌∙◌, ◌∷◌, ◌≡◌, ◌≢◌, ◌≤◌, ◌⊎◌, slice_get-map, AllByRecursion, slice_get, ◌&&◌, ◌==◌}
-use Rattle.osi_fair.proofs.Vocabulary.{◌||◌, window_units, confirm, Connect, destination_of, disconnected, request, Value, Standing, Class}
-use Rattle.osi_fair.proofs.Vocabulary.{Two, Local, agreed_size, opened_link, value_at, asked, closing, Live, linked, begins, is_closing}
-use Rattle.osi_fair.proofs.Vocabulary.{is_open, is_silent, asked_by, packet_begins, silent_half, Traffic, Connection, Direction, Left}
-use Rattle.osi_fair.proofs.Vocabulary.{Right, Act, ActsAlong, begins_elsewhere, IsOpened, Line, opened_half, Whole, State}
+use Rattle.osi_fair.proofs.Vocabulary.{[], agreed_size, AllByRecursion, ap, arith, asked, asked_by, begins, begins_elsewhere, Bool, Class}
+use Rattle.osi_fair.proofs.Vocabulary.{closing, confirm, Connect, Connection, destination_of, Direction, disconnected, false, is_closing}
+use Rattle.osi_fair.proofs.Vocabulary.{is_open, is_silent, is_some, Left, Line, linked, List, Live, Local, map, None, opened_half}
+use Rattle.osi_fair.proofs.Vocabulary.{opened_link, Option, option_map, packet_begins, refl, request, Right, silent_half, slice_get}
+use Rattle.osi_fair.proofs.Vocabulary.{slice_get-map, Some, Standing, State, subst, sym, Traffic, true, Two, Value, value_at, Whole}
+use Rattle.osi_fair.proofs.Vocabulary.{window_units, ℕ, ◌&&◌, ◌++◌, ◌==◌, ◌||◌, ◌∙◌, ◌∷◌, ◌≡◌, ◌≢◌, ◌≤◌, ◌⊎◌}
 use Rattle.osi_fair.specs.Lines.{begins_other, begins_own}
 use Rattle.osi_fair.proofs.small_facts_that_many_lemmas_use.{and_first, begins_judged, begun_left, begun_right, course_class, is_false}
 use Rattle.osi_fair.proofs.small_facts_that_many_lemmas_use.{no_list}
-use Rattle.osi_fair.proofs.an_end_closes_last.{left_holds}
-use Rattle.osi_fair.proofs.what_holds_of_a_line.{Holds}
 use Rattle.osi_fair.proofs.what_holds_of_one_item.{HoldsOfEach, after_map}
-use Rattle.osi_fair.proofs.what_a_line_keeps_though_it_is_lost.{Keeps, line_keeps}
-use Rattle.osi_fair.proofs.what_is_put_before_the_cc_passes.{acts_join}
-use Rattle.osi_fair.proofs.which_units_are_for_a_connection.{IsDc, IsOf, close_waits, is_dc, is_ours, leads, ours, those, picked_first}
-
--- ---- a line since its connection was opened
-
-pub record Tracks (r peer : ℕ) (line : Line) : Type 0 where
-  pub first : Line
-  pub acts : List Act
-  pub opened : IsOpened Left r peer first
-  pub along : ActsAlong Left r peer first acts line
-
-pub tracks_on : (r peer : ℕ) (line after : Line) (more : List Act) → Tracks r peer line → ActsAlong Left r peer line more after →
-    Tracks r peer after
-tracks_on r peer line after more t h = grind (arith, acts_join Left r peer t.acts more t.first line after t.along h)
-
-pub tracks_hold : (r peer : ℕ) (line : Line) → Tracks r peer line → line.judge.is_judged ≡ true → Holds r peer line
-tracks_hold r peer line t judged = left_holds r peer t.first line t.acts t.opened t.along judged
-
--- be its connection judged or not
-pub tracks_keep : (r peer : ℕ) (line : Line) → Tracks r peer line → Keeps Left r peer line
-tracks_keep r peer line t = line_keeps Left r peer t.first line t.acts t.opened t.along
+use Rattle.osi_fair.proofs.which_units_are_for_a_connection.{IsDc, IsOf, is_dc, is_ours, leads, ours, those, picked_first}
+use Rattle.osi_fair.proofs.a_line_since_its_connection_opened.{Tracks, close_waits, tracks_keep, tracks_on}
 
 -- ---- the connections at the judge
 
@@ -85,7 +63,7 @@ pub record Following (local : Local) (put : List Value) (begun strays : Bool) (e
   pub line : Line
   pub left : c.left.reference ≡ r
   pub right : c.right.reference ≡ peer
-  pub tracks : Tracks r peer line
+  pub tracks : Tracks Left r peer line
   pub judge : line.judge ≡ c
   pub spare : List Value
   pub put_is : ours r peer put ≡ line.put ++ spare
@@ -118,6 +96,39 @@ followed_at g same spares begun row = record {
   row = row;
   calm = g.calm;
 }
+
+row_same : (local : Local) (end : State) (coming : List Value) (r peer : ℕ) (line after : Line) → after.link ≡ line.link →
+    after.coming ≡ line.coming → Row local end coming r peer line → Row local end coming r peer after
+row_same local end coming r peer line after link same (asks there x source two early dcs first is) =
+    asks there x source two early dcs (first ∙ ap (λ (l : List Value). early ++ confirm r x ∷ l) (sym same)) (link ∙ is)
+row_same local end coming r peer line after link same (talks l there is all) = talks l there (link ∙ is) (all ∙ sym same)
+row_same local end coming r peer line after link same (closes o there q e is all) = closes o there q e (link ∙ is) (all ∙ sym same)
+row_same local end coming r peer line after link same (over h) = over h
+
+-- and if its line goes on, with the same link and the same units that have come
+pub followed_on : {local : Local} {put puts : List Value} {b a s t : Bool} {end : State} {coming : List Value} {c e : Connection}
+    (g : Following local put b s end coming c) (line : Line) → Tracks Left g.r g.peer line → line.judge ≡ e → line.link ≡ g.line.link →
+    line.coming ≡ g.line.coming → e.left.reference ≡ c.left.reference → e.right.reference ≡ c.right.reference →
+    ours g.r g.peer puts ≡ line.put ++ g.spare → AllByRecursion (IsSpare t g.r g.peer) g.spare →
+    (IsFirst line.put g.spare → line.begun ≡ (a && leads (is_ours g.r g.peer) puts)) → (e.is_judged ≡ true → c.is_judged ≡ true) →
+    Following local puts a t end coming e
+followed_on {local} {put} {puts} {b} {a} {s} {t} {end} {coming} {c} {e} g line tracks judge link same left right put_is spares begun was =
+    record {
+      r = g.r;
+      peer = g.peer;
+      line = line;
+      left = left ∙ g.left;
+      right = right ∙ g.right;
+      tracks = tracks;
+      judge = judge;
+      spare = g.spare;
+      put_is = put_is;
+      spares = spares;
+      gone = λ some. link ∙ g.gone some;
+      begun_is = begun;
+      row = row_same local end coming g.r g.peer g.line line link same g.row;
+      calm = λ j. subst (AllByRecursion IsNoCc) (sym same) (g.calm (was j));
+    }
 
 -- a connection whose CR waits for its answer
 pub record Waiting (local : Local) (end : State) (coming : List Value) (c : Connection) : Type 0 where
@@ -191,19 +202,12 @@ pub record Followed (local : Local) (w : Whole) : Type 0 where
 
 -- ---- a packet begins
 
-begun_row : (local : Local) (end : State) (coming : List Value) (r peer : ℕ) (line : Line) (b : Bool) (c : Connection) →
-    Row local end coming r peer line → Row local end coming r peer (record line { begun = b; judge = c })
-begun_row local end coming r peer line b c (asks there x source two early dcs first link) = asks there x source two early dcs first link
-begun_row local end coming r peer line b c (talks link there is same) = talks link there is same
-begun_row local end coming r peer line b c (closes o there q e is same) = closes o there q e is same
-begun_row local end coming r peer line b c (over h) = over h
-
 pub put_some : (v : Value) (vs spare put : List Value) → put ≡ v ∷ vs → IsFirst put spare
 put_some v vs spare put e h = absurd (no_list v vs (sym e ∙ h))
 
 -- a line that has put nothing has begun nothing
-pub idle_line : (r peer : ℕ) (line : Line) → Tracks r peer line → line.put ≡ [] → line.begun ≡ false
-idle_line r peer line t e = is_false line.begun (λ h. (tracks_keep r peer line t).some h e)
+pub idle_line : (r peer : ℕ) (line : Line) → Tracks Left r peer line → line.put ≡ [] → line.begun ≡ false
+idle_line r peer line t e = is_false line.begun (λ h. (tracks_keep Left r peer line t).some h e)
 
 not_begun : (local : Local) (put : List Value) (strays : Bool) (end : State) (coming : List Value) (c : Connection)
     (f : Following local put false strays end coming c) (l : List Value) → f.line.put ≡ l → f.line.begun ≡ false
@@ -217,44 +221,18 @@ module _ (local : Local) (put : List Value) (strays : Bool) (end : State) (comin
       Following local put true strays end coming (begins Left c)
   elsewhere idle none =
       let after = record f.line { judge = begins Left f.line.judge } in
-      record {
-        r = f.r;
-        peer = f.peer;
-        line = after;
-        left = f.left;
-        right = f.right;
-        tracks = tracks_on f.r f.peer f.line after (begins_elsewhere ∷ []) f.tracks (after, (idle, refl), refl);
-        judge = ap (begins Left) f.judge;
-        spare = f.spare;
-        put_is = f.put_is;
-        spares = f.spares;
-        gone = f.gone;
-        begun_is = λ first. idle ∙ sym (none first);
-        row = begun_row local end coming f.r f.peer f.line f.line.begun (begins Left f.line.judge) f.row;
-        calm = λ j. f.calm (sym (begins_judged Left c) ∙ j);
-      }
+      followed_on f after (tracks_on Left f.r f.peer f.line after (begins_elsewhere ∷ []) f.tracks (after, (idle, refl), refl))
+      (ap (begins Left) f.judge) refl refl refl refl f.put_is f.spares (λ first. idle ∙ sym (none first))
+      (λ j. sym (begins_judged Left c) ∙ j)
 
   begins_line : (v : Value) (vs : List Value) → f.line.put ≡ v ∷ vs → leads (is_ours f.r f.peer) put ≡ true →
       Following local put true strays end coming (begins Left c)
   begins_line v vs some e =
       let after = record f.line { begun = true; judge = begins Left f.line.judge } in
-      record {
-        r = f.r;
-        peer = f.peer;
-        line = after;
-        left = f.left;
-        right = f.right;
-        tracks = tracks_on f.r f.peer f.line after (begins_own ∷ []) f.tracks
-            (after, (λ h. no_list v vs (sym some ∙ h), f.begun_is (put_some v vs f.spare f.line.put some), refl), refl);
-        judge = ap (begins Left) f.judge;
-        spare = f.spare;
-        put_is = f.put_is;
-        spares = f.spares;
-        gone = f.gone;
-        begun_is = λ first. sym e;
-        row = begun_row local end coming f.r f.peer f.line true (begins Left f.line.judge) f.row;
-        calm = λ j. f.calm (sym (begins_judged Left c) ∙ j);
-      }
+      followed_on f after
+      (tracks_on Left f.r f.peer f.line after (begins_own ∷ []) f.tracks
+      (after, (λ h. no_list v vs (sym some ∙ h), f.begun_is (put_some v vs f.spare f.line.put some), refl), refl))
+      (ap (begins Left) f.judge) refl refl refl refl f.put_is f.spares (λ first. sym e) (λ j. sym (begins_judged Left c) ∙ j)
 
   left_by : (b : Bool) → leads (is_ours f.r f.peer) put ≡ b → (l : List Value) → f.line.put ≡ l →
       Following local put true strays end coming (begins Left c)
@@ -269,22 +247,9 @@ right_begins : (local : Local) (put : List Value) (b strays : Bool) (end : State
     Following local put b strays end coming c → Following local put b strays end coming (begins Right c)
 right_begins local put b strays end coming c f =
     let after = record f.line { judge = begins Right f.line.judge } in
-    record {
-      r = f.r;
-      peer = f.peer;
-      line = after;
-      left = f.left;
-      right = f.right;
-      tracks = tracks_on f.r f.peer f.line after (begins_other ∷ []) f.tracks (after, refl, refl);
-      judge = ap (begins Right) f.judge;
-      spare = f.spare;
-      put_is = f.put_is;
-      spares = f.spares;
-      gone = f.gone;
-      begun_is = f.begun_is;
-      row = begun_row local end coming f.r f.peer f.line f.line.begun (begins Right f.line.judge) f.row;
-      calm = λ j. f.calm (sym (begins_judged Right c) ∙ j);
-    }
+    followed_on f after (tracks_on Left f.r f.peer f.line after (begins_other ∷ []) f.tracks (after, refl, refl)) (ap
+    (begins Right) f.judge)
+    refl refl refl refl f.put_is f.spares f.begun_is (λ j. sym (begins_judged Right c) ∙ j)
 
 -- if none has lost its judgement, none had
 pub why_before : {A : Type 0} (was is : Bool) → (is ≡ false → was ≡ false) → A ⊎ (is ≡ false) → A ⊎ (was ≡ false)
@@ -378,7 +343,7 @@ no_spare local put coming b strays end c judged tracked g e =
     let live = ap (λ (x : Connection). is_open x.left.phase) g.judge
     ∙ and_first (is_open c.left.phase) (is_open c.right.phase || is_closing c.right.phase) tracked in
     none_by g.spare g.line.put
-    (λ some none. close_waits g.r g.peer g.line (tracks_hold g.r g.peer g.line g.tracks line_judged) (g.gone some) live none) e
+    (λ some none. close_waits Left g.r g.peer g.line g.tracks line_judged (g.gone some) live none) e
 
 pub own_begins : (local : Local) (w : Whole) → w.begun ≡ false → w.put ≢ [] → Followed local w →
     Followed local (record w { begun = true; judge = packet_begins Left w.judge })

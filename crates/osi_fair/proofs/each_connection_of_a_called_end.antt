@@ -1,19 +1,19 @@
 -- Each connection at the judge of a called end: its CR has not been answered, its answer is to pass, or its line goes on.
 -- For the law on a whole called end.
-use Rattle.osi_fair.proofs.Vocabulary.{arith, [], ap, Bool, false, inl, inr, is_some, List, None, Option, option_map, refl, Some, subst}
-use Rattle.osi_fair.proofs.Vocabulary.{sym, true, ℕ, ◌++◌, ◌<◌, ◌∙◌, ◌∷◌, ◌≡◌, ◌≢◌, ◌≤◌, ◌⊎◌, slice_get-map, AllByRecursion, slice_get}
-use Rattle.osi_fair.proofs.Vocabulary.{◌&&◌, ◌||◌, acknowledge, confirm, Connect, data0, data2, destination_of, disconnect, disconnected}
-use Rattle.osi_fair.proofs.Vocabulary.{error, IsConnect, request, Value, Standing, accept, selected_by, Class, Two, Local, acceptance}
-use Rattle.osi_fair.proofs.Vocabulary.{opened_link, value_at, linked, begins, is_open, is_refused, is_silent, offer_of, packet_begins}
-use Rattle.osi_fair.proofs.Vocabulary.{silent_half, Traffic, Connection, Direction, Left, Right, Half, Act, ActsAlong, begins_elsewhere}
-use Rattle.osi_fair.proofs.Vocabulary.{IsOpened, Line, opened_half, opened_line, Whole, State}
+use Rattle.osi_fair.proofs.Vocabulary.{[], accept, acceptance, Act, ActsAlong, AllByRecursion, ap, arith, begins, begins_elsewhere, Bool}
+use Rattle.osi_fair.proofs.Vocabulary.{Class, confirm, Connect, Connection, destination_of, Direction, disconnect, disconnected, false}
+use Rattle.osi_fair.proofs.Vocabulary.{Half, inl, inr, is_open, is_refused, is_silent, is_some, IsConnect, Left, Line, linked, List, Local}
+use Rattle.osi_fair.proofs.Vocabulary.{None, offer_of, opened_half, opened_line, opened_link, Option, option_map, packet_begins, refl}
+use Rattle.osi_fair.proofs.Vocabulary.{request, Right, selected_by, silent_half, slice_get, slice_get-map, Some, Standing, State, subst}
+use Rattle.osi_fair.proofs.Vocabulary.{sym, Traffic, true, Two, Value, value_at, Whole, ℕ, ◌&&◌, ◌++◌, ◌<◌, ◌||◌, ◌∙◌, ◌∷◌, ◌≡◌, ◌≢◌, ◌≤◌}
+use Rattle.osi_fair.proofs.Vocabulary.{◌⊎◌}
 use Rattle.osi_fair.specs.Lines.{begins_other, begins_own}
-use Rattle.osi_fair.proofs.small_facts_that_many_lemmas_use.{begins_judged, begun_left, begun_right, course_class, or_last}
+use Rattle.osi_fair.proofs.small_facts_that_many_lemmas_use.{begun_right, course_class, or_last}
 use Rattle.osi_fair.proofs.units_by_their_place.{Placed, first_at, units_at, values}
 use Rattle.osi_fair.proofs.what_holds_of_one_item.{after_map}
-use Rattle.osi_fair.proofs.what_is_live_at_a_called_end.{IsHeld, Timely}
-use Rattle.osi_fair.proofs.what_is_put_before_the_cc_passes.{acts_join}
+use Rattle.osi_fair.proofs.what_is_live_at_an_end.{Timely, timely_begins}
 use Rattle.osi_fair.proofs.which_units_are_for_a_connection.{those}
+use Rattle.osi_fair.proofs.a_line_since_its_connection_opened.{Tracks, tracks_on}
 
 -- ---- what has come for a line
 
@@ -90,15 +90,34 @@ pub record Running (shut : ℕ → Bool) (end : State) (coming mine : List Value
   pub judge : line.judge ≡ c
   pub put : line.put ≡ mine
   pub begun_is : line.begun ≡ begun
-  pub first : Line
-  pub acts : List Act
-  pub opened : IsOpened Right r peer first
-  pub along : ActsAlong Right r peer first acts line
+  pub tracks : Tracks Right r peer line
   pub there : is_open c.right.phase ≡ true
   pub right : c.right.reference ≡ r
   pub left : c.left.reference ≡ peer
   pub row : Row end coming r peer line.link line.coming
   pub shut_is : shut r ≡ true → line.link ≡ None
+
+-- it goes on so, at another end too
+pub running_on : {shut then : ℕ → Bool} {end after : State} {coming later mine put : List Value} {b a : Bool} {o : Option ℕ}
+    {c e : Connection} (g : Running shut end coming mine b o c) (line : Line) → Tracks Right g.r g.peer line → line.judge ≡ e →
+    line.put ≡ put → line.begun ≡ a → is_open e.right.phase ≡ true → e.right.reference ≡ c.right.reference →
+    e.left.reference ≡ c.left.reference → Row after later g.r g.peer line.link line.coming → (then g.r ≡ true → line.link ≡ None) →
+    Running then after later put a o e
+running_on g line tracks judge put begun there right left row shut_is = record {
+  r = g.r;
+  peer = g.peer;
+  index = g.index;
+  line = line;
+  judge = judge;
+  put = put;
+  begun_is = begun;
+  tracks = tracks;
+  there = there;
+  right = right ∙ g.right;
+  left = left ∙ g.left;
+  row = row;
+  shut_is = shut_is;
+}
 
 -- right has refused it, and left knows nothing else of right; it is judged, since left could break no rule of it
 abbrev pub IsOff : Connection → Type 0
@@ -150,24 +169,9 @@ module _ (local : Local) (shut : ℕ → Bool) (end after : State) (coming later
     row = rows h.r h.x.source h.link h.come h.index h.row;
     shut_is = h.shut_is;
   }) (still none)
-  stands_at ask still rows un (runs g none) = runs (record {
-    r = g.r;
-    peer = g.peer;
-    index = g.index;
-    line = g.line;
-    judge = g.judge;
-    put = g.put;
-    begun_is = g.begun_is;
-    first = g.first;
-    acts = g.acts;
-    opened = g.opened;
-    along = g.along;
-    there = g.there;
-    right = g.right;
-    left = g.left;
-    row = rows g.r g.peer g.line.link g.line.coming g.index g.row;
-    shut_is = g.shut_is;
-  }) (still none)
+  stands_at ask still rows un (runs g none) =
+      runs (running_on g g.line g.tracks g.judge g.put g.begun_is g.there refl refl
+      (rows g.r g.peer g.line.link g.line.coming g.index g.row) g.shut_is) (still none)
   stands_at ask still rows un (past silent up is none gone off) = past silent up is (still none) (λ r e. un r e (gone r e)) off
 
 -- ---- all
@@ -196,13 +200,7 @@ AreStrays shut end refs home strays (t ∷ ts) = StrayIf shut end refs home stra
 abbrev pub AreAbove : ℕ → ℕ → List Value → Type 0
 AreAbove given n [] = n ≤ given
 AreAbove given n (confirm destination x ∷ vs) = (n < x.source) × AreAbove given x.source vs
-AreAbove given n (request x ∷ vs) = AreAbove given n vs
-AreAbove given n (disconnect destination source reason user ∷ vs) = AreAbove given n vs
-AreAbove given n (disconnected destination source ∷ vs) = AreAbove given n vs
-AreAbove given n (data0 end user ∷ vs) = AreAbove given n vs
-AreAbove given n (data2 destination number end user ∷ vs) = AreAbove given n vs
-AreAbove given n (acknowledge credit destination number ∷ vs) = AreAbove given n vs
-AreAbove given n (error destination cause ∷ vs) = AreAbove given n vs
+AreAbove given n (_ ∷ vs) = AreAbove given n vs
 
 abbrev pub IsNoCr : Value → Type 0
 IsNoCr v = (x : Connect) → v ≡ request x → ⊥
@@ -246,7 +244,8 @@ pub record Called (local : Local) (w : Whole) : Type 0 where
   pub few : AllByRecursion (IsFor w.end.given) w.coming
   pub untagged : AllByRecursion Untagged came
   -- as long as each DR has closed something
-  pub timely : w.judge.course.disconnects.strays ≡ false → w.end.ended ≡ None → Timely w.end w.coming w.judge.connections (values tagged)
+  pub timely : w.judge.course.disconnects.strays ≡ false → w.end.ended ≡ None →
+      Timely Right w.end w.coming w.judge.connections (values tagged)
 
 -- ---- a packet begins
 
@@ -258,24 +257,12 @@ module _ (local : Local) (shut : ℕ → Bool) (end : State) (coming mine asks :
   run_begins : (b : Bool) (c e : Connection) (act : Act) → (h : Running shut end coming mine b o c) →
       ActsAlong Right h.r h.peer h.line (act ∷ []) (record h.line { judge = e }) → e.right ≡ c.right → e.left ≡ c.left →
       Running shut end coming mine b o e
-  run_begins b c e act h along right left = record {
-    r = h.r;
-    peer = h.peer;
-    index = h.index;
-    line = record h.line { judge = e };
-    judge = refl;
-    put = h.put;
-    begun_is = h.begun_is;
-    first = h.first;
-    acts = h.acts ++ act ∷ [];
-    opened = h.opened;
-    along = acts_join Right h.r h.peer h.acts (act ∷ []) h.first h.line (record h.line { judge = e }) h.along along;
-    there = ap (λ (x : Half). is_open x.phase) right ∙ h.there;
-    right = ap (λ (x : Half). x.reference) right ∙ h.right;
-    left = ap (λ (x : Half). x.reference) left ∙ h.left;
-    row = h.row;
-    shut_is = h.shut_is;
-  }
+  run_begins b c e act h along right left =
+      let line = record h.line { judge = e } in
+      running_on h line (tracks_on Right h.r h.peer h.line line (act ∷ []) h.tracks along) refl h.put h.begun_is
+      (ap (λ (x : Half). is_open x.phase) right ∙ h.there) (ap (λ (x : Half). x.reference) right) (ap (λ
+      (x : Half). x.reference) left) h.row
+      h.shut_is
 
   asked_begins : (d : Direction) (x : Connect) (c : Connection) → Asked x c → Asked x (begins d c)
   asked_begins d x c a = grind arith
@@ -308,33 +295,17 @@ module _ (local : Local) (shut : ℕ → Bool) (end : State) (coming mine asks :
   own_begins_one c some (answers h none) = answers (grind (arith, asked_begins)) none
   own_begins_one c some (runs h none) =
       let line = record h.line { begun = true; judge = begins Right c } in
-      runs (record {
-        r = h.r;
-        peer = h.peer;
-        index = h.index;
-        line = line;
-        judge = refl;
-        put = h.put;
-        begun_is = refl;
-        first = h.first;
-        acts = h.acts ++ begins_own ∷ [];
-        opened = h.opened;
-        along = acts_join Right h.r h.peer h.acts (begins_own ∷ []) h.first h.line line h.along (
-          line,
-          (
-            λ e. some (sym h.put ∙ e),
-            h.begun_is,
-            ap (λ (e : Connection). record h.line { begun = true; judge = begins Right e })
-                (sym h.judge),
-          ),
-          refl,
-        );
-        there = h.there;
-        right = h.right;
-        left = h.left;
-        row = h.row;
-        shut_is = h.shut_is;
-      }) none
+      runs (running_on h line
+      (tracks_on Right h.r h.peer h.line line (begins_own ∷ []) h.tracks (
+        line,
+        (
+          λ e. some (sym h.put ∙ e),
+          h.begun_is,
+          ap (λ (e : Connection). record h.line { begun = true; judge = begins Right e })
+              (sym h.judge),
+        ),
+        refl,
+      )) refl h.put refl h.there refl refl h.row h.shut_is) none
   own_begins_one c some (past silent up none asks un off) = past silent up none asks un off
 
 -- ---- all connections, as a packet begins
@@ -391,21 +362,8 @@ module _ (local : Local) (w : Whole) (f : Called local w) where
     some = some;
     few = f.few;
     untagged = f.untagged;
-    timely = λ none lasts.
-        let h = f.timely (sym (course_strays d w.judge) ∙ none) lasts in
-        record {
-          judges = λ p c at judged left right.
-              let (x, was, is) = after_map (begins d) w.judge.connections p c at in
-              let same = ap (λ (e : Connection). e.right) is ∙ begun_right d x in
-              subst (λ (k : Half). IsHeld w.end w.coming k.reference) (sym same)
-              (h.judges p x was (sym (ap (λ (e : Connection). e.is_judged) is ∙ begins_judged d x) ∙ judged)
-              (sym (ap (λ (e : Connection). is_open e.left.phase) is ∙ ap (λ (k : Half). is_open k.phase)
-              (begun_left d x)) ∙ left)
-              (ap (λ (k : Half). is_open k.phase) (sym same) ∙ right));
-          answers = h.answers;
-          firsts = h.firsts;
-          known = h.known;
-        };
+    timely = λ none lasts. timely_begins Right d w.end w.coming w.judge.connections (values f.tagged)
+        (f.timely (sym (course_strays d w.judge) ∙ none) lasts);
   }
 
   pub other_begins : Called local (record w { judge = packet_begins Left w.judge })

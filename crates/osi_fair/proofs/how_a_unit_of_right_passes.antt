@@ -1,12 +1,10 @@
 -- A unit of the called side that is right on its connection passes: what the judge has then, by the kind of the unit.
 -- For the law on a whole called end.
-use Rattle.osi_fair.proofs.Vocabulary.{arith, [], ap, Bool, false, List, None, Option, set, Some, true, ℕ, ◌∙◌, ◌∷◌, ◌≡◌, not, position}
-use Rattle.osi_fair.proofs.Vocabulary.{slice_get, ◌&&◌, confirm, Connect, destination_of, Value, Class, Two, is_named, is_silent}
-use Rattle.osi_fair.proofs.Vocabulary.{course_after, found_on, half_after, one_told, Outcome, route, route_in, sent_on, Traffic, takes}
-use Rattle.osi_fair.proofs.Vocabulary.{Connection, Course, Right, Kept, Half, Named}
+use Rattle.osi_fair.proofs.Vocabulary.{[], ap, arith, Bool, confirm, Connect, Connection, Course, course_after, false, found_on, is_named}
+use Rattle.osi_fair.proofs.Vocabulary.{Kept, List, Named, None, not, one_told, Option, Outcome, position, Right, route, sent_on, set}
+use Rattle.osi_fair.proofs.Vocabulary.{slice_get, Some, takes, Traffic, true, Value, ℕ, ◌&&◌, ◌∙◌, ◌∷◌, ◌≡◌}
 use Rattle.osi_carrier.specs.State.{State}
-use Rattle.osi_rules.specs.declared.findings.Rule.TheVariants as rule
-use Rattle.osi_fair.proofs.small_facts_that_many_lemmas_use.{closing_same, first_is, rest_is}
+use Rattle.osi_fair.proofs.small_facts_that_many_lemmas_use.{first_is, rest_is}
 use Rattle.osi_fair.proofs.each_connection_of_a_called_end.{AreAbove, AreStrays}
 use Rattle.osi_fair.proofs.units_by_their_place.{Placed, values}
 
@@ -36,10 +34,6 @@ module _ (u : Value) (s : Traffic) (n p : ℕ) (c : Connection) (right : s.cours
     pub course_kept : (takes Right u s).state.course ≡ course_after Right c u true s.course
     course_kept = grind (arith, takes_so)
 
-pub route_two_so : (k : Option Class) (b : Bool) (u : Value) (n : ℕ) → k ≡ Some Two → destination_of u ≡ Some n → route_in k Right b
-    u ≡ Named n
-route_two_so k b u n two e = ap (λ (j : Option Class). route_in j Right b u) two ∙ (grind arith)
-
 -- ---- the course after it
 
 pub class_seen_same : (c : Connection) (u : Value) (course : Course) → (course_after Right c u true course).class_seen ≡ course.class_seen
@@ -66,9 +60,3 @@ head_of u rest ((o, v) ∷ ts) e = search (arith, first_is, rest_is)
 pub above_next : (given n : ℕ) (v : Value) (vs : List Value) → ((m : ℕ) (x : Connect) → v ≡ confirm m x → ⊥) → AreAbove given n (v ∷ vs) →
     AreAbove given n vs
 above_next given n v vs none h = grind arith
-
-pub half_keeps : (u : Value) (half : Half) → ((m : ℕ) (x : Connect) → u ≡ confirm m x → ⊥) → (half_after u half).reference ≡ half.reference
-half_keeps u half none = grind (arith, closing_same)
-
-pub half_started : (u : Value) (half : Half) → is_silent half.phase ≡ false → is_silent (half_after u half).phase ≡ false
-half_started u half h = grind arith

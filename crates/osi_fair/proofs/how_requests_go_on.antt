@@ -1,20 +1,20 @@
 -- The stages of a whole calling end: no connection is asked for, a CR waits to pass, or for its answer, then class 0 or class 2.
 -- For the laws on requests and on whole calling ends.
-use Rattle.osi_fair.proofs.Vocabulary.{[], ap, append_assoc, Bool, false, if◌then◌else◌, inl, inr, is_some, List, map, None, refl, Some}
-use Rattle.osi_fair.proofs.Vocabulary.{subst, sym, true, ℕ, ◌++◌, ◌∙◌, ◌∷◌, ◌≡◌, ◌≢◌, ◌⊎◌, AllByRecursion, not, ◌==◌, ◌||◌, confirm}
-use Rattle.osi_fair.proofs.Vocabulary.{Connect, HasFieldsInRange, IsConnect, request, Value, Two, Local, react, Rows, user_does, UserCall}
-use Rattle.osi_fair.proofs.Vocabulary.{Live, first_failed, is_inside, is_offered, begins, offer_of, packet_begins, refused as not_read}
-use Rattle.osi_fair.proofs.Vocabulary.{request_tests, Traffic, takes, Connection, Offer, Left, Right, packet, unit as passing, put_by}
-use Rattle.osi_fair.proofs.Vocabulary.{put_for, arrives, calls, Event, Happens, MayCall, passes_rubbish, Whole, arith, State, begins_other}
-use Rattle.osi_fair.proofs.Vocabulary.{begins_own, Disconnects, disconnects_begin}
-use Rattle.osi_rules.specs.declared.findings.Rule.TheVariants as rule
+use Rattle.osi_fair.proofs.Vocabulary.{[], AllByRecursion, ap, append_assoc, arith, arrives, begins, begins_other, begins_own, Bool, calls}
+use Rattle.osi_fair.proofs.Vocabulary.{confirm, Connect, Connection, Disconnects, disconnects_begin, Event, false, first_failed, Happens}
+use Rattle.osi_fair.proofs.Vocabulary.{HasFieldsInRange, inl, inr, is_inside, is_offered, is_some, IsConnect, Left, List, Live, Local, map}
+use Rattle.osi_fair.proofs.Vocabulary.{MayCall, None, not, Offer, offer_of, packet, packet_begins, passes_rubbish, put_by, put_for, react}
+use Rattle.osi_fair.proofs.Vocabulary.{refl, refused as not_read, request, request_tests, Right, Rows, Some, State, subst, sym, takes}
+use Rattle.osi_fair.proofs.Vocabulary.{Traffic, true, Two, unit as passing, user_does, UserCall, Value, Whole, ℕ, ◌++◌, ◌==◌, ◌||◌, ◌∙◌}
+use Rattle.osi_fair.proofs.Vocabulary.{◌∷◌, ◌≡◌, ◌≢◌, ◌⊎◌}
 use Rattle.osi_fair.specs.Wholes.{passes_other, passes_own}
 use Rattle.osi_fair.proofs.small_facts_that_many_lemmas_use.{differ}
 use Rattle.osi_fair.proofs.a_new_reference_is_not_in_use.{Passed}
 use Rattle.osi_fair.proofs.a_refused_request_waits_no_more.{all_from}
 use Rattle.osi_fair.proofs.a_request_of_a_whole_end_is_new.{IsUnused, Newer, next_unused}
-use Rattle.osi_fair.proofs.a_calling_end_goes_on_in_class_zero.{IsZeroed, confirmed_so, zeroed_begins, zeroed_calls, zeroed_comes}
-use Rattle.osi_fair.proofs.a_calling_end_goes_on_in_class_zero.{zeroed_elsewhere, zeroed_passes, zeroed_refused, zeroed_takes}
+use Rattle.osi_fair.proofs.a_calling_end_takes_a_cc_of_class_zero.{confirmed_so}
+use Rattle.osi_fair.proofs.an_end_goes_on_in_class_zero.{IsZeroed, zeroed_begins, zeroed_calls, zeroed_comes}
+use Rattle.osi_fair.proofs.an_end_goes_on_in_class_zero.{zeroed_elsewhere, zeroed_passes, zeroed_refused, zeroed_takes}
 use Rattle.osi_fair.proofs.how_a_calling_end_asks.{Calls, Idle, IsCalling, IsOver, Offers, asks_one, broke, dc_ends, idles, none_calls, one}
 use Rattle.osi_fair.proofs.how_a_calling_end_asks.{one_calls, over_calls, over_takes, refusal_takes, same}
 use Rattle.osi_fair.proofs.what_holds_of_one_item.{HoldsOfEach}
@@ -58,9 +58,9 @@ pub data Stage (local : Local) (w : Whole) : Type 0 where
       w.coming ≡ dcs ++ v ∷ more → AreDcs dcs → IsRefusal r v → AreDcs more → Stage local w
   answered : (r : ℕ) → Calling local (one r) w.end → w.put ≡ [] → w.begun ≡ false → (dcs : List Value) (n : ℕ) (x : Connect)
       (more : List Value) → w.coming ≡ dcs ++ confirm n x ∷ more → AreDcs dcs → (x.class == 2) ≡ false → HasZero local → (after : State) →
-      react (confirm n x) w.end ≡ after → IsZeroed after [] false w.judge → Stage local w
+      react (confirm n x) w.end ≡ after → IsZeroed Left after [] false w.judge → Stage local w
   -- class 0 is selected, and the end has taken the CC
-  zero : HasZero local → IsZeroed w.end w.put w.begun w.judge → Stage local w
+  zero : HasZero local → IsZeroed Left w.end w.put w.begun w.judge → Stage local w
   -- class 2 is selected, and has passed
   known : w.judge.course.class ≡ Some Two → (w.begun ≡ true → w.judge.course.class_seen ≡ Some Two) → local.class2 ≡ true → Stage local w
 
@@ -90,7 +90,7 @@ asks_taking local w unit later x cs drs put (inr is) offers judge done dc dcs be
 answered_taking : (local : Local) (w : Whole) (unit : Value) (later : List Value) (r : ℕ) (dcs : List Value) (n : ℕ) (x : Connect)
     (more : List Value) (after : State) → Calling local (one r) w.end → w.put ≡ [] → w.begun ≡ false →
     unit ∷ later ≡ dcs ++ confirm n x ∷ more → AreDcs dcs → (x.class == 2) ≡ false → HasZero local →
-    react (confirm n x) w.end ≡ after → IsZeroed after [] false w.judge → Stage local (after_arriving w unit later)
+    react (confirm n x) w.end ≡ after → IsZeroed Left after [] false w.judge → Stage local (after_arriving w unit later)
 answered_taking local w unit later r [] n x more after is none not_begun e dcs class has so z = grind (arith, first_of, after_arriving)
 answered_taking local w unit later r (d ∷ dcs) n x more after is none not_begun e (dc, others) class has so z =
     let (same_unit, rest) = first_of unit d later (dcs ++ confirm n x ∷ more) e in
@@ -128,7 +128,7 @@ taking local w unit later e (refused r is none not_begun cs drs judge done dcs v
     refused_taking local w unit later r cs drs dcs v more is none not_begun judge done (sym e ∙ coming) are refusal too
 taking local w unit later e (answered r is none not_begun dcs n x more coming are class has after so z) =
     answered_taking local w unit later r dcs n x more after is none not_begun (sym e ∙ coming) are class has so z
-taking local w unit later e (zero has z) = zero has (zeroed_takes w.end w.put w.begun w.judge z unit)
+taking local w unit later e (zero has z) = zero has (zeroed_takes Left w.end w.put w.begun w.judge z unit)
 taking local w unit later e (known two seen has) = known two seen has
 
 -- ---- its user makes a call
@@ -181,7 +181,7 @@ calling local w call may (answered r is none not_begun dcs n x more coming are c
     one_calling local w call none (one_calls r call w.end is.0 may)
     (λ e put. answered r (subst (Calling local (one r)) (sym e) is) put not_begun dcs n x more coming are class has after
     (ap (λ (s : State). react (confirm n x) s) e ∙ so) z)
-calling local w call may (zero has z) = zero has (zeroed_calls w.end w.put w.begun w.judge z call may)
+calling local w call may (zero has z) = zero has (zeroed_calls Left w.end w.put w.begun w.judge z call may)
 calling local w call may (known two seen has) = known two seen has
 
 -- ---- a unit of the end begins to pass, and passes
@@ -199,7 +199,7 @@ beginning local w some (asks x put is offers cs drs judge done dcs begun) =
 beginning local w some (waits r is none not_begun cs drs judge p o offers waiting dcs) = absurd (some none)
 beginning local w some (refused r is none not_begun cs drs judge done dcs v more coming are refusal too) = absurd (some none)
 beginning local w some (answered r is none not_begun dcs n x more coming are class has after so z) = absurd (some none)
-beginning local w some (zero has z) = zero has (zeroed_begins w.end w.put w.begun w.judge z)
+beginning local w some (zero has z) = zero has (zeroed_begins Left w.end w.put w.begun w.judge z)
 beginning local w some (known two seen has) = known ((lasts_passing (packet Left) w.judge).two two) (λ h. two) has
 
 abbrev after_own : Whole → Value → List Value → Whole
@@ -245,7 +245,8 @@ own local w v put e begun newer goes (waits r is none not_begun cs drs judge p o
 own local w v put e begun newer goes (refused r is none not_begun cs drs judge done dcs u more coming are refusal too) =
     some_put w v put e none
 own local w v put e begun newer goes (answered r is none not_begun dcs n x more coming are class has after so z) = some_put w v put e none
-own local w v put e begun newer goes (zero has z) = grind (arith, zeroed_passes)
+own local w v put e begun newer goes (zero has z) =
+    zero has (zeroed_passes Left w.end w.put w.begun w.judge v put ((lasts_passing (passing Left v) w.judge).left goes) e begun z).1
 own local w v put e begun newer goes (known two seen has) = grind (arith, differ, lasts_passing (passing Left v) w.judge)
 
 -- ---- the other side
@@ -271,8 +272,8 @@ begun_elsewhere local w (refused r is none not_begun cs drs judge done dcs v mor
     (done_begins Right cs done)
     dcs v more coming are refusal too
 begun_elsewhere local w (answered r is none not_begun dcs n x more coming are class has after so z) =
-    answered r is none not_begun dcs n x more coming are class has after so (zeroed_elsewhere after [] false w.judge z)
-begun_elsewhere local w (zero has z) = zero has (zeroed_elsewhere w.end w.put w.begun w.judge z)
+    answered r is none not_begun dcs n x more coming are class has after so (zeroed_elsewhere Left after [] false w.judge z)
+begun_elsewhere local w (zero has z) = zero has (zeroed_elsewhere Left w.end w.put w.begun w.judge z)
 begun_elsewhere local w (known two seen has) = grind (arith, lasts_passing)
 
 abbrev after_other : Whole → Value → Whole
@@ -334,8 +335,8 @@ other_passes local w v ranges goes (refused r is none not_begun cs drs judge don
 other_passes local w v ranges goes (answered r is none not_begun dcs n x more coming are class has after so z) =
     answered r is none not_begun dcs n x (more ++ v ∷ [])
     (ap (λ (l : List Value). l ++ v ∷ []) coming ∙ append_assoc dcs (confirm n x ∷ more) (v ∷ [])) are class has after so
-    (zeroed_comes after [] false w.judge z v)
-other_passes local w v ranges goes (zero has z) = zero has (zeroed_comes w.end w.put w.begun w.judge z v)
+    (zeroed_comes Left after [] false w.judge z v z.judge.class)
+other_passes local w v ranges goes (zero has z) = zero has (zeroed_comes Left w.end w.put w.begun w.judge z v z.judge.class)
 other_passes local w v ranges goes (known two seen has) = search (arith, lasts_passing (passing Right v) w.judge)
 
 abbrev after_rubbish : Whole → Whole
@@ -348,8 +349,8 @@ rubbish_passes local w goes (asks x put is offers cs drs judge done dcs begun) =
 rubbish_passes local w goes (waits r is none not_begun cs drs judge p o offers waiting dcs) = grind arith
 rubbish_passes local w goes (refused r is none not_begun cs drs judge done dcs v more coming are refusal too) = grind arith
 rubbish_passes local w goes (answered r is none not_begun dcs n x more coming are class has after so z) =
-    answered r is none not_begun dcs n x more coming are class has after so (zeroed_refused after [] false w.judge z)
-rubbish_passes local w goes (zero has z) = zero has (zeroed_refused w.end w.put w.begun w.judge z)
+    answered r is none not_begun dcs n x more coming are class has after so (zeroed_refused Left after [] false w.judge z)
+rubbish_passes local w goes (zero has z) = zero has (zeroed_refused Left w.end w.put w.begun w.judge z)
 rubbish_passes local w goes (known two seen has) = grind (arith, lasts_passing)
 
 -- ---- what happens

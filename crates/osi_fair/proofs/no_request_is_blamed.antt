@@ -1,28 +1,15 @@
 -- No CR of a whole calling end is blamed, whatever happens.
 -- For the law of that name.
-use Rattle.osi_fair.proofs.Vocabulary.{Disconnects, no_disconnects}
-use Rattle.osi_fair.proofs.Vocabulary.{[], arith, Bool, false, List, refl, subst, sym, true, ◌∙◌, ◌∷◌, ◌≡◌, ◌⊎◌, Connect, request, Value}
-use Rattle.osi_fair.proofs.Vocabulary.{Local, is_stopped, Traffic, takes, Connection, Left, Right, Kept, TooMany, packet, rubbish}
-use Rattle.osi_fair.proofs.Vocabulary.{unit as passing, arrives, begin, calls, Event, HappenAlong, Happens, passes_rubbish, Whole}
-use Rattle.osi_fair.specs.Wholes.{begins_other, begins_own, passes_other, passes_own}
+use Rattle.osi_fair.proofs.Vocabulary.{[], arith, begin, Connect, Connection, Disconnects, Event, false, HappenAlong, Happens, is_stopped}
+use Rattle.osi_fair.proofs.Vocabulary.{Kept, Left, List, Local, no_disconnects, refl, request, subst, sym, takes, TooMany, Traffic, true}
+use Rattle.osi_fair.proofs.Vocabulary.{Value, Whole, ◌∙◌, ◌∷◌, ◌≡◌, ◌⊎◌}
 use Rattle.osi_fair.proofs.a_new_reference_is_not_in_use.{Passed}
 use Rattle.osi_fair.proofs.a_reference_names_one_connection.{no_item}
 use Rattle.osi_fair.proofs.a_request_of_a_whole_end_is_new.{IsUnused, Newer, next_unused, still_newer}
 use Rattle.osi_fair.proofs.how_requests_go_on.{Stage, asks, calm_passes, known, quiet, still_staged, zero, answered, ended, refused, waits}
 use Rattle.osi_fair.proofs.what_an_end_does_in_class_zero.{anyhow, zero_puts}
-use Rattle.osi_fair.proofs.what_lasts_at_the_judge.{lasts_passing}
+use Rattle.osi_fair.proofs.what_lasts_at_the_judge.{lasts_happening}
 use Rattle.osi_fair.proofs.while_no_class_is_selected.{AllOver, GoesOn, calm_judge}
-
--- ---- left was judged before
-
-went_on : (event : Event) (w new : Whole) → Happens Left event w new → GoesOn new.judge → GoesOn w.judge
-went_on arrives w new (unit, coming, is) h = subst (λ (x : Whole). GoesOn x.judge) is h
-went_on (calls call) w new (may, is) h = subst (λ (x : Whole). GoesOn x.judge) is h
-went_on begins_own w new (some, not_begun, is) h = (lasts_passing (packet Left) w.judge).left (subst (λ (x : Whole). GoesOn x.judge) is h)
-went_on passes_own w new (v, put, begun, is) h = (lasts_passing (passing Left v) w.judge).left (subst (λ (x : Whole). GoesOn x.judge) is h)
-went_on begins_other w new is h = (lasts_passing (packet Right) w.judge).left (subst (λ (x : Whole). GoesOn x.judge) is h)
-went_on (passes_other v) w new (ranges, is) h = (lasts_passing (passing Right v) w.judge).left (subst (λ (x : Whole). GoesOn x.judge) is h)
-went_on passes_rubbish w new is h = (lasts_passing (rubbish Right) w.judge).left (subst (λ (x : Whole). GoesOn x.judge) is h)
 
 -- ---- a run
 
@@ -33,7 +20,7 @@ pub record Holds (local : Local) (w : Whole) : Type 0 where
 pub holds_next : (local : Local) (event : Event) (w new : Whole) → Happens Left event w new → Holds local w → Holds local new
 holds_next local event w new h a = record {
   newer = still_newer event w new h a.newer;
-  stage = λ goes. still_staged local event w new h goes a.newer (a.stage (went_on event w new h goes));
+  stage = λ goes. still_staged local event w new h goes a.newer (a.stage ((lasts_happening Left event w new h).left goes));
 }
 
 holds_all : (local : Local) (events : List Event) (w new : Whole) → HappenAlong Left w events new → Holds local w → Holds local new

@@ -1,8 +1,8 @@
 -- While no class is selected, one connection at most is not over for left: that of the CR which waits for its answer.
 -- For the law of that name.
-use Rattle.osi_fair.proofs.Vocabulary.{arith, [], ap, Bool, false, if◌then◌else◌, is_some, List, None, Option, refl, Some, suc, sym, true}
+use Rattle.osi_fair.proofs.Vocabulary.{arith, [], ap, Bool, false, is_some, List, None, Option, refl, Some, suc, sym, true}
 use Rattle.osi_fair.proofs.Vocabulary.{zero, ℕ, ◌∙◌, ◌∷◌, ◌≡◌, list_all, position, slice_get, ◌||◌, Connect, Value, Class, is_applied}
-use Rattle.osi_fair.proofs.Vocabulary.{reach_of, first_failed, begins, is_free, is_live, is_named, is_over, seen, asks_by, asks_kept}
+use Rattle.osi_fair.proofs.Vocabulary.{reach_of, first_failed, begins, is_free, is_live, is_named, is_over, asks_by, asks_kept}
 use Rattle.osi_fair.proofs.Vocabulary.{at_place, class_for, connection_after, course_after, course_begins, found_on, fresh, one_told}
 use Rattle.osi_fair.proofs.Vocabulary.{reached, request_tests, routed, Traffic as State, unnamed_told, Connection, Course, Direction, Left}
 use Rattle.osi_fair.proofs.Vocabulary.{Finding, Kept, Reach, Route, Asks, Named, Only, Unnamed, all_passed, HoldsOfOne, packet, passes}

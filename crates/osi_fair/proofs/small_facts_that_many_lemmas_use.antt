@@ -1,9 +1,9 @@
 -- Small facts that lemmas of several files use: of truth values, lists and numbers, and of one step of a connection.
 -- For all proofs of this crate.
-use Rattle.osi_fair.proofs.Vocabulary.{arith, AllByRecursion, Bool, Connection, Direction, EndReason, Finding, Half, List, None, NotJudged}
-use Rattle.osi_fair.proofs.Vocabulary.{Option, Phase, Some, Traffic, Value, [], ap, begins, closing_phase, eqb-true, false, if◌then◌else◌}
-use Rattle.osi_fair.proofs.Vocabulary.{is_closing, is_open, is_some, list_any, not, packet_begins, refl, set, sized, slice_get, suc, true}
-use Rattle.osi_fair.proofs.Vocabulary.{ℕ, ◌&&◌, ◌++◌, ◌==◌, ◌||◌, ◌∙◌, ◌∷◌, ◌≡◌, zero}
+use Rattle.osi_fair.proofs.Vocabulary.{[], AllByRecursion, ap, arith, begins, Bool, closing_phase, confirm, Connect, Connection, Direction}
+use Rattle.osi_fair.proofs.Vocabulary.{EndReason, eqb-true, false, Finding, Half, half_after, if◌then◌else◌, is_closing, is_open, is_silent}
+use Rattle.osi_fair.proofs.Vocabulary.{is_some, List, list_any, None, not, NotJudged, Option, packet_begins, Phase, refl, set, sized}
+use Rattle.osi_fair.proofs.Vocabulary.{slice_get, Some, suc, Traffic, true, Value, zero, ℕ, ◌&&◌, ◌++◌, ◌==◌, ◌||◌, ◌∙◌, ◌∷◌, ◌≡◌}
 
 pub all_add : {X : Type 0} (P : X → Type 0) (vs : List X) (v : X) → AllByRecursion P vs → P v → AllByRecursion P (vs ++ v ∷ [])
 all_add P [] v a p = (p, tt)
@@ -134,3 +134,9 @@ unequal m n b e h = grind (arith, eqb-true)
 pub all_join : (P : Value → Type 0) (xs ys : List Value) → AllByRecursion P xs → AllByRecursion P ys → AllByRecursion P (xs ++ ys)
 all_join P [] ys a b = b
 all_join P (x ∷ xs) ys (one, more) b = (one, all_join P xs ys more b)
+
+pub half_keeps : (u : Value) (half : Half) → ((m : ℕ) (x : Connect) → u ≡ confirm m x → ⊥) → (half_after u half).reference ≡ half.reference
+half_keeps u half none = grind (arith, closing_same)
+
+pub half_started : (u : Value) (half : Half) → is_silent half.phase ≡ false → is_silent (half_after u half).phase ≡ false
+half_started u half h = grind arith

@@ -1,8 +1,8 @@
 -- As long as the other side is judged, an end is: what is right stops nothing, and what stops the end stops both sides.
--- For the law on a whole end.
-use Rattle.osi_fair.proofs.Vocabulary.{arith, Zero, false, if◌then◌else◌, Option, refl, Some, ℕ, ◌≡◌, ◌⊎◌, Connect, Value, Class}
-use Rattle.osi_fair.proofs.Vocabulary.{stops_are_said, reach_of, asks_by, at_place, class_for, none_told, Outcome, routed, Traffic as State}
-use Rattle.osi_fair.proofs.Vocabulary.{takes, Direction, Left, Right, Finding, Kept, NotJudged, TooMany, Reach, Route}
+-- For the laws on whole ends.
+use Rattle.osi_fair.proofs.Vocabulary.{arith, asks_by, at_place, Class, class_for, Connect, Direction, false, Finding, is_stopped, Kept}
+use Rattle.osi_fair.proofs.Vocabulary.{Left, none_told, NotJudged, Option, other, Outcome, Reach, reach_of, refl, Right, Route, routed}
+use Rattle.osi_fair.proofs.Vocabulary.{Some, stops_are_said, takes, TooMany, Traffic as State, true, Value, Zero, ℕ, ◌≡◌, ◌⊎◌}
 use Rattle.osi_rules.specs.declared.findings.Reach.TheVariants as reach
 use Rattle.osi_fair.proofs.small_facts_that_many_lemmas_use.{differ}
 
@@ -33,25 +33,55 @@ IsMild f = (f ≡ Kept) ⊎ ((f ≡ TooMany) ⊎ (f ≡ NotJudged))
 all_or_none : (k : Option Class) (f : Finding) → IsMild f → (reach_of k f ≡ reach.Nothing) ⊎ (reach_of k f ≡ reach.Everything)
 all_or_none k f h = grind arith
 
-own_by : (v : Value) (s : State) → ((takes Left v s).told.reach ≡ reach.Nothing) ⊎ ((takes Left v s).told.reach ≡ reach.Everything) →
-    s.course.left_stopped ≡ false → (takes Left v s).state.course.right_stopped ≡ false →
-    (takes Left v s).state.course.left_stopped ≡ false
-own_by v s h left right = search (arith, stops_are_said, differ)
-
 same_reach : (r q : Reach) → r ≡ q → (q ≡ reach.Nothing) ⊎ (q ≡ reach.Everything) → (r ≡ reach.Nothing) ⊎ (r ≡ reach.Everything)
 same_reach r q e k = grind arith
 
-pub own_judged : (v : Value) (s : State) → IsMild (takes Left v s).told.finding → s.course.left_stopped ≡ false →
-    (takes Left v s).state.course.right_stopped ≡ false → (takes Left v s).state.course.left_stopped ≡ false
-own_judged v s mild left right = grind (arith, own_by, same_reach, all_or_none, to_none, by_route)
+-- ---- a unit of the end
+
+own_reach : (d : Direction) (v : Value) (s : State) → IsMild (takes d v s).told.finding →
+    ((takes d v s).told.reach ≡ reach.Nothing) ⊎ ((takes d v s).told.reach ≡ reach.Everything)
+own_reach d v s mild = grind (arith, same_reach, all_or_none, to_none, by_route)
+
+-- what it does to the judging of the other side
+other_by : (d : Direction) (v : Value) (s : State) →
+    ((takes d v s).told.reach ≡ reach.Nothing) ⊎ ((takes d v s).told.reach ≡ reach.Everything) →
+    is_stopped d (takes d v s).state.course ≡ false → is_stopped (other d) (takes d v s).state.course ≡ is_stopped (other d) s.course
+other_by d v s h still = grind (arith, stops_are_said d v s d, stops_are_said d v s (other d))
+
+own_by : (d : Direction) (v : Value) (s : State) →
+    ((takes d v s).told.reach ≡ reach.Nothing) ⊎ ((takes d v s).told.reach ≡ reach.Everything) →
+    is_stopped d s.course ≡ false → is_stopped (other d) (takes d v s).state.course ≡ false →
+    is_stopped d (takes d v s).state.course ≡ false
+own_by d v s h was others = grind (arith, differ, stops_are_said d v s d, stops_are_said d v s (other d))
+
+pub own_judged : (d : Direction) (v : Value) (s : State) → IsMild (takes d v s).told.finding → is_stopped d s.course ≡ false →
+    is_stopped (other d) (takes d v s).state.course ≡ false → is_stopped d (takes d v s).state.course ≡ false
+own_judged d v s mild was others = own_by d v s (own_reach d v s mild) was others
+
+-- if it stops not the end, it stops not the other side
+pub other_kept : (d : Direction) (v : Value) (s : State) → IsMild (takes d v s).told.finding →
+    is_stopped d (takes d v s).state.course ≡ false → is_stopped (other d) (takes d v s).state.course ≡ is_stopped (other d) s.course
+other_kept d v s mild still = other_by d v s (own_reach d v s mild) still
 
 -- ---- what the other side sends
 
-other_by : (r : Reach) (v : Value) (s : State) → (takes Right v s).told.reach ≡ r → s.course.left_stopped ≡ false →
-    (takes Right v s).state.course.right_stopped ≡ false → (takes Right v s).state.course.left_stopped ≡ false
-other_by reach.Everything v s e left right = grind (arith, differ, stops_are_said)
-other_by _ v s e left right = grind (arith, stops_are_said Right v s Left)
+judged_by : (d : Direction) (r : Reach) (v : Value) (s : State) → (takes (other d) v s).told.reach ≡ r → is_stopped d s.course ≡ false →
+    is_stopped (other d) (takes (other d) v s).state.course ≡ false → is_stopped d (takes (other d) v s).state.course ≡ false
+judged_by Left reach.Everything v s e was others = grind (arith, differ, stops_are_said)
+judged_by Left _ v s e was others = grind (arith, stops_are_said Right v s Left)
+judged_by Right reach.Everything v s e was others = grind (arith, differ, stops_are_said)
+judged_by Right _ v s e was others = grind (arith, stops_are_said Left v s Right)
 
-pub other_judged : (v : Value) (s : State) → s.course.left_stopped ≡ false → (takes Right v s).state.course.right_stopped ≡ false →
-    (takes Right v s).state.course.left_stopped ≡ false
-other_judged v s left right = other_by (takes Right v s).told.reach v s refl left right
+pub other_judged : (d : Direction) (v : Value) (s : State) → is_stopped d s.course ≡ false →
+    is_stopped (other d) (takes (other d) v s).state.course ≡ false → is_stopped d (takes (other d) v s).state.course ≡ false
+other_judged d v s was others = judged_by d (takes (other d) v s).told.reach v s refl was others
+
+-- only what the calling side sends in class 0 stops it alone
+alone_by : (r : Reach) (v : Value) (s : State) → (takes Left v s).told.reach ≡ r → s.course.left_stopped ≡ false →
+    (takes Left v s).state.course.left_stopped ≡ true → (takes Left v s).state.course.right_stopped ≡ false →
+    s.course.class_seen ≡ Some Zero
+alone_by r v s e was left right = search (arith, side_zero, differ, stops_are_said)
+
+pub alone_zero : (v : Value) (s : State) → s.course.left_stopped ≡ false → (takes Left v s).state.course.left_stopped ≡ true →
+    (takes Left v s).state.course.right_stopped ≡ false → s.course.class_seen ≡ Some Zero
+alone_zero v s was left right = alone_by (takes Left v s).told.reach v s refl was left right

@@ -1,20 +1,20 @@
 -- What a called end does to its lines: it takes a unit or makes a call on an open connection, takes a unit for a connection that is
 -- not open, or ends. For the law on a whole called end.
-use Rattle.osi_fair.proofs.Vocabulary.{arith, [], ap, Bool, false, is_some, List, None, Option, refl, Some, subst, sym, true, ℕ, ◌++◌, ◌∙◌}
-use Rattle.osi_fair.proofs.Vocabulary.{◌∷◌, ◌≡◌, ◌≢◌, ◌≤◌, eqb-true, append-nil, AllByRecursion, slice_get, ◌&&◌, ◌==◌, acknowledge}
-use Rattle.osi_fair.proofs.Vocabulary.{confirm, Connect, data0, data2, disconnect, disconnected, error, request, Value, Standing, Two}
-use Rattle.osi_fair.proofs.Vocabulary.{Local, acceptance, opened_link, value_at, Live, linked, Connection, Right, Follows, link_now}
-use Rattle.osi_fair.proofs.Vocabulary.{ActsAlong, IsOpened, Line, opened_line, Whole, State}
+use Rattle.osi_fair.proofs.Vocabulary.{[], acceptance, ActsAlong, AllByRecursion, ap, append-nil, arith, Bool, confirm, Connect, Connection}
+use Rattle.osi_fair.proofs.Vocabulary.{eqb-true, false, Follows, is_some, Line, link_now, linked, List, Live, Local, None}
+use Rattle.osi_fair.proofs.Vocabulary.{opened_line, opened_link, Option, refl, Right, slice_get, Some, Standing, State, subst, sym, true}
+use Rattle.osi_fair.proofs.Vocabulary.{Two, Value, value_at, Whole, ℕ, ◌&&◌, ◌++◌, ◌==◌, ◌∙◌, ◌∷◌, ◌≡◌, ◌≢◌, ◌≤◌}
 use Rattle.osi_fair.proofs.small_facts_that_many_lemmas_use.{differ, no_number, number_is}
 use Rattle.osi_fair.proofs.each_connection_of_a_called_end.{stands_at, Among, AreAbove, AreStrays, Answering, Called, IsFor, IsStray}
 use Rattle.osi_fair.proofs.each_connection_of_a_called_end.{IsUnlinked, Row, Running, Stand, Untagged, answers, closes, comes, line_of}
 use Rattle.osi_fair.proofs.each_connection_of_a_called_end.{over, past, refuses, runs, talks}
 use Rattle.osi_fair.proofs.units_by_their_place.{Placed, all_at, all_elsewhere, all_here, at_join, first_at, units_at, values, values_all}
 use Rattle.osi_fair.proofs.units_by_their_place.{values_join}
-use Rattle.osi_fair.proofs.what_is_live_at_a_called_end.{Timely, timely_puts}
+use Rattle.osi_fair.proofs.what_is_live_at_an_end.{Timely, timely_puts}
 use Rattle.osi_fair.proofs.what_is_put_before_the_cc_passes.{acts_join}
 use Rattle.osi_fair.proofs.which_units_are_for_a_connection.{those}
 use Rattle.osi_fair.proofs.a_dt_of_class_zero_passes.{unlike}
+use Rattle.osi_fair.proofs.a_line_since_its_connection_opened.{Tracks, tracks_on}
 
 -- ---- small facts
 
@@ -33,22 +33,10 @@ some_more (x ∷ xs) ys h = λ e. cc
 pub above_more : (given n : ℕ) (vs units : List Value) → AllByRecursion (λ (v : Value). (m : ℕ) (x : Connect) → v ≡ confirm m x → ⊥) units →
     AreAbove given n vs → AreAbove given n (vs ++ units)
 above_more given n [] [] none h = h
-above_more given n [] (request x ∷ units) (one, more) h = above_more given n [] units more h
 above_more given n [] (confirm destination x ∷ units) (one, more) h = absurd (one destination x refl)
-above_more given n [] (disconnect destination source reason user ∷ units) (one, more) h = above_more given n [] units more h
-above_more given n [] (disconnected destination source ∷ units) (one, more) h = above_more given n [] units more h
-above_more given n [] (data0 end user ∷ units) (one, more) h = above_more given n [] units more h
-above_more given n [] (data2 destination number end user ∷ units) (one, more) h = above_more given n [] units more h
-above_more given n [] (acknowledge credit destination number ∷ units) (one, more) h = above_more given n [] units more h
-above_more given n [] (error destination cause ∷ units) (one, more) h = above_more given n [] units more h
-above_more given n (request x ∷ vs) units none h = above_more given n vs units none h
+above_more given n [] (_ ∷ units) (one, more) h = above_more given n [] units more h
 above_more given n (confirm destination x ∷ vs) units none (above, h) = (above, above_more given x.source vs units none h)
-above_more given n (disconnect destination source reason user ∷ vs) units none h = above_more given n vs units none h
-above_more given n (disconnected destination source ∷ vs) units none h = above_more given n vs units none h
-above_more given n (data0 end user ∷ vs) units none h = above_more given n vs units none h
-above_more given n (data2 destination number end user ∷ vs) units none h = above_more given n vs units none h
-above_more given n (acknowledge credit destination number ∷ vs) units none h = above_more given n vs units none h
-above_more given n (error destination cause ∷ vs) units none h = above_more given n vs units none h
+above_more given n (_ ∷ vs) units none h = above_more given n vs units none h
 
 -- the DCs for what is gone stay such, as more is put after them
 pub strays_keep : (shut after : ℕ → Bool) (s t : State) (refs next : ℕ → Option ℕ) (home now : ℕ → ℕ) (strays : Bool)
@@ -90,7 +78,8 @@ module _ (local : Local) (w : Whole) (f : Called local w) (t : State) (units : L
     (left : (peer : ℕ) (k : Standing) → value_at n w.end.live ≡ Some (linked peer k) → Leaves n peer t)
     (come_is : coming ≡ values came) (few : AllByRecursion (IsFor w.end.given) coming) (untagged : AllByRecursion Untagged came)
     (no_cc : AllByRecursion (λ (v : Value). (m : ℕ) (x : Connect) → v ≡ confirm m x → ⊥) units)
-    (timely : w.judge.course.disconnects.strays ≡ false → t.ended ≡ None → Timely t coming w.judge.connections (values f.tagged)) where
+    (timely : w.judge.course.disconnects.strays ≡ false → t.ended ≡ None →
+    Timely Right t coming w.judge.connections (values f.tagged)) where
   abbrev s : State
   s = w.end
 
@@ -202,11 +191,7 @@ module _ (local : Local) (w : Whole) (f : Called local w) (t : State) (units : L
         judge = h.judge;
         put = ap (λ (vs : List Value). vs ++ units) h.put ∙ sym mine_here;
         begun_is = h.begun_is ∙ sym (grind arith);
-        first = h.first;
-        acts = h.acts ++ o.follows.acts;
-        opened = subst (λ (i : ℕ). IsOpened Right i h.peer h.first) r_is h.opened;
-        along = acts_join Right n h.peer h.acts o.follows.acts h.first h.line line
-            (subst (λ (i : ℕ). ActsAlong Right i h.peer h.first h.acts h.line) r_is h.along)
+        tracks = tracks_on Right n h.peer h.line line o.follows.acts (subst (λ (i : ℕ). Tracks Right i h.peer h.line) r_is h.tracks)
             (o.follows.along Right h.line o.later (g.is ∙ sym (ap link_now g.there)) o.is);
         there = h.there;
         right = h.right ∙ r_is;
@@ -292,7 +277,7 @@ module _ (local : Local) (w : Whole) (f : Called local w) (t : State) (units : L
         (some_more (values f.tagged) (values (all_at (Some p) units)) (f.some h));
     few = subst (λ (j : ℕ). AllByRecursion (IsFor j) coming) (sym given) few;
     untagged = untagged;
-    timely = λ none lasts. subst (λ (l : List Value). Timely t coming w.judge.connections l)
+    timely = λ none lasts. subst (λ (l : List Value). Timely Right t coming w.judge.connections l)
         (sym (values_join f.tagged (all_at (Some p) units) ∙ ap (λ (vs : List Value). values f.tagged ++ vs) (values_all (Some p) units)))
-        (timely_puts t coming w.judge.connections (values f.tagged) units no_cc (timely none lasts));
+        (timely_puts Right t coming w.judge.connections (values f.tagged) units no_cc (timely none lasts));
   }

@@ -1,19 +1,21 @@
 -- A called end takes a unit for a connection that it does not have open, or it ends: what that is for its connections.
 -- For the law on a whole called end.
-use Rattle.osi_fair.proofs.Vocabulary.{arith, [], ap, Bool, false, inl, inr, is_some, List, None, Option, refl, Some, subst, sym, true, ℕ}
-use Rattle.osi_fair.proofs.Vocabulary.{◌++◌, ◌∙◌, ◌∷◌, ◌≡◌, ◌≢◌, ◌≤◌, ◌⊎◌, eqb-true, append-nil, AllByRecursion, slice_get, ◌&&◌, ◌==◌}
-use Rattle.osi_fair.proofs.Vocabulary.{confirm, Connect, Value, Standing, Two, Local, opened_link, value_at, linked, Connection, Right, Act}
-use Rattle.osi_fair.proofs.Vocabulary.{ActsAlong, ignores, Line, opened_line, Whole, State}
+use Rattle.osi_fair.proofs.Vocabulary.{[], Act, ActsAlong, AllByRecursion, ap, append-nil, arith, Bool, confirm, Connect, Connection}
+use Rattle.osi_fair.proofs.Vocabulary.{eqb-true, false, ignores, inl, inr, is_some, Line, linked, List, Local, None, opened_line}
+use Rattle.osi_fair.proofs.Vocabulary.{opened_link, Option, refl, Right, slice_get, Some, Standing, State, subst, sym, true, Two, Value}
+use Rattle.osi_fair.proofs.Vocabulary.{value_at, Whole, ℕ, ◌&&◌, ◌++◌, ◌==◌, ◌∙◌, ◌∷◌, ◌≡◌, ◌≢◌, ◌≤◌, ◌⊎◌}
 use Rattle.osi_fair.proofs.small_facts_that_many_lemmas_use.{differ}
 use Rattle.osi_fair.proofs.each_connection_of_a_called_end.{stands_at, Among, AreAbove, AreStrays, Called, IsFor, IsStray, IsUnlinked, Row}
 use Rattle.osi_fair.proofs.each_connection_of_a_called_end.{Stand, Untagged, answers, closes, comes, line_of, over, past, refuses, runs}
 use Rattle.osi_fair.proofs.each_connection_of_a_called_end.{talks}
 use Rattle.osi_fair.proofs.units_by_their_place.{Placed, all_at, all_nowhere, at_join, first_at, units_at, values, values_all, values_join}
 use Rattle.osi_fair.proofs.what_a_called_end_does_to_its_lines.{above_more, some_more, strays_keep}
-use Rattle.osi_fair.proofs.what_is_live_at_a_called_end.{Timely, timely_puts}
+use Rattle.osi_fair.proofs.what_is_live_at_an_end.{Timely, timely_puts}
 use Rattle.osi_fair.proofs.what_is_put_before_the_cc_passes.{acts_join}
 use Rattle.osi_fair.proofs.which_units_are_for_a_connection.{those}
 use Rattle.osi_fair.proofs.a_dt_of_class_zero_passes.{unlike}
+use Rattle.osi_fair.proofs.a_line_since_its_connection_opened.{tracks_on}
+use Rattle.osi_fair.proofs.each_connection_of_a_called_end.{running_on}
 
 -- ---- a unit for a connection that is not open
 
@@ -29,7 +31,8 @@ module _ (local : Local) (w : Whole) (f : Called local w) (t : State) (units : L
     (all_at None units))
     (come_is : coming ≡ values came) (few : AllByRecursion (IsFor w.end.given) coming) (untagged : AllByRecursion Untagged came)
     (no_cc : AllByRecursion (λ (v : Value). (m : ℕ) (x : Connect) → v ≡ confirm m x → ⊥) units)
-    (timely : w.judge.course.disconnects.strays ≡ false → t.ended ≡ None → Timely t coming w.judge.connections (values f.tagged)) where
+    (timely : w.judge.course.disconnects.strays ≡ false → t.ended ≡ None →
+    Timely Right t coming w.judge.connections (values f.tagged)) where
   abbrev s : State
   s = w.end
 
@@ -104,24 +107,9 @@ module _ (local : Local) (w : Whole) (f : Called local w) (t : State) (units : L
       }) (asks i ∙ none)
   stand_on i c mine begun (runs h none) =
       let g = step_by h.r h.peer h.line.link h.line.coming (h.r == n) refl h.shut_is h.row in
-      runs (record {
-        r = h.r;
-        peer = h.peer;
-        index = h.index;
-        line = record h.line { coming = g.later };
-        judge = h.judge;
-        put = h.put;
-        begun_is = h.begun_is;
-        first = h.first;
-        acts = h.acts ++ g.acts;
-        opened = h.opened;
-        along = grind (arith, acts_join);
-        there = h.there;
-        right = h.right;
-        left = h.left;
-        row = g.row;
-        shut_is = g.shut_is;
-      }) (asks i ∙ none)
+      let line = record h.line { coming = g.later } in
+      runs (running_on h line (tracks_on Right h.r h.peer h.line line g.acts h.tracks (g.along h.line refl refl)) h.judge h.put h.begun_is
+      h.there refl refl g.row g.shut_is) (asks i ∙ none)
   stand_on i c mine begun (past silent up none ask un off) =
       past silent up none (asks i ∙ ask) (λ r e. unlinked_still r (un r e)) off
 
@@ -168,8 +156,8 @@ module _ (local : Local) (w : Whole) (f : Called local w) (t : State) (units : L
     some = λ h. subst (λ (vs : List Value). vs ≢ []) (sym values_are) (some_more (values f.tagged) units (f.some h));
     few = subst (λ (j : ℕ). AllByRecursion (IsFor j) coming) (sym given) few;
     untagged = untagged;
-    timely = λ none lasts. subst (λ (l : List Value). Timely t coming w.judge.connections l) (sym values_are)
-        (timely_puts t coming w.judge.connections (values f.tagged) units no_cc (timely none lasts));
+    timely = λ none lasts. subst (λ (l : List Value). Timely Right t coming w.judge.connections l) (sym values_are)
+        (timely_puts Right t coming w.judge.connections (values f.tagged) units no_cc (timely none lasts));
   }
 
 -- ---- the end

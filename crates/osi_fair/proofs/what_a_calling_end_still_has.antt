@@ -1,16 +1,16 @@
 -- Which connections a calling end of class 2 still has after a unit or a call: all but the one that a DR, DC or ER names.
 -- For the law on DRs.
-use Rattle.osi_fair.proofs.Vocabulary.{arith, [], ap, Bool, false, if◌then◌else◌, is_some, List, None, Option, refl, Result, Some, true, ℕ}
-use Rattle.osi_fair.proofs.Vocabulary.{◌++◌, ◌+◌, ◌∙◌, ◌∷◌, ◌≡◌, ◌⊎◌, eq-eqb, eqb-true, ◌&&◌, ◌==◌, acknowledge, confirm, Connect, data2}
-use Rattle.osi_fair.proofs.Vocabulary.{disconnect, disconnected, error, Value, Standing, LinkFault, Class, Two, Zero, put_other}
-use Rattle.osi_fair.proofs.Vocabulary.{without_other, put_here, closed_on, open_link, sent, sent_all, confirmed, before_class, in_two}
-use Rattle.osi_fair.proofs.Vocabulary.{leaves, opens, taking, to_asked, to_closing, to_connection, to_linked, put, Rows, value_at, without}
-use Rattle.osi_fair.proofs.Vocabulary.{connects, user_does, UserCall, asked, closing, Live as Connection, linked, EndReason, State}
+use Rattle.osi_fair.proofs.Vocabulary.{[], acknowledge, ap, arith, asked, before_class, Bool, Class, closed_on, closing, confirm, confirmed}
+use Rattle.osi_fair.proofs.Vocabulary.{Connect, connects, data2, disconnect, disconnected, EndReason, eq-eqb, eqb-true, error, false}
+use Rattle.osi_fair.proofs.Vocabulary.{if◌then◌else◌, in_two, is_some, leaves, Left, linked, LinkFault, List, Live as Connection, Local}
+use Rattle.osi_fair.proofs.Vocabulary.{None, open_link, opens, Option, proposal, proposal_by, put, put_here, put_other, refl, request}
+use Rattle.osi_fair.proofs.Vocabulary.{Result, Rows, sent, sent_all, Some, Standing, State, taking, to_asked, to_closing, to_connection}
+use Rattle.osi_fair.proofs.Vocabulary.{to_linked, true, Two, user_does, UserCall, Value, value_at, without, without_other, Zero, ℕ, ◌&&◌}
+use Rattle.osi_fair.proofs.Vocabulary.{◌++◌, ◌+◌, ◌==◌, ◌∙◌, ◌∷◌, ◌≡◌, ◌⊎◌}
 use Rattle.osi_carrier.specs.Calls.{sent_on}
 unfoldable use Rattle.osi_carrier.specs.React.{react}
 use Rattle.osi_fair.proofs.small_facts_that_many_lemmas_use.{no_two, none_of}
-use Rattle.osi_fair.proofs.what_the_other_side_closes.{closed_by}
-use Rattle.osi_fair.proofs.what_is_live_at_a_called_end.{IsLive}
+use Rattle.osi_fair.proofs.what_is_live_at_an_end.{IsLive, shuts_of}
 use Rattle.osi_fair.proofs.a_dt_of_class_zero_passes.{unlike}
 
 -- a calling end that offers class 2, while class 0 is not selected
@@ -44,7 +44,7 @@ pub record After (unit : Value) (s t : State) : Type 0 where
   pub offers : OffersTwo t
   pub local : t.local ≡ s.local
   pub class : s.class ≡ Some Two → t.class ≡ Some Two
-  pub live : t.ended ≡ None → (m : ℕ) → IsLive s m → (closed_by unit ≡ Some m → ⊥) → IsLive t m
+  pub live : t.ended ≡ None → (m : ℕ) → IsLive s m → (shuts_of Left unit ≡ Some m → ⊥) → IsLive t m
 
 pub stays : (s t : State) → OffersTwo s → t.is_caller ≡ s.is_caller → t.local ≡ s.local → t.class ≡ s.class → OffersTwo t
 stays s t o a b c = search (arith)
@@ -57,7 +57,7 @@ after_end : (unit : Value) (s t : State) → OffersTwo s → t.is_caller ≡ s.i
 after_end unit s t o a b c over = search (arith, stays, over_not)
 
 after_drop : (unit : Value) (s t : State) (r : ℕ) → OffersTwo s → t.is_caller ≡ s.is_caller → t.local ≡ s.local → t.class ≡ s.class →
-    closed_by unit ≡ Some r → t.live ≡ without r s.live → After unit s t
+    shuts_of Left unit ≡ Some r → t.live ≡ without r s.live → After unit s t
 after_drop unit s t r o a b c closed e = grind (arith, stays, without_other)
 
 -- a CC selects class 2
@@ -81,7 +81,7 @@ widen : (r n : ℕ) (x : Connect) (s : State) → After (confirm r x) s (opens r
     After (confirm n x) s (opens r x (confirmed x s.local s.class) s).state
 widen r n x s a = record { offers = a.offers; local = a.local; class = a.class; live = a.live }
 
-asked_after : (r : ℕ) (unit : Value) (s : State) → OffersTwo s → Selects unit → ((n : ℕ) → closed_by unit ≡ Some n → n ≡ r) →
+asked_after : (r : ℕ) (unit : Value) (s : State) → OffersTwo s → Selects unit → ((n : ℕ) → shuts_of Left unit ≡ Some n → n ≡ r) →
     After unit s (to_asked r unit s).state
 asked_after r (confirm destination x) s o two is = widen r destination x s (opens_after r x s o (two destination x refl))
 asked_after r (disconnect destination source reason user) s o two is =
@@ -97,18 +97,18 @@ taking_after : (unit : Value) (r peer : ℕ) (result : Result Standing LinkFault
     After unit s (taking r peer result s).state
 taking_after unit r peer result s o = grind (arith, has_put, after_end)
 
-leaves_by : (unit : Value) (r peer reason : ℕ) (k : Option Class) (s : State) → OffersTwo s → closed_by unit ≡ Some r →
+leaves_by : (unit : Value) (r peer reason : ℕ) (k : Option Class) (s : State) → OffersTwo s → shuts_of Left unit ≡ Some r →
     After unit s (leaves r peer reason k s).state
 leaves_by unit r peer reason None s o e = after_end unit s (leaves r peer reason None s).state o refl refl refl refl
 leaves_by unit r peer reason (Some Zero) s o e = after_end unit s (leaves r peer reason (Some Zero) s).state o refl refl refl refl
 leaves_by unit r peer reason (Some Two) s o e = after_drop unit s (leaves r peer reason (Some Two) s).state r o refl refl refl e refl
 
-linked_after : (r peer : ℕ) (link : Standing) (unit : Value) (s : State) → OffersTwo s → ((n : ℕ) → closed_by unit ≡ Some n → n ≡ r) →
+linked_after : (r peer : ℕ) (link : Standing) (unit : Value) (s : State) → OffersTwo s → ((n : ℕ) → shuts_of Left unit ≡ Some n → n ≡ r) →
     After unit s (to_linked r peer link unit s).state
 linked_after r peer link (disconnect destination source reason user) s o is = search (arith, leaves_by)
 linked_after r peer link v s o is = search (arith, taking_after)
 
-closing_after : (r : ℕ) (unit : Value) (s : State) → OffersTwo s → ((n : ℕ) → closed_by unit ≡ Some n → n ≡ r) →
+closing_after : (r : ℕ) (unit : Value) (s : State) → OffersTwo s → ((n : ℕ) → shuts_of Left unit ≡ Some n → n ≡ r) →
     After unit s (to_closing r unit s).state
 closing_after r (disconnect destination source reason user) s o is =
     after_drop (disconnect destination source reason user) s _ r o refl refl refl
@@ -119,7 +119,7 @@ closing_after r (disconnected destination source) s o is =
 closing_after r v s o is = grind (arith, stays)
 
 connection_after : (r : ℕ) (o : Option Connection) (unit : Value) (s : State) → OffersTwo s → (o ≡ Some asked → Selects unit) →
-    ((n : ℕ) → closed_by unit ≡ Some n → n ≡ r) → After unit s (to_connection r o unit s).state
+    ((n : ℕ) → shuts_of Left unit ≡ Some n → n ≡ r) → After unit s (to_connection r o unit s).state
 connection_after r None unit s h two is = grind (arith, after_end)
 connection_after r (Some asked) unit s h two is = asked_after r unit s h (two refl) is
 connection_after r (Some (linked peer link)) unit s h two is = linked_after r peer link unit s h is
@@ -177,3 +177,15 @@ call_after call s o = grind (arith, stays, has_push, sent_after, all_after, clos
 -- a new connection
 pub new_live : (calling called : Option (List ℕ)) (s : State) → IsLive (user_does (connects calling called) s) (s.given + 1)
 new_live calling called s = has_last (s.given + 1) asked s.live
+
+by_proposal : (b : Bool) (local : Local) (held : Option Class) (calling called : Option (List ℕ)) (r : ℕ) →
+    (proposal_by b local held calling called r).source ≡ r
+by_proposal b local held calling called r = grind arith
+
+same_request : (x y : Connect) → request x ≡ request y → y ≡ x
+same_request x y e = cc
+
+-- its CR gives the next reference
+pub source_so : (calling called : Option (List ℕ)) (s : State) (y : Connect) →
+    request (proposal s.local s.class calling called (s.given + 1)) ≡ request y → s.given + 1 ≡ y.source
+source_so calling called s y e = grind (arith, by_proposal, same_request)

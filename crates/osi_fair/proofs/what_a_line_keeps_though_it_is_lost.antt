@@ -1,16 +1,15 @@
 -- What holds of a line, be its connection judged or not: its units have its references, and the judge knows that of the other side.
 -- For the laws on whole ends.
-use Rattle.osi_fair.proofs.Vocabulary.{[], ap, arith, Bool, false, List, Option, refl, Some, subst, sym, true, ℕ, ◌++◌, ◌∙◌, ◌∷◌, ◌≡◌, ◌≢◌}
-use Rattle.osi_fair.proofs.Vocabulary.{eq-eqb, acknowledge, confirm, Connect, data2, disconnect, disconnected, Value, Two, is_applied}
-use Rattle.osi_fair.proofs.Vocabulary.{reach_of, is_silent, connection_after, Connection, Right, if◌then◌else◌, Reach, Half, Act, Acts}
-use Rattle.osi_fair.proofs.Vocabulary.{ActsAlong, answers, begins_elsewhere, closes_with as closes, finding_of, ignores, IsOpened, Line}
-use Rattle.osi_fair.proofs.Vocabulary.{moves, units_put, Course, Move, give_out, hand_in, hand_out, take_in, ack, part0, part2, Moves}
-use Rattle.osi_fair.proofs.Vocabulary.{Standing, Flow, data0, error, None, request, taken_flow, begins, Direction, other, seen, theirs}
+use Rattle.osi_fair.proofs.Vocabulary.{[], ack, acknowledge, Act, Acts, ActsAlong, answers, ap, arith, begins, begins_elsewhere, Bool}
+use Rattle.osi_fair.proofs.Vocabulary.{closes_with as closes, confirm, Connect, Connection, connection_after, Course, data0, data2}
+use Rattle.osi_fair.proofs.Vocabulary.{Direction, disconnect, disconnected, eq-eqb, error, false, finding_of, Flow, give_out, Half, hand_in}
+use Rattle.osi_fair.proofs.Vocabulary.{hand_out, ignores, is_applied, is_silent, IsOpened, Line, List, Move, Moves, moves, None, Option}
+use Rattle.osi_fair.proofs.Vocabulary.{other, part0, part2, Reach, reach_of, refl, request, Right, seen, Some, Standing, subst, sym}
+use Rattle.osi_fair.proofs.Vocabulary.{take_in, taken_flow, theirs, true, Two, units_put, Value, ℕ, ◌++◌, ◌∙◌, ◌∷◌, ◌≡◌, ◌≢◌}
 use Rattle.osi_fair.proofs.small_facts_that_many_lemmas_use.{no_list}
 use Rattle.osi_fair.proofs.what_a_link_does.{gives_so, takes_so}
-use Rattle.osi_rules.specs.declared.findings.Rule.TheVariants as rule
 use Rattle.osi_fair.specs.Lines.{begins_other, begins_own, passes_other, passes_own}
-use Rattle.osi_fair.proofs.how_a_unit_of_right_passes.{half_keeps, half_started}
+use Rattle.osi_fair.proofs.small_facts_that_many_lemmas_use.{half_keeps, half_started}
 use Rattle.osi_fair.proofs.what_stays_of_each_connection.{left_judged, left_own, left_then, right_judged, right_own, right_then}
 use Rattle.osi_fair.proofs.which_units_are_for_a_connection.{AllOurs}
 

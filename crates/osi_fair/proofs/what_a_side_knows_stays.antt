@@ -7,7 +7,6 @@ use Rattle.osi_fair.proofs.Vocabulary.{is_named, is_open, is_over, is_silent, ot
 use Rattle.osi_fair.proofs.Vocabulary.{at_place, class_for, connection_after, found_on, fresh, is_stopped, none_told, Outcome, placed}
 use Rattle.osi_fair.proofs.Vocabulary.{request_tests, route, routed, Traffic as State, Connection, Direction, Finding, Kept, NotJudged}
 use Rattle.osi_fair.proofs.Vocabulary.{Reach, Half, Route, Asks, Named, Only, Unnamed, all_passed, packet, passes, Passing, rubbish, unit}
-use Rattle.osi_rules.specs.declared.findings.Rule.TheVariants as rule
 use Rattle.osi_fair.proofs.small_facts_that_many_lemmas_use.{and_first, and_second, differ}
 use Rattle.osi_fair.proofs.what_holds_of_one_item.{HoldsOfEach, after_add, after_map, after_set, first_true}
 use Rattle.osi_fair.proofs.when_a_connection_has_a_name.{IsEarlier, earlier_same, three, three_make}

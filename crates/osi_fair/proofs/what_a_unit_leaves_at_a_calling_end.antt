@@ -1,17 +1,18 @@
 -- What a calling end has of a connection after it has taken a unit that names it.
 -- For the law on a whole end.
-use Rattle.osi_fair.proofs.Vocabulary.{arith, [], ap, Bool, Err, false, if◌then◌else◌, inl, inr, is_some, List, None, Ok, Option, refl}
-use Rattle.osi_fair.proofs.Vocabulary.{Result, Some, sym, true, ℕ, ◌++◌, ◌∙◌, ◌∷◌, ◌≡◌, ◌≢◌, ◌⊎◌, AllByRecursion, confirm, Connect}
-use Rattle.osi_fair.proofs.Vocabulary.{destination_of, disconnect, disconnected, error, Value, Standing, LinkFault, Two, Zero, put_here}
-use Rattle.osi_fair.proofs.Vocabulary.{without_here, agreed_size, opened_link, proposes_zero, RiseFrom, pumped, handed_out, in_two, opens}
-use Rattle.osi_fair.proofs.Vocabulary.{taking, to_asked, to_connection, to_linked, to_unknown, value_at, asked, closing, Live, linked}
-use Rattle.osi_fair.proofs.Vocabulary.{State, outcome, state_is}
+use Rattle.osi_fair.proofs.Vocabulary.{[], agreed_size, AllByRecursion, ap, arith, asked, Bool, closing, confirm, Connect, destination_of}
+use Rattle.osi_fair.proofs.Vocabulary.{disconnect, disconnected, Err, error, false, handed_out, if◌then◌else◌, in_two, inl, inr, is_some}
+use Rattle.osi_fair.proofs.Vocabulary.{Left, linked, LinkFault, List, Live, None, Ok, opened_link, opens, Option, outcome, proposes_zero}
+use Rattle.osi_fair.proofs.Vocabulary.{pumped, put_here, refl, Result, RiseFrom, Some, Standing, State, state_is, sym, taking, to_asked}
+use Rattle.osi_fair.proofs.Vocabulary.{to_connection, to_linked, to_unknown, true, Two, Value, value_at, without_here, Zero, ℕ, ◌++◌, ◌∙◌}
+use Rattle.osi_fair.proofs.Vocabulary.{◌∷◌, ◌≡◌, ◌≢◌, ◌⊎◌}
 unfoldable use Rattle.osi_carrier.specs.React.{react}
 use Rattle.osi_fair.proofs.small_facts_that_many_lemmas_use.{differ, first_is, no_list, number_is, rest_is}
 use Rattle.osi_fair.proofs.how_a_calling_end_asks.{IsCalling, outcome_is}
 use Rattle.osi_fair.proofs.what_a_calling_end_still_has.{OffersTwo, Selects, not_zero, over_not}
-use Rattle.osi_fair.proofs.what_the_other_side_closes.{IsDr, closed_by}
+use Rattle.osi_fair.proofs.what_the_other_side_closes.{IsDr}
 use Rattle.osi_fair.proofs.which_units_are_for_a_connection.{IsDc, is_dc}
+use Rattle.osi_fair.proofs.what_is_live_at_an_end.{shuts_of}
 
 -- ---- for which connection it is
 
@@ -97,7 +98,7 @@ pub early_parts : (early : List Value) (u v : Value) (us vs : List Value) → Al
 early_parts [] u v us vs dcs e = grind (arith, differ, first_is, rest_is)
 early_parts (d ∷ ds) u v us vs (one, more) e = grind (arith, rest_is, differ, first_is)
 
-pub dr_closes : (u : Value) (n : ℕ) → IsDr u → destination_of u ≡ Some n → closed_by u ≡ Some n
+pub dr_closes : (u : Value) (n : ℕ) → IsDr u → destination_of u ≡ Some n → shuts_of Left u ≡ Some n
 dr_closes u n dr e = grind arith
 
 -- whether it is a DR

@@ -1,14 +1,15 @@
 -- What the line of each connection of a whole calling end is after the end has taken a unit that names a connection.
 -- For the law on a whole end.
-use Rattle.osi_fair.proofs.Vocabulary.{Right, inl, inr, confirm, [], ap, arith, Bool, false, is_some, List, None, refl, Some, subst, sym}
-use Rattle.osi_fair.proofs.Vocabulary.{true, ℕ, ◌++◌, ◌∙◌, ◌∷◌, ◌≡◌, ◌≢◌, ◌≤◌, eqb-true, append-nil, AllByRecursion, slice_get, ◌&&◌, ◌==◌}
-use Rattle.osi_fair.proofs.Vocabulary.{Connect, destination_of, disconnected, request, Value, Standing, Two, Local, value_at, asked, linked}
-use Rattle.osi_fair.proofs.Vocabulary.{Traffic, Connection, Half, Line, Whole, State}
+use Rattle.osi_fair.proofs.Vocabulary.{[], AllByRecursion, ap, append-nil, arith, asked, Bool, confirm, Connect, Connection, destination_of}
+use Rattle.osi_fair.proofs.Vocabulary.{disconnected, eqb-true, false, Follows, Half, inl, inr, is_some, Left, Line, link_now, linked, List}
+use Rattle.osi_fair.proofs.Vocabulary.{Local, None, refl, request, Right, slice_get, Some, Standing, State, subst, sym, Traffic, true, Two}
+use Rattle.osi_fair.proofs.Vocabulary.{Value, value_at, Whole, ℕ, ◌&&◌, ◌++◌, ◌==◌, ◌∙◌, ◌∷◌, ◌≡◌, ◌≢◌, ◌≤◌}
 use Rattle.osi_fair.proofs.small_facts_that_many_lemmas_use.{all_join, first_is, rest_is, differ, no_list}
 use Rattle.osi_fair.proofs.a_unit_of_a_whole_end_passes.{all_two}
 use Rattle.osi_fair.proofs.no_two_open_connections_have_one_peer.{one_peer}
 use Rattle.osi_fair.proofs.each_connection_has_its_line.{IsNoCc, followed_at, AreSettled, Followed, Following, IsAnswer, IsAsking, IsOwned}
-use Rattle.osi_fair.proofs.each_connection_has_its_line.{IsSettled, Row, Tracked, Waiting, all_so, asks, closes, over, is_tracked, of}
+use Rattle.osi_fair.proofs.each_connection_has_its_line.{AreGiven, IsSettled, Row, Tracked, Waiting, all_so, asks, closes, over, is_tracked}
+use Rattle.osi_fair.proofs.each_connection_has_its_line.{of}
 use Rattle.osi_fair.proofs.each_connection_has_its_line.{stray, talks}
 use Rattle.osi_fair.proofs.names_stay_apart_though_one_is_lost.{AreNamedApart}
 use Rattle.osi_fair.proofs.what_the_other_side_closes.{IsSane}
@@ -16,6 +17,9 @@ use Rattle.osi_fair.proofs.which_units_are_for_a_connection.{picked_each, AllOur
 use Rattle.osi_fair.proofs.which_units_are_for_a_connection.{leads, named_not, named_so, names, none_ours, picked_other, ours, picked_join}
 use Rattle.osi_fair.proofs.which_units_are_for_a_connection.{those}
 use Rattle.osi_fair.proofs.a_dt_of_class_zero_passes.{unlike}
+use Rattle.osi_fair.proofs.a_line_since_its_connection_opened.{tracks_keep, tracks_on}
+use Rattle.osi_fair.proofs.what_a_unit_leaves_at_a_calling_end.{Linked, ends, spare_none, still}
+use Rattle.osi_fair.proofs.which_units_are_for_a_connection.{all_ours, last_ours, picked_first, those_join}
 
 -- ---- lists
 
@@ -105,15 +109,105 @@ after_early : (early : List Value) (u v : Value) (us vs : List Value) → AllByR
 after_early [] u v us vs dcs none e = rest_is u v us vs e
 after_early (d ∷ ds) u v us vs (one, more) none e = differ (is_dc d) one (sym (ap is_dc (first_is u d us (ds ++ v ∷ vs) e)) ∙ none)
 
--- ---- after the unit
+pub all_second : (P : Value → Type 0) (xs ys : List Value) → AllByRecursion P (xs ++ ys) → AllByRecursion P ys
+all_second P [] ys h = h
+all_second P (x ∷ xs) ys h = all_second P xs ys h.1
+
+-- ---- what the line of an open connection does: the end takes these units for it, or makes a call
+
+module _ (local : Local) (w : Whole) (f : Followed local w) (t : State) (units taken later : List Value) (n peer : ℕ) (link : Standing)
+    (was : w.end.ended ≡ None) (here : value_at n w.end.live ≡ Some (linked peer link))
+    (come : (r : ℕ) → r ≡ n → those r w.coming ≡ taken ++ those r later)
+    (follows : (r q : ℕ) (l : Standing) → r ≡ n → value_at r w.end.live ≡ Some (linked q l) → Follows r q taken units w.end t)
+    (linked_then : (q : ℕ) (l : Standing) → value_at n w.end.live ≡ Some (linked q l) → Linked n q t) where
+  abbrev Follows_on : Connection → Type 0
+  Follows_on c = Following local (w.put ++ units) w.begun w.judge.course.disconnects.strays t later c
+
+  record Grown (c : Connection) : Type 0 where
+    grown : Follows_on c
+    own : AllOurs n c.right.reference units
+
+  new_row : (r q : ℕ) (line : Line) → r ≡ n → line.link ≡ link_now (value_at r t.live) → those r later ≡ line.coming → Linked n q t →
+      Row local t later r q line
+  new_row r q line same is coming (still l there) =
+      let row = ap (λ (i : ℕ). value_at i t.live) same ∙ there in talks l row (is ∙ ap link_now row) coming
+  new_row r q line same is coming (ends o there i (inl h)) =
+      let row = ap (λ (i : ℕ). value_at i t.live) same ∙ there in closes o row i (inl h) (is ∙ ap link_now (row ∙ h)) coming
+  new_row r q line same is coming (ends o there i (inr h)) =
+      let row = ap (λ (i : ℕ). value_at i t.live) same ∙ there in closes o row i (inr h) (is ∙ ap link_now (row ∙ h)) coming
+
+  grows : (c : Connection) (g : Following local w.put w.begun w.judge.course.disconnects.strays w.end w.coming c) → g.r ≡ n →
+      (l : Standing) → value_at g.r w.end.live ≡ Some (linked g.peer l) → g.line.link ≡ Some l → those g.r w.coming ≡ g.line.coming →
+      Grown c
+  grows c g same l r is come_all =
+      let acts = follows g.r g.peer l same r in
+      let coming = sym come_all ∙ come g.r same in
+      let line : Line = record g.line { link = link_now (value_at g.r t.live); put = g.line.put ++ units; coming = those g.r later } in
+      let tracks = tracks_on Left g.r g.peer g.line line acts.acts g.tracks
+      (acts.along Left g.line (those g.r later) (is ∙ sym (ap link_now r)) coming) in
+      let own = last_ours g.r g.peer g.line.put units (tracks_keep Left g.r g.peer line tracks).ours in
+      let none = spare_none g.spare g.line.link l g.gone is in
+      record {
+        grown = record {
+          r = g.r;
+          peer = g.peer;
+          line = line;
+          left = g.left;
+          right = g.right;
+          tracks = tracks;
+          judge = g.judge;
+          spare = [];
+          put_is = picked_join (is_ours g.r g.peer) w.put units
+              ∙ ap (λ (v : List Value). v ++ ours g.r g.peer units) (g.put_is ∙ ap (λ (v : List Value). g.line.put ++ v) none
+              ∙ append-nil g.line.put)
+              ∙ ap (λ (v : List Value). g.line.put ++ v) (all_ours g.r g.peer units own) ∙ sym (append-nil (g.line.put ++ units));
+          spares = tt;
+          gone = λ h. absurd (h refl);
+          begun_is = λ first. g.begun_is (λ h. none) ∙ leads_more w.begun (is_ours g.r g.peer) w.put units f.some;
+          row = new_row g.r g.peer line same refl refl (linked_then g.peer l (ap (λ (i : ℕ). value_at i w.end.live) (sym same) ∙ r));
+          calm = λ j. all_second IsNoCc taken (those g.r later) (subst (AllByRecursion IsNoCc) coming (g.calm j));
+        };
+        own = subst (λ (i : ℕ). AllOurs n i units) (sym g.right) (subst (λ (i : ℕ). AllOurs i g.peer units) same own);
+      }
+
+  grown_by : (c : Connection) (g : Following local w.put w.begun w.judge.course.disconnects.strays w.end w.coming c) → g.r ≡ n →
+      Row local w.end w.coming g.r g.peer g.line → Grown c
+  grown_by c g same (over h) = differ (is_some w.end.ended) h (ap is_some was)
+  grown_by c g same (talks l r is come_all) = grows c g same l r is come_all
+  grown_by c g same (asks r x source two early dcs first is) = grind arith
+  grown_by c g same (closes o r i (inl h) gone come_all) = grind arith
+  grown_by c g same (closes o r i (inr h) gone come_all) = grind arith
+
+  pub line_grows : (c : Connection) (g : Following local w.put w.begun w.judge.course.disconnects.strays w.end w.coming c) → g.r ≡ n →
+      Follows_on c
+  line_grows c g same = (grown_by c g same g.row).grown
+
+  pub open_owner : Owner w.judge n units
+  open_owner =
+      let ((p, c, at, tracked, left), two) = f.linked was n peer link here in
+      let g = f.lines p c at tracked in
+      record { p = p; c = c; at = at; tracked = tracked; left = left; own = (grown_by c g (sym g.left ∙ left) g.row).own }
+
+  -- it awaits no CC then
+  pub not_asked_then : value_at n t.live ≡ Some asked → ⊥
+  not_asked_then = by (linked_then peer link here)
+    where
+      by : Linked n peer t → value_at n t.live ≡ Some asked → ⊥
+      by (still l there) row = cc (sym there ∙ row)
+      by (ends o there i (inl h)) row = cc (sym h ∙ sym there ∙ row)
+      by (ends o there i (inr h)) row = cc (sym h ∙ sym there ∙ row)
+
+-- ---- all connections, after a unit or a call
 
 module _ (local : Local) (w : Whole) (f : Followed local w) (sane : IsSane w.judge) (peers : AreNamedApart Right w.judge.connections)
-    (t : State) (units : List Value) (u : Value) (later : List Value) (n : ℕ) (come : w.coming ≡ u ∷ later)
-    (dest : destination_of u ≡ Some n)
+    (t : State) (units taken later : List Value) (n : ℕ) (come : w.coming ≡ taken ++ later)
+    (later_other : (r : ℕ) → (r ≡ n → ⊥) → those r w.coming ≡ those r later)
     (rows : (m : ℕ) → (m ≡ n → ⊥) → value_at m t.live ≡ value_at m w.end.live) (class : w.end.class ≡ Some Two → t.class ≡ Some Two)
     (given : w.end.given ≤ t.given) (was : w.end.ended ≡ None)
-    (asked_dc : is_dc u ≡ true → value_at n w.end.live ≡ Some asked → value_at n t.live ≡ Some asked)
+    (asked_waits : AllByRecursion IsDc (those n w.coming) → value_at n w.end.live ≡ Some asked → value_at n t.live ≡ Some asked)
     (asked_was : value_at n t.live ≡ Some asked → value_at n w.end.live ≡ Some asked)
+    (asked_still : AllByRecursion (λ (v : Value). (m : ℕ) (x : Connect) → v ≡ confirm m x → m ≡ n → w.judge.course.loose ≡ false →
+    Tracked w.judge.connections n × (value_at n w.end.live ≡ Some asked) → value_at n t.live ≡ Some asked) later)
     (mine : (p : ℕ) (c : Connection) → slice_get w.judge.connections p ≡ Some c → is_tracked c ≡ true →
     (g : Following local w.put w.begun w.judge.course.disconnects.strays w.end w.coming c) → g.r ≡ n →
     Following local (w.put ++ units) w.begun w.judge.course.disconnects.strays t later c)
@@ -123,8 +217,9 @@ module _ (local : Local) (w : Whole) (f : Followed local w) (sane : IsSane w.jud
   abbrev cs : List Connection
   cs = w.judge.connections
 
-  later_other : (r : ℕ) → (r ≡ n → ⊥) → those r w.coming ≡ those r later
-  later_other r other = grind (arith, picked_rest, named_not)
+  those_later : (P : Value → Type 0) (r : ℕ) → AllByRecursion P (those r w.coming) → AllByRecursion P (those r later)
+  those_later P r h = all_second P (those r taken) (those r later)
+      (subst (AllByRecursion P) (ap (λ (l : List Value). those r l) come ∙ those_join r taken later) h)
 
   row_later : (r peer : ℕ) (line : Line) → (r ≡ n → ⊥) → Row local w.end w.coming r peer line → Row local t later r peer line
   row_later r peer line other (asks there x source two early dcs first is) =
@@ -150,33 +245,55 @@ module _ (local : Local) (w : Whole) (f : Followed local w) (sane : IsSane w.jud
   line_by p c at tracked g true e = mine p c at tracked g (eqb-true g.r n e)
   line_by p c at tracked g false e = line_other p c at tracked g (unlike g.r n e)
 
+  of_later : (P : Value → Type 0) → AllByRecursion P w.coming → AllByRecursion P later
+  of_later P h = all_second P taken later (subst (AllByRecursion P) come h)
+
+  asked_by : (r : ℕ) (b : Bool) → (r == n) ≡ b → AllByRecursion IsDc (those r w.coming) → value_at r w.end.live ≡ Some asked →
+      value_at r t.live ≡ Some asked
+  asked_by r true e early row =
+      let same = eqb-true r n e in
+      ap (λ (i : ℕ). value_at i t.live) same
+      ∙ asked_waits (subst (λ (i : ℕ). AllByRecursion IsDc (those i w.coming)) same early)
+      (ap (λ (i : ℕ). value_at i w.end.live) (sym same) ∙ row)
+  asked_by r false e early row = rows r (unlike r n e) ∙ row
+
   waits_new : (c : Connection) → Waiting local w.end w.coming c → Waiting local t later c
-  waits_new c k = search arith
+  waits_new c k = record {
+    r = k.r;
+    left = k.left;
+    right = k.right;
+    seen = k.seen;
+    early = those_later IsDc k.r k.early;
+    row = λ lasts. asked_by k.r (k.r == n) refl k.early (k.row was);
+  }
 
   asking_new : (x : Connect) → IsAsking local w.end w.coming x → IsAsking local t later x
-  asking_new x k = search arith
+  asking_new x k = record {
+    left = k.left;
+    early = those_later IsDc x.source k.early;
+    row = λ lasts. asked_by x.source (x.source == n) refl k.early (k.row was);
+  }
 
   linked_by : (m peer : ℕ) (link : Standing) (b : Bool) → (m == n) ≡ b → value_at m t.live ≡ Some (linked peer link) →
       Tracked cs m × (t.class ≡ Some Two)
   linked_by m peer link b e h = search (arith, eqb-true, unlike)
 
-  abbrev Answered : Type 0
-  Answered = (w.judge.course.loose ≡ false) × (Tracked cs n × (value_at n w.end.live ≡ Some asked)) × (is_dc u ≡ false)
+  abbrev Keeps_asked : Value → Type 0
+  Keeps_asked v = (m : ℕ) (x : Connect) → v ≡ confirm m x → m ≡ n → w.judge.course.loose ≡ false →
+      Tracked cs n × (value_at n w.end.live ≡ Some asked) → value_at n t.live ≡ Some asked
 
-  calm_later : Answered → AllByRecursion (λ (v : Value). names n v ≡ true → IsNoCc v) later
-  calm_later (firm, ((p, c, at, tracked, is), there), none) =
-      let g = f.lines p c at tracked in
-      picked_each IsNoCc (names n) later (grind (arith, after_early, differ))
+  answer_firm : (v : Value) (m : ℕ) (x : Connect) → w.judge.course.loose ≡ false → v ≡ confirm m x →
+      Tracked cs m × (value_at m w.end.live ≡ Some asked) → Keeps_asked v → (b : Bool) → (m == n) ≡ b → value_at m t.live ≡ Some asked
+  answer_firm v m x firm e h k true same =
+      let is = eqb-true m n same in
+      ap (λ (i : ℕ). value_at i t.live) is
+      ∙ k m x e is firm (subst (λ (i : ℕ). Tracked cs i × (value_at i w.end.live ≡ Some asked)) is h)
+  answer_firm v m x firm e h k false same = rows m (unlike m n same) ∙ h.1
 
-  answer_by : (v : Value) (m : ℕ) (x : Connect) → w.judge.course.loose ≡ false → v ≡ confirm m x →
-      Tracked cs m × (value_at m w.end.live ≡ Some asked) → (Answered → names n v ≡ true → IsNoCc v) → (b d : Bool) → (m == n) ≡ b →
-      is_dc u ≡ d → Tracked cs m × (value_at m t.live ≡ Some asked)
-  answer_by v m x firm e h k b d same none = grind (arith, eqb-true, named_so, unlike)
-
-  answer_now : (v : Value) → IsAnswer w.judge.course.loose cs w.end v → (Answered → names n v ≡ true → IsNoCc v) →
-      IsAnswer w.judge.course.loose cs t v
+  answer_now : (v : Value) → IsAnswer w.judge.course.loose cs w.end v → Keeps_asked v → IsAnswer w.judge.course.loose cs t v
   answer_now v h k m x e lasts (inl row) = ((h m x e was (inl (grind (arith, eqb-true, unlike)))).0, row)
-  answer_now v h k m x e lasts (inr firm) = answer_by v m x firm e (h m x e was (inr firm)) k (m == n) (is_dc u) refl refl
+  answer_now v h k m x e lasts (inr firm) =
+      let before = h m x e was (inr firm) in (before.0, answer_firm v m x firm e before k (m == n) refl)
 
   -- no CR waits for the reference of what the end puts, and none is to pass
   settled_here : IsAnswered w.end n → IsSettled cs (w.put ++ units) t.given n
@@ -199,9 +316,8 @@ module _ (local : Local) (w : Whole) (f : Followed local w) (sane : IsSane w.jud
     waiting = λ i c at waiting. waits_new c (f.waiting i c at waiting);
     owned = all_join (λ v. IsOwned w.judge v) w.put units f.owned (units_owned w.judge w.end n units owner);
     linked = λ lasts m peer link h. linked_by m peer link (m == n) refl h;
-    answers = all_two (λ v. IsAnswer w.judge.course.loose cs w.end v) (λ v. Answered → names n v ≡ true → IsNoCc v)
-        (λ v. IsAnswer w.judge.course.loose cs t v) later answer_now (grind arith)
-        (all_under Answered (λ v. names n v ≡ true → IsNoCc v) later calm_later);
+    answers = all_two (λ v. IsAnswer w.judge.course.loose cs w.end v) Keeps_asked (λ v. IsAnswer w.judge.course.loose cs t v) later
+        answer_now (of_later (λ v. IsAnswer w.judge.course.loose cs w.end v) f.answers) asked_still;
     requests = all_join (λ v. (x : Connect) → v ≡ request x → IsAsking local t later x) w.put units
         (search (arith, all_so, asking_new))
         (units_ask w.judge w.end n units (λ x. IsAsking local t later x) owner);
@@ -209,7 +325,8 @@ module _ (local : Local) (w : Whole) (f : Followed local w) (sane : IsSane w.jud
     silent = f.silent;
     zero = f.zero;
     some = λ h. some_more w.put units (f.some h);
-    few = grind (arith, all_so);
+    few = all_so (AreGiven w.end.given) (AreGiven t.given) later (λ v h none m e. let up = h none m e in omega arith)
+        (of_later (AreGiven w.end.given) f.few);
     seen = f.seen;
     settled = all_join (AreSettled cs (w.put ++ units) t.given) w.put units
         (all_so (AreSettled cs w.put w.end.given) (AreSettled cs (w.put ++ units) t.given) w.put
@@ -219,3 +336,41 @@ module _ (local : Local) (w : Whole) (f : Followed local w) (sane : IsSane w.jud
     lost = f.lost;
     shut = λ lasts i c at closed row. f.shut was i c at closed (grind (arith, eqb-true, unlike));
   }
+
+-- ---- after a unit
+
+module _ (local : Local) (w : Whole) (f : Followed local w) (sane : IsSane w.judge) (peers : AreNamedApart Right w.judge.connections)
+    (t : State) (units : List Value) (u : Value) (later : List Value) (n : ℕ) (come : w.coming ≡ u ∷ later)
+    (dest : destination_of u ≡ Some n) (was : w.end.ended ≡ None)
+    (asked_dc : is_dc u ≡ true → value_at n w.end.live ≡ Some asked → value_at n t.live ≡ Some asked) where
+  pub first_n : (r : ℕ) → r ≡ n → those r w.coming ≡ u ∷ those r later
+  first_n r same = grind (arith, picked_first, named_so)
+
+  pub other_n : (r : ℕ) → (r ≡ n → ⊥) → those r w.coming ≡ those r later
+  other_n r other = grind (arith, picked_rest, named_not)
+
+  pub dc_waits : AllByRecursion IsDc (those n w.coming) → value_at n w.end.live ≡ Some asked → value_at n t.live ≡ Some asked
+  dc_waits early row = asked_dc (subst (AllByRecursion IsDc) (first_n n refl) early).0 row
+
+  -- after the CC that the end awaits comes no other, as long as no connection has lost its judgement
+  abbrev Answered : Type 0
+  Answered = (w.judge.course.loose ≡ false) × (Tracked w.judge.connections n × (value_at n w.end.live ≡ Some asked)) × (is_dc u ≡ false)
+
+  calm_later : Answered → AllByRecursion (λ (v : Value). names n v ≡ true → IsNoCc v) later
+  calm_later (firm, ((p, c, at, tracked, is), there), none) =
+      let g = f.lines p c at tracked in
+      picked_each IsNoCc (names n) later (grind (arith, after_early, differ))
+
+  keeps_by : (v : Value) (m : ℕ) (x : Connect) → v ≡ confirm m x → m ≡ n → w.judge.course.loose ≡ false →
+      Tracked w.judge.connections n × (value_at n w.end.live ≡ Some asked) → (Answered → names n v ≡ true → IsNoCc v) → (d : Bool) →
+      is_dc u ≡ d → value_at n t.live ≡ Some asked
+  keeps_by v m x e same firm k none true dc = asked_dc dc k.1
+  keeps_by v m x e same firm k none false dc =
+      absurd (none (firm, k, dc) (named_so n v (ap destination_of e ∙ ap (λ (i : ℕ). Some i) same)) m x e)
+
+  pub dc_still : AllByRecursion (λ (v : Value). (m : ℕ) (x : Connect) → v ≡ confirm m x → m ≡ n → w.judge.course.loose ≡ false →
+      Tracked w.judge.connections n × (value_at n w.end.live ≡ Some asked) → value_at n t.live ≡ Some asked) later
+  dc_still = all_so (λ v. Answered → names n v ≡ true → IsNoCc v) (λ v. (m : ℕ) (x : Connect) → v ≡ confirm m x → m ≡ n →
+      w.judge.course.loose ≡ false → Tracked w.judge.connections n × (value_at n w.end.live ≡ Some asked) →
+      value_at n t.live ≡ Some asked) later (λ v none m x e same firm k. keeps_by v m x e same firm k none (is_dc u) refl)
+      (all_under Answered (λ v. names n v ≡ true → IsNoCc v) later calm_later)

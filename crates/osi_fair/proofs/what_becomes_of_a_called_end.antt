@@ -1,19 +1,19 @@
 -- What a called end has after it has taken a unit: its class, its references, and which of its connections are live.
 -- For the law on a whole called end.
-use Rattle.osi_fair.proofs.Vocabulary.{[], ap, arith, Bool, Err, false, is_some, List, None, Ok, Option, refl, Result, Some, subst, sym}
-use Rattle.osi_fair.proofs.Vocabulary.{true, ℕ, ◌++◌, ◌∙◌, ◌∷◌, ◌≡◌, ◌≤◌, ◌⊎◌, eqb-true, AllByRecursion, ◌==◌, acknowledge, confirm, data0}
-use Rattle.osi_fair.proofs.Vocabulary.{data2, destination_of, disconnect, disconnected, error, request, Value, Ends, Flow, Given, Standing}
-use Rattle.osi_fair.proofs.Vocabulary.{taken_by, unit_of, LinkFault, WrongForm, Class, Two, Local, push_other, put_other, without_other}
-use Rattle.osi_fair.proofs.Vocabulary.{row_here, push_here, put_here, without_here, AreUpTo, IsOrderly, RiseFrom, pumped, breaks_in}
-use Rattle.osi_fair.proofs.Vocabulary.{handed_out, taking, to_closing, to_linked, put, Rows, value_at, without, asked, closing, Live}
-use Rattle.osi_fair.proofs.Vocabulary.{linked, packets, Follows, link_now, closes_with, put_for, State, UserCall, put_by, CarrierOutcome}
-use Rattle.osi_fair.proofs.Vocabulary.{puts_none, state_is, unit_written, Connect}
+use Rattle.osi_fair.proofs.Vocabulary.{[], AllByRecursion, ap, AreUpTo, arith, asked, Bool, breaks_in, CarrierOutcome, Class, closes_with}
+use Rattle.osi_fair.proofs.Vocabulary.{closing, confirm, Connect, destination_of, disconnect, disconnected, Ends, eqb-true, Err, false}
+use Rattle.osi_fair.proofs.Vocabulary.{Flow, Follows, Given, handed_out, is_some, IsOrderly, link_now, linked, LinkFault, List, Live, Local}
+use Rattle.osi_fair.proofs.Vocabulary.{None, Ok, Option, packets, pumped, push_here, push_other, put, put_by, put_for, put_here, put_other}
+use Rattle.osi_fair.proofs.Vocabulary.{puts_none, refl, request, Result, Right, RiseFrom, row_here, Rows, Some, Standing, State, state_is}
+use Rattle.osi_fair.proofs.Vocabulary.{subst, sym, taken_by, taking, to_closing, to_linked, true, Two, unit_of, unit_written, UserCall}
+use Rattle.osi_fair.proofs.Vocabulary.{Value, value_at, without, without_here, without_other, WrongForm, ℕ, ◌++◌, ◌==◌, ◌∙◌, ◌∷◌, ◌≡◌, ◌≤◌}
+use Rattle.osi_fair.proofs.Vocabulary.{◌⊎◌}
 unfoldable use Rattle.osi_carrier.specs.React.{react}
 use Rattle.osi_fair.proofs.each_connection_of_a_called_end.{AreAbove}
 use Rattle.osi_fair.proofs.a_carrier_follows_lines.{outcome_at}
 use Rattle.osi_fair.proofs.what_a_called_end_does_to_its_lines.{Leaves, still}
 use Rattle.osi_fair.proofs.what_a_carrier_puts.{Confirms, accepts_none, confirms_any, put_by_so, put_for_so}
-use Rattle.osi_fair.proofs.what_is_live_at_a_called_end.{IsLive, shuts_of}
+use Rattle.osi_fair.proofs.what_is_live_at_an_end.{IsLive, shuts_of}
 use Rattle.osi_fair.proofs.a_run_of_calls_is_events.{no_end}
 use Rattle.osi_fair.proofs.a_dt_of_class_zero_passes.{unlike}
 use Rattle.osi_fair.proofs.what_an_end_does_in_class_zero.{some_is}
@@ -46,7 +46,7 @@ called_still local s t same orderly none two c = search (arith)
 pub data Touch (u : Value) (n : ℕ) (s t : State) : Type 0 where
   same_rows : t.live ≡ s.live → Touch u n s t
   puts_row : (z k : Live) → value_at n s.live ≡ Some z → (k ≡ asked → ⊥) → t.live ≡ put n k s.live → Touch u n s t
-  drops_row : shuts_of u ≡ Some n → t.live ≡ without n s.live → Touch u n s t
+  drops_row : shuts_of Right u ≡ Some n → t.live ≡ without n s.live → Touch u n s t
   no_rows : t.live ≡ [] → is_some t.ended ≡ true → Touch u n s t
 
 pub no_row : {A : Type 0} (o : Option Live) (k : Live) → o ≡ None → o ≡ Some k → A
@@ -61,14 +61,15 @@ pub touch_none : (u : Value) (n : ℕ) (s t : State) → Touch u n s t → RiseF
 touch_none u n s t h rise none m = grind (arith, some_is, put_here, eqb-true, put_other, unlike, no_row, without_here, without_other)
 
 lives_by : (u : Value) (n : ℕ) (s t : State) → Touch u n s t → t.ended ≡ None → (m : ℕ) (b : Bool) → (m == n) ≡ b → IsLive s m →
-    (shuts_of u ≡ Some m → ⊥) → IsLive t m
+    (shuts_of Right u ≡ Some m → ⊥) → IsLive t m
 lives_by u n s t h lasts m false e live other = grind (arith, touch_rows u n s t h lasts m (unlike m n e), unlike m n e)
 lives_by u n s t (same_rows is) lasts m true e live other = ap (λ (l : Rows Live). is_some (value_at m l)) is ∙ live
 lives_by u n s t (puts_row z k here settled is) lasts m true e live other = grind (arith, eqb-true, put_here)
 lives_by u n s t (drops_row closes is) lasts m true e live other = grind (arith, eqb-true)
 lives_by u n s t (no_rows is gone) lasts m true e live other = no_end t.ended gone lasts
 
-pub touch_lives : (u : Value) (n : ℕ) (s t : State) → Touch u n s t → t.ended ≡ None → (m : ℕ) → IsLive s m → (shuts_of u ≡ Some m → ⊥) →
+pub touch_lives : (u : Value) (n : ℕ) (s t : State) → Touch u n s t → t.ended ≡ None → (m : ℕ) → IsLive s m →
+    (shuts_of Right u ≡ Some m → ⊥) →
     IsLive t m
 touch_lives u n s t h lasts m live other = lives_by u n s t h lasts m (m == n) refl live other
 
@@ -168,14 +169,8 @@ closing_same n u s = grind arith
 
 pub above_up : (given n : ℕ) (vs : List Value) → AreAbove given n vs → n ≤ given
 above_up given n [] h = h
-above_up given n (request x ∷ vs) h = above_up given n vs h
 above_up given n (confirm destination x ∷ vs) (above, h) = let up = above_up given x.source vs h in omega arith
-above_up given n (disconnect destination source reason user ∷ vs) h = above_up given n vs h
-above_up given n (disconnected destination source ∷ vs) h = above_up given n vs h
-above_up given n (data0 end user ∷ vs) h = above_up given n vs h
-above_up given n (data2 destination number end user ∷ vs) h = above_up given n vs h
-above_up given n (acknowledge credit destination number ∷ vs) h = above_up given n vs h
-above_up given n (error destination cause ∷ vs) h = above_up given n vs h
+above_up given n (_ ∷ vs) h = above_up given n vs h
 
 pub rows_none : (given : ℕ) (rows : Rows Live) → given ≡ 0 → RiseFrom 0 rows → AreUpTo given rows → rows ≡ []
 rows_none given [] e rise up = refl

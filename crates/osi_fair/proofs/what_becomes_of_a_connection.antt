@@ -1,14 +1,12 @@
 -- What a unit of the other side does to its connection at the judge of a calling end: one that is open stays so, one that waits is
 -- opened or refused. For the law on a whole end.
-use Rattle.osi_fair.proofs.Vocabulary.{arith, [], ap, Bool, false, if◌then◌else◌, inr, List, None, Option, refl, Some, subst, sym, true, ℕ}
-use Rattle.osi_fair.proofs.Vocabulary.{◌∙◌, ◌∷◌, ◌≡◌, ◌⊎◌, nat_le, not, position, slice_get, ◌==◌, ◌||◌, acknowledge, confirm, Connect}
-use Rattle.osi_fair.proofs.Vocabulary.{data0, data2, destination_of, disconnect, disconnected, error, request, Value, Two, Zero, is_applied}
-use Rattle.osi_fair.proofs.Vocabulary.{is_of_connection, passes_over, reach_of, code_named, first_failed, given_again, is_due, is_inside}
-use Rattle.osi_fair.proofs.Vocabulary.{is_offered, Test, is_closing, is_named, is_open, is_refused, is_silent, at_place, class_for}
-use Rattle.osi_fair.proofs.Vocabulary.{connection_after, course_after, found, found_on, half_after, one_told, Outcome, reached, route_in}
-use Rattle.osi_fair.proofs.Vocabulary.{routed, Traffic, takes, unnamed_told, uses_source, Connection, Course, Right, Finding, Broke, Kept}
-use Rattle.osi_fair.proofs.Vocabulary.{NotJudged, Outside, TooMany, Reach, Rule, may_answer, noted}
-use Rattle.osi_rules.specs.declared.findings.Reach.TheVariants as reach
+use Rattle.osi_fair.proofs.Vocabulary.{[], acknowledge, ap, arith, Bool, Broke, class_for, code_named, confirm, Connect, Connection}
+use Rattle.osi_fair.proofs.Vocabulary.{connection_after, Course, course_after, data0, data2, destination_of, disconnect, disconnected}
+use Rattle.osi_fair.proofs.Vocabulary.{error, false, Finding, first_failed, found, found_on, given_again, half_after, if◌then◌else◌, inl}
+use Rattle.osi_fair.proofs.Vocabulary.{inr, is_applied, is_closing, is_due, is_inside, is_named, is_of_connection, is_offered, is_open}
+use Rattle.osi_fair.proofs.Vocabulary.{is_refused, is_silent, Kept, List, nat_le, None, not, noted, NotJudged, one_told, Outcome, Outside}
+use Rattle.osi_fair.proofs.Vocabulary.{passes_over, Reach, reach_of, reached, refl, request, Right, Rule, slice_get, Some, sym, takes, Test}
+use Rattle.osi_fair.proofs.Vocabulary.{TooMany, Traffic, true, Two, uses_source, Value, Zero, ℕ, ◌==◌, ◌||◌, ◌∙◌, ◌∷◌, ◌≡◌, ◌⊎◌}
 use Rattle.osi_rules.specs.declared.findings.Rule.TheVariants as rule
 use Rattle.osi_fair.proofs.small_facts_that_many_lemmas_use.{and_first, and_second, differ, judged_same, open_or_closing}
 use Rattle.osi_fair.proofs.no_two_open_connections_have_one_peer.{left_open, right_there, there_not_silent}
@@ -16,9 +14,8 @@ use Rattle.osi_fair.proofs.each_connection_has_its_line.{is_tracked}
 use Rattle.osi_fair.proofs.what_keeps_names_apart.{Sound}
 use Rattle.osi_fair.proofs.what_stays_of_each_connection.{right_judged, right_own}
 use Rattle.osi_fair.proofs.what_lasts_at_the_judge.{IsCalm, calm_noted}
-use Rattle.osi_fair.proofs.what_the_other_side_closes.{not_calm}
+use Rattle.osi_fair.proofs.which_unit_of_the_other_side_passes.{Came, IsIdle, asks_so, came_so, for_one, lost, not_calm}
 use Rattle.osi_fair.proofs.which_units_are_for_a_connection.{is_dc}
-use Rattle.osi_fair.proofs.while_no_class_is_selected.{named_where}
 
 -- ---- for which connection it is
 
@@ -32,35 +29,16 @@ pub record Told (v : Value) (s : Traffic) (o : Outcome) : Type 0 where
   pub named : is_named Right n c ≡ true
   pub is : o ≡ one_told Right q c v s
 
--- it is a DC that the rules do not judge, and it leaves what has passed as it is
-pub record IsIdle (v : Value) (s : Traffic) (o : Outcome) : Type 0 where
-  pub m : ℕ
-  pub source : ℕ
-  pub dc : v ≡ disconnected m source
-  pub may : may_answer Right s.course.disconnects ≡ true
-  pub same : o.state ≡ s
-
--- ---- a unit for no connection
-
-none_idle : (v : Value) (s : Traffic) → s.course.left_erred ≡ false → IsCalm (unnamed_told Right v s).state.course →
-    IsIdle v s (unnamed_told Right v s)
-none_idle v s fine h = search arith
-
 -- the end has broken no rule
-module _ (s : Traffic) (fine : s.course.left_erred ≡ false) where
-  abbrev Comes : Value → Outcome → Type 0
-  Comes v o = IsCalm o.state.course → Told v s o ⊎ IsIdle v s o
-
-  at_name : (v : Value) (n : ℕ) (o : Option ℕ) → position (is_named Right n) s.connections ≡ o → destination_of v ≡ Some n →
-      Comes v (at_place Right v s o)
-  at_name v n None e d h = inr (none_idle v s fine h)
-  at_name v n (Some q) e d h = search (arith, named_where s.connections n q e)
-
-  pub comes_for : (v : Value) → s.course.left_stopped ≡ false → s.course.right_stopped ≡ false →
-      (s.course.class ≡ None) ⊎ (s.course.class ≡ Some Two) → Comes v (takes Right v s)
-  comes_for v left right class =
-      let so : takes Right v s ≡ routed Right v s (route_in s.course.class Right false v) = grind arith in
-      subst (Comes v) (sym so) (grind (arith, at_name))
+pub comes_for : (s : Traffic) → s.course.left_erred ≡ false → (v : Value) → s.course.left_stopped ≡ false →
+    s.course.right_stopped ≡ false → (s.course.class ≡ None) ⊎ (s.course.class ≡ Some Two) → IsCalm (takes Right v s).state.course →
+    Told v s (takes Right v s) ⊎ IsIdle Right v s (takes Right v s)
+comes_for s fine v left right class calm = by (came_so Right v s (λ m cause e. fine) right class calm)
+  where
+    by : Came Right v s (takes Right v s) → Told v s (takes Right v s) ⊎ IsIdle Right v s (takes Right v s)
+    by (asks_so x left_side is kept o) = absurd (cc left_side)
+    by (for_one n q c dest at named is) = inl (record { n = n; q = q; c = c; dest = dest; at = at; named = named; is = is })
+    by (lost idle) = inr idle
 
 -- ---- what it does to its connection
 

@@ -1,13 +1,12 @@
 -- A DR that refuses a CR is right, and after a DR that closed nothing no DC is blamed.
 -- For the law of that name.
-use Rattle.osi_fair.proofs.Vocabulary.{arith, Bool, false, List, None, Some, true, ℕ, ◌≡◌, position, disconnect, disconnected, Value, Two}
-use Rattle.osi_fair.proofs.Vocabulary.{reach_of, is_named, is_silent, asks_of, class_for, found, is_stopped, none_told, Outcome, reached}
-use Rattle.osi_fair.proofs.Vocabulary.{routed, Traffic as State, takes, Connection, Course, Direction, Right, Finding, Kept, Reach, Route}
-use Rattle.osi_fair.proofs.Vocabulary.{may_answer, passes, Passing}
-use Rattle.osi_rules.specs.declared.findings.Rule.TheVariants as rule
+use Rattle.osi_fair.proofs.Vocabulary.{arith, asks_of, Bool, class_for, Connection, Course, Direction, disconnect, disconnected, false}
+use Rattle.osi_fair.proofs.Vocabulary.{Finding, found, is_named, is_silent, is_stopped, Kept, List, may_answer, None, none_told, Outcome}
+use Rattle.osi_fair.proofs.Vocabulary.{passes, Passing, position, Reach, reach_of, reached, Right, Route, routed, Some, takes}
+use Rattle.osi_fair.proofs.Vocabulary.{Traffic as State, true, Two, Value, ℕ, ◌≡◌}
 use Rattle.osi_fair.proofs.small_facts_that_many_lemmas_use.{or_first}
 use Rattle.osi_fair.proofs.what_is_right_passes_each_test.{is_right}
-use Rattle.osi_fair.proofs.a_called_end_is_judged_as_the_other_side_is.{IsNotBlamed}
+use Rattle.osi_fair.proofs.a_right_unit_is_not_blamed.{IsNotBlamed}
 
 -- ---- a refusal
 

@@ -1,11 +1,11 @@
 -- What the other side sends passes at the judge of a whole called end: a CR, whose connection waits for its answer then, or another unit.
 -- For the law on a whole called end.
-use Rattle.osi_fair.proofs.Vocabulary.{[], ap, arith, Bool, false, if◌then◌else◌, inl, inr, length, List, None, Option, refl, set, Some}
-use Rattle.osi_fair.proofs.Vocabulary.{subst, suc, sym, true, zero, ℕ, ◌++◌, ◌∙◌, ◌∷◌, ◌≡◌, ◌≤◌, ◌⊎◌, eqb-true, append-nil, position}
-use Rattle.osi_fair.proofs.Vocabulary.{slice_get, ◌&&◌, ◌==◌, ◌||◌, Connect, destination_of, HasFieldsInRange, request, Value, Standing}
-use Rattle.osi_fair.proofs.Vocabulary.{Class, Two, Zero, Local, value_at, linked, is_closed, is_closing, is_free, is_open, is_over}
-use Rattle.osi_fair.proofs.Vocabulary.{is_over_by, is_refused, asked_by, asks_kept, Outcome, placed, takes, Connection, Course, Left, Right}
-use Rattle.osi_fair.proofs.Vocabulary.{first_failed, Kept, Phase, request_tests, Whole}
+use Rattle.osi_fair.proofs.Vocabulary.{[], ap, append-nil, arith, asked_by, asks_kept, Bool, Class, Connect, Connection, Course}
+use Rattle.osi_fair.proofs.Vocabulary.{destination_of, eqb-true, false, first_failed, HasFieldsInRange, if◌then◌else◌, inl, inr, is_closed}
+use Rattle.osi_fair.proofs.Vocabulary.{is_closing, is_free, is_open, is_over, is_over_by, is_refused, Kept, Left, length, linked, List}
+use Rattle.osi_fair.proofs.Vocabulary.{Local, None, Option, Outcome, Phase, placed, position, refl, request, request_tests, Right, set}
+use Rattle.osi_fair.proofs.Vocabulary.{slice_get, Some, Standing, subst, suc, sym, takes, Traffic, true, Two, Value, value_at, Whole, zero}
+use Rattle.osi_fair.proofs.Vocabulary.{ℕ, ◌&&◌, ◌++◌, ◌==◌, ◌||◌, ◌∙◌, ◌∷◌, ◌≡◌, ◌≤◌, ◌⊎◌}
 use Rattle.osi_fair.proofs.small_facts_that_many_lemmas_use.{all_add, and_first, and_second, differ, no_number, set_none}
 use Rattle.osi_fair.proofs.a_dc_follows_a_dr.{may_strays}
 use Rattle.osi_fair.proofs.how_a_unit_of_right_passes.{strays_more}
@@ -18,14 +18,14 @@ use Rattle.osi_fair.proofs.each_connection_of_a_called_end.{past, refuses, runs}
 use Rattle.osi_fair.proofs.units_by_their_place.{Placed, at_first, at_join, at_other, first_at, units_at, values, values_join}
 use Rattle.osi_fair.proofs.what_holds_of_a_line.{is_there}
 use Rattle.osi_fair.proofs.what_holds_of_one_item.{after_add, first_true}
-use Rattle.osi_fair.proofs.what_is_live_at_a_called_end.{IsHeld, Timely, dr_for, shuts_of, timely_comes}
+use Rattle.osi_fair.proofs.what_is_live_at_an_end.{IsHeld, IsLively, Timely, dr_for, is_there as goes_there, shuts_of, timely_comes}
 use Rattle.osi_fair.proofs.what_keeps_names_apart.{AreApart}
 use Rattle.osi_fair.proofs.which_units_are_for_a_connection.{names}
 use Rattle.osi_fair.proofs.while_no_class_is_selected.{added_there, after_change, set_there}
 use Rattle.osi_fair.proofs.a_unit_comes_to_a_called_end.{calm, for_one_so, is_lost, lasts, names_after, row_other, stand_on}
-use Rattle.osi_fair.proofs.which_unit_comes_to_a_called_end.{Came, IsCalm, asks_so, came_so, for_one, lost, only}
+use Rattle.osi_fair.proofs.which_unit_of_the_other_side_passes.{Came, IsCalm, asks_so, came_so, for_one, lost}
 use Rattle.osi_fair.proofs.a_dt_of_class_zero_passes.{unlike}
-use Rattle.osi_fair.proofs.an_end_closes_last.{right_holds as run_holds}
+use Rattle.osi_fair.proofs.a_line_since_its_connection_opened.{tracks_hold}
 
 -- ---- small facts
 
@@ -47,9 +47,6 @@ pub open_over : (p k mine : Phase) → is_open mine ≡ true → is_there p ≡ 
     (is_closed p ≡ true → is_closing mine ≡ true) →
     (is_refused p || (is_refused k || (is_closed p || (is_closing p && (is_closing k || is_closed k))))) ≡ true → ⊥
 open_over p k mine h there a b c d e = grind arith
-
-not_zero : {A : Type 0} (k : Option Class) → (k ≡ None) ⊎ (k ≡ Some Two) → k ≡ Some Zero → A
-not_zero k l h = grind arith
 
 -- ---- a CR
 
@@ -84,7 +81,7 @@ module _ (local : Local) (w : Whole) (f : Called local w) (apart : AreApart w.ju
     busy_open p c at g h =
         let judged = and_first c.is_judged (is_over_by c.left c.seen_by_left) h in
         let s = apart.sound p c at judged in
-        let held = run_holds g.r g.peer g.first g.line g.acts g.opened g.along (ap (λ (y : Connection). y.is_judged) g.judge ∙ judged) in
+        let held = tracks_hold Right g.r g.peer g.line g.tracks (ap (λ (y : Connection). y.is_judged) g.judge ∙ judged) in
         absurd (open_over c.left.phase c.seen_by_left.phase c.right.phase g.there
         (ap (λ (y : Connection). is_there y.left.phase) (sym g.judge) ∙ held.judges.there) s.left_knows.refused s.left_knows.closing
         s.left_knows.closed s.left_closed (and_second c.is_judged (is_over_by c.left c.seen_by_left) h))
@@ -184,11 +181,11 @@ module _ (local : Local) (w : Whole) (f : Called local w) (apart : AreApart w.ju
       strays_case ((None, u) ∷ ts) (one, rest) = search (arith, old_ref, strays_case ts rest)
       strays_case ((Some i, u) ∷ ts) (one, rest) = (tt, strays_case ts rest)
 
-      held_case : Timely w.end w.coming cs (values f.tagged) → (i : ℕ) (c : Connection) →
-          ((i ≡ p) × (c ≡ asked_by x)) ⊎ ((i ≡ p → ⊥) × (slice_get cs i ≡ Some c)) → c.is_judged ≡ true → is_open c.left.phase ≡ true →
-          is_open c.right.phase ≡ true → IsHeld w.end w.coming c.right.reference
-      held_case h i c (inl (same, so)) j a b = absurd (cc (sym (ap (λ (y : Connection). is_open y.right.phase) so) ∙ b))
-      held_case h i c (inr (other, there)) j a b = h.judges i c there j a b
+      held_case : Timely Right w.end w.coming cs (values f.tagged) → (i : ℕ) (c : Connection) →
+          ((i ≡ p) × (c ≡ asked_by x)) ⊎ ((i ≡ p → ⊥) × (slice_get cs i ≡ Some c)) → IsLively Right (IsHeld Right w.end w.coming) c
+      held_case h i c (inl (same, so)) j there =
+          absurd (cc (sym (ap (λ (y : Connection). goes_there y.right y.left) so) ∙ there))
+      held_case h i c (inr (other, at)) j there = h.judges i c at j there
 
       at_free : Called local after
       at_free = record {
@@ -222,8 +219,9 @@ module _ (local : Local) (w : Whole) (f : Called local w) (apart : AreApart w.ju
         untagged = all_add Untagged f.came (Some p, v) f.untagged (λ h. absurd (cc h));
         timely = λ none last.
             let h = f.timely ((lasts local w f apart named v ranges calm_after).strays none) last in
-            timely_comes w.end w.coming cs (takes Left v w.judge).state.connections (values f.tagged) v (ap shuts_of v_is) (ap dr_for v_is)
-            (λ i c at j a b. held_case h i c (free.item i c (ap (λ (l : List Connection). slice_get l i) (sym free.conns) ∙ at)) j a b) h;
+            timely_comes Right w.end w.coming cs (takes Left v w.judge).state.connections (values f.tagged) v (ap (shuts_of Right) v_is)
+            (ap dr_for v_is)
+            (λ i c at. held_case h i c (free.item i c (ap (λ (l : List Connection). slice_get l i) (sym free.conns) ∙ at))) h;
       }
 
     by_place : (o : Option ℕ) → position is_free cs ≡ o → Called local after
@@ -239,11 +237,15 @@ module _ (local : Local) (w : Whole) (f : Called local w) (apart : AreApart w.ju
   abbrev AllAfter : Type 0
   AllAfter = Called local after × AreNamedApart Left after.judge.connections
 
-  by_came : Came v w.judge (takes Left v w.judge) → AllAfter
-  by_came (asks_so x e class kept is) = (by_place x e is (position is_free cs) refl, names_asked x e is kept)
+  by_came : Came Left v w.judge (takes Left v w.judge) → AllAfter
+  by_came (asks_so x left e kept is) = (by_place x e is (position is_free cs) refl, names_asked x e is kept)
   by_came (for_one n q c dest at name is) = search (arith, for_one_so, names_after)
-  by_came (only q c at class is) = not_zero w.judge.course.class_seen f.class_seen class
-  by_came (lost dc may same) = grind (arith, is_lost, may_strays Left w.judge.course.disconnects may)
+  by_came (lost i) = (
+    is_lost local w f apart named v ranges calm_after (i.m, i.source, i.dc) (may_strays Left w.judge.course.disconnects i.may) i.same,
+    subst (λ (s : Traffic). AreNamedApart Left s.connections) (sym i.same) named,
+  )
 
   pub comes_so : w.judge.course.right_erred ≡ false → AllAfter
-  comes_so fine = search (arith, by_came, came_so, calm local w f apart named v ranges calm_after)
+  comes_so fine =
+      let before = calm local w f apart named v ranges calm_after in
+      by_came (came_so Left v w.judge (λ m cause e. fine) before.left f.class_seen calm_after)

@@ -1,27 +1,24 @@
--- A unit of the other side passes at the judge of a called end that has selected class 0: right has sent what it had.
+-- A unit of the other side passes at the judge of a called end that selects class 0, before the CC has passed, and after it.
 -- For the law on a whole called end.
-use Rattle.osi_fair.proofs.Vocabulary.{[], ap, Bool, false, IfSome, if◌then◌else◌, inl, inr, List, None, Option, refl, set, Some, subst}
-use Rattle.osi_fair.proofs.Vocabulary.{suc, sym, true, zero, ℕ, ◌++◌, ◌+◌, ◌∙◌, ◌∷◌, ◌≡◌, ◌≤◌, ◌⊎◌, eqb-true, list_all, not, slice_get}
-use Rattle.osi_fair.proofs.Vocabulary.{◌&&◌, ◌==◌, ◌||◌, Connect, Value, Class, Zero, Local, is_applied, reach_of, first_failed, Test}
-use Rattle.osi_fair.proofs.Vocabulary.{is_open, is_over, is_over_by, is_refused, connection_after, found_on, one_told, Outcome, reached}
-use Rattle.osi_fair.proofs.Vocabulary.{request_tests, Traffic, takes, Connection, Course, Left, Finding, Broke, Kept, Reach, Half}
-use Rattle.osi_fair.proofs.Vocabulary.{unit as passing, Whole, arith}
-use Rattle.osi_rules.specs.declared.findings.Reach.TheVariants as reach
+use Rattle.osi_fair.proofs.Vocabulary.{[], ap, arith, asks_by, Bool, Broke, Class, Connect, Connection, connection_after, Course}
+use Rattle.osi_fair.proofs.Vocabulary.{disconnected, false, Finding, first_failed, found_on, Half, has_broken, inl, inr, is_applied}
+use Rattle.osi_fair.proofs.Vocabulary.{is_named, is_over, is_over_by, is_refused, Kept, Left, List, list_all, Local, None, not, one_told}
+use Rattle.osi_fair.proofs.Vocabulary.{Option, Outcome, position, Reach, reach_of, reached, refl, request, request_tests, Right, route}
+use Rattle.osi_fair.proofs.Vocabulary.{route_in, routed, set, slice_get, Some, State, subst, suc, sym, takes, Test, Traffic, true}
+use Rattle.osi_fair.proofs.Vocabulary.{unit as passing, Value, Whole, zero, ℕ, ◌&&◌, ◌++◌, ◌||◌, ◌∙◌, ◌∷◌, ◌≡◌, ◌⊎◌}
 use Rattle.osi_rules.specs.declared.findings.Rule.TheVariants as rule
 use Rattle.osi_fair.proofs.small_facts_that_many_lemmas_use.{and_first, and_second, differ, item_is, set_other}
-use Rattle.osi_fair.proofs.all_are_judged_unless_one_broke.{IsJudged}
 use Rattle.osi_fair.proofs.left_selects_no_class.{left_class}
-use Rattle.osi_fair.proofs.what_an_end_does_in_class_zero.{IsInZero}
 use Rattle.osi_fair.proofs.what_comes_to_a_called_end.{open_over}
-use Rattle.osi_fair.proofs.what_holds_of_a_line.{is_there}
-use Rattle.osi_fair.proofs.what_holds_of_one_item.{HoldsOfEach}
 use Rattle.osi_fair.proofs.what_keeps_names_apart.{AreApart}
 use Rattle.osi_fair.proofs.what_lasts_at_the_judge.{lasts_passing}
-use Rattle.osi_fair.proofs.what_stays_of_each_connection.{left_judged, right_then}
-use Rattle.osi_fair.proofs.which_unit_comes_to_a_called_end.{Came, IsCalm, asks_so, calm_before, came_so, for_one, lost, only}
-use Rattle.osi_fair.proofs.while_no_class_is_selected.{after_change, set_there}
-use Rattle.osi_fair.proofs.a_called_end_selects_class_zero.{Selected, Selecting}
-use Rattle.osi_fair.proofs.a_dt_of_class_zero_passes.{unlike}
+use Rattle.osi_fair.proofs.what_stays_of_each_connection.{right_then}
+use Rattle.osi_fair.proofs.which_unit_of_the_other_side_passes.{Came, IsCalm, asks_so as asks_came, calm_before, came_so, for_one}
+use Rattle.osi_fair.proofs.which_unit_of_the_other_side_passes.{lost}
+use Rattle.osi_fair.proofs.while_no_class_is_selected.{after_change}
+use Rattle.osi_fair.proofs.a_called_end_selects_class_zero.{Selecting}
+use Rattle.osi_fair.proofs.an_end_goes_on_in_class_zero.{After, IsEarly, IsZeroed, at_name, comes_by, comes_so, to_none}
+use Rattle.osi_rules.specs.Traffic.{route_before}
 
 -- ---- small facts
 
@@ -34,24 +31,20 @@ all_there f [] p c h at = absurd (cc)
 all_there f (x ∷ xs) zero c h at = ap f (sym (item_is x c (Some x) refl at)) ∙ and_first (f x) (list_all f xs) h
 all_there f (x ∷ xs) (suc p) c h at = all_there f xs p c (and_second (f x) (list_all f xs) h) at
 
-size_after : (s : Traffic) (c : Connection) (v : Value) (applied : Bool) (r : Reach) → is_applied (found_on Left s c v) ≡ applied →
-    (connection_after Left v applied r c).size ≡ c.size
-size_after s c v applied r e = grind arith
-
--- left has not refused it, whatever it sends
-there_after : (s : Traffic) (c : Connection) (v : Value) (applied : Bool) (r : Reach) → is_applied (found_on Left s c v) ≡ applied →
-    is_there c.left.phase ≡ true → is_there (connection_after Left v applied r c).left.phase ≡ true
-there_after s c v applied r e h = grind (arith, is_there, left_judged)
-
 cr_by : (seen all : Bool) (ts : List Test) → seen ≡ false → first_failed ((seen || all, Broke rule.Negotiating) ∷ ts) ≡ Kept → all ≡ true
 cr_by seen all ts e h = grind arith
 
--- ---- a unit of the other side passes
+-- no other CR is right while one waits
+cr_not : {A : Type 0} (x : Connect) (s : Traffic) → first_failed (request_tests s x) ≡ Kept → s.course.class_seen ≡ None → (p : ℕ)
+    (c : Connection) → slice_get s.connections p ≡ Some c → (is_over Left c ≡ true → ⊥) → A
+cr_not x s kept none p c at live = grind (arith, all_there, cr_by)
 
-pub reached_seen : (r : Reach) (c : Course) → (reached Left r c).class_seen ≡ c.class_seen
+-- ---- before the CC has passed
+
+reached_seen : (r : Reach) (c : Course) → (reached Left r c).class_seen ≡ c.class_seen
 reached_seen r c = grind arith
 
-module _ (w : Whole) (apart : AreApart w.judge.connections) (judged : HoldsOfEach IsJudged w.judge.connections) (v : Value) where
+module _ (w : Whole) (v : Value) (local : Local) (f : Selecting local w) where
   abbrev cs : List Connection
   cs = w.judge.connections
 
@@ -61,36 +54,14 @@ module _ (w : Whole) (apart : AreApart w.judge.connections) (judged : HoldsOfEac
   calm : IsCalm (takes Left v w.judge).state.course → IsCalm w.judge.course
   calm calm_after = calm_before w.judge.course (takes Left v w.judge).state.course (lasts_passing (passing Left v) w.judge) calm_after
 
-  -- a connection that left has not refused, and right has neither, is not over for left
-  not_over : (p : ℕ) (c : Connection) → slice_get cs p ≡ Some c → is_there c.left.phase ≡ true → is_open c.right.phase ≡ true →
-      is_over Left c ≡ true → ⊥
-  not_over p c at there up h =
-      let s = apart.sound p c at (judged p c at) in
-      open_over c.left.phase c.seen_by_left.phase c.right.phase up there s.left_knows.refused s.left_knows.closing s.left_knows.closed
-      s.left_closed (and_second c.is_judged (is_over_by c.left c.seen_by_left) h)
-
-  -- no other CR is right while one waits
-  cr_not : {A : Type 0} (x : Connect) → first_failed (request_tests w.judge x) ≡ Kept → w.judge.course.class_seen ≡ None →
-      (p : ℕ) (c : Connection) →
-      slice_get cs p ≡ Some c → (is_over Left c ≡ true → ⊥) → A
-  cr_not x kept none p c at live = grind (arith, all_there, cr_by)
-
   -- a unit for one connection
   module _ (q : ℕ) (e : Connection) (at : slice_get cs q ≡ Some e) (is : takes Left v w.judge ≡ one_told Left q e v w.judge) where
-    abbrev found_so : Finding
-    found_so = found_on Left w.judge e v
-
-    abbrev far : Reach
-    far = reach_of w.judge.course.class_seen found_so
-
     abbrev next : Connection
-    next = connection_after Left v (is_applied found_so) far e
+    next =
+        connection_after Left v (is_applied (found_on Left w.judge e v)) (reach_of w.judge.course.class_seen (found_on Left w.judge e v)) e
 
     conns : (takes Left v w.judge).state.connections ≡ set cs q next
     conns = ap (λ (o : Outcome). o.state.connections) is
-
-    next_right : next.right ≡ e.right
-    next_right = right_then v (is_applied found_so) far e
 
     item : (i : ℕ) (y : Connection) → slice_get (takes Left v w.judge).state.connections i ≡ Some y →
         ((i ≡ q) × (y ≡ next)) ⊎ ((i ≡ q → ⊥) × (slice_get cs i ≡ Some y))
@@ -99,11 +70,16 @@ module _ (w : Whole) (apart : AreApart w.judge.connections) (judged : HoldsOfEac
     -- what right has sent is as it was
     was_right : (i : ℕ) (y : Connection) → ((i ≡ q) × (y ≡ next)) ⊎ ((i ≡ q → ⊥) × (slice_get cs i ≡ Some y)) →
         (z : Connection) × (slice_get cs i ≡ Some z) × (y.right ≡ z.right)
-    was_right i y (inl (same, so)) = (e, ap (λ (j : ℕ). slice_get cs j) same ∙ at, ap (λ (z : Connection). z.right) so ∙ next_right)
+    was_right i y (inl (same, so)) = (
+      e,
+      ap (λ (j : ℕ). slice_get cs j) same ∙ at,
+      ap (λ (z : Connection). z.right) so
+          ∙ right_then v (is_applied (found_on Left w.judge e v)) (reach_of w.judge.course.class_seen (found_on Left w.judge e v)) e,
+    )
     was_right i y (inr (other, there)) = (y, there, refl)
 
-    selecting_one : (local : Local) (f : Selecting local w) → (q ≡ f.p → ⊥) → Selecting local after
-    selecting_one local f other = record {
+    selecting_one : (q ≡ f.p → ⊥) → Selecting local after
+    selecting_one other = record {
       x = f.x;
       size = f.size;
       r = f.r;
@@ -125,69 +101,47 @@ module _ (w : Whole) (apart : AreApart w.judge.connections) (judged : HoldsOfEac
       end = f.end;
     }
 
-    -- the connection of class 0
-    one_there : (f : Selected w) (b : Bool) → (f.p == q) ≡ b → (y : Connection) × (slice_get (takes Left v w.judge).state.connections
-        f.p ≡ Some y)
-        × (y.right ≡ f.c.right) × (y.size ≡ f.c.size) × (is_there y.left.phase ≡ true)
-    one_there f true h =
-        let same = eqb-true f.p q h in
-        let c_is : e ≡ f.c = item_is e f.c (slice_get cs q) at (ap (λ (j : ℕ). slice_get cs j) (sym same) ∙ f.at) in (
-          next,
-          ap (λ (l : List Connection). slice_get l f.p) conns ∙ ap (λ (j : ℕ). slice_get (set cs q next) j) same ∙ set_there cs q next e at,
-          next_right ∙ ap (λ (z : Connection). z.right) c_is,
-          size_after w.judge e v (is_applied found_so) far refl ∙ ap (λ (z : Connection). z.size) c_is,
-          there_after w.judge e v (is_applied found_so) far refl (grind (arith, is_there)),
-        )
-    one_there f false h = search (arith, conns, set_other, unlike)
+  selecting_by : Came Left v w.judge (takes Left v w.judge) → Selecting local after
+  selecting_by (asks_came x left e kept is) = cr_not x w.judge kept f.class_seen f.p f.c f.at (grind (arith, differ, and_second))
+  selecting_by (for_one n q e dest at named is) = selecting_one q e at is (grind (arith, item_is, named_not, differ))
+  selecting_by (lost idle) =
+      subst (λ (s : Traffic). Selecting local (record w { judge = s; coming = w.coming ++ v ∷ [] })) (sym idle.same) (search arith)
 
-    pub selected_one : Selected w → Selected after
-    selected_one f =
-        let (y, there, right, size, left) = one_there f (f.p == q) refl in
-        record {
-          p = f.p;
-          c = y;
-          limit = f.limit;
-          at = there;
-          up = ap (λ (h : Half). is_open h.phase) right ∙ f.up;
-          there = left;
-          class = left_class v w.judge ∙ f.class;
-          class_seen = subst (λ (k : Option Class). (k ≡ None) ⊎ (k ≡ Some Zero)) (sym (grind (arith, reached_seen))) f.class_seen;
-          fits = subst (λ (o : Option ℕ). IfSome o (λ most. f.limit + 3 ≤ most)) (sym size) f.fits;
-          others = λ i z here not_p.
-              let (a, was, same) = was_right i z (item i z here) in
-              ap (λ (h : Half). is_refused h.phase) same ∙ f.others i a was not_p;
-          end = subst (λ (h : Half). IsInZero f.limit w.end h.begun w.put) (sym right) f.end;
-        }
+  pub selecting_comes : w.judge.course.right_erred ≡ false → IsCalm (takes Left v w.judge).state.course → Selecting local after
+  selecting_comes fine after_it =
+      selecting_by (came_so Left v w.judge (λ m cause e. fine) (calm after_it).left (inl f.class_seen) after_it)
 
-  -- a unit that changes nothing
-  selecting_same : (local : Local) → (takes Left v w.judge).state ≡ w.judge → Selecting local w → Selecting local after
-  selecting_same local same f = subst (λ (s : Traffic). Selecting local (record w { judge = s; coming = w.coming ++ v ∷ [] })) (sym same)
-      (search arith)
+-- ---- after the CC has passed
 
-  selected_same : (takes Left v w.judge).state ≡ w.judge → Selected w → Selected after
-  selected_same same f = subst (λ (s : Traffic). Selected (record w { judge = s; coming = w.coming ++ v ∷ [] })) (sym same) (search arith)
+module _ (end : State) (units : List Value) (begun : Bool) (s : Traffic) (f : IsZeroed Right end units begun s)
+    (apart : AreApart s.connections) where
+  -- its connection is not over for left
+  not_over : is_over Left f.judge.c ≡ true → ⊥
+  not_over h =
+      let c = f.judge.c in
+      let k = apart.sound f.judge.p c f.judge.at f.judge.opened.judged in
+      open_over c.left.phase c.seen_by_left.phase c.right.phase f.judge.opened.up f.judge.opened.there k.left_knows.refused
+      k.left_knows.closing k.left_knows.closed k.left_closed (and_second c.is_judged (is_over_by c.left c.seen_by_left) h)
 
-  selecting_by : (local : Local) (f : Selecting local w) → Came v w.judge (takes Left v w.judge) → Selecting local after
-  selecting_by local f (asks_so x e class kept is) = cr_not x kept f.class_seen f.p f.c f.at (grind (arith, differ, and_second))
-  selecting_by local f (for_one n q e dest at named is) = selecting_one q e at is local f (grind (arith, item_is, named_not, differ))
-  selecting_by local f (only q e at seen is) = grind arith
-  selecting_by local f (lost dc may same) = selecting_same local same f
+  asks_so : (x : Connect) (g : Finding) → s.course.class_seen ≡ None → first_failed (request_tests s x) ≡ g →
+      After Right end units begun s f (asks_by Left g x s)
+  asks_so x Kept none is = cr_not x s is none f.judge.p f.judge.c f.judge.at not_over
+  asks_so x g none is = to_none Right end units begun s f g
 
-  asks_zero : (f : Selected w) (x : Connect) → (w.judge.course.class_seen ≡ Some Zero → ⊥) →
-      first_failed (request_tests w.judge x) ≡ Kept → (w.judge.course.class_seen ≡ None) ⊎ (w.judge.course.class_seen ≡ Some Zero) →
-      Selected after
-  asks_zero f x class kept (inl none) = cr_not x kept none f.p f.c f.at (not_over f.p f.c f.at f.there f.up)
-  asks_zero f x class kept (inr seen) = absurd (class seen)
+  -- left doesn't know the class yet
+  before_comes : (v : Value) → s.course.class_seen ≡ None → After Right end units begun s f (routed Left v s (route_before Left v))
+  before_comes (request x) none = asks_so x (first_failed (request_tests s x)) none refl
+  before_comes (disconnected n source) none =
+      at_name Right end units begun s f (disconnected n source) tt n (position (is_named Left n) s.connections) refl
+  before_comes _ none = to_none Right end units begun s f (Broke rule.UnexpectedUnit)
 
-  selected_by_came : (f : Selected w) → Came v w.judge (takes Left v w.judge) → Selected after
-  selected_by_came f (asks_so x e class kept is) = asks_zero f x class kept f.class_seen
-  selected_by_came f (for_one n q e dest at named is) = selected_one q e at is f
-  selected_by_came f (only q e at seen is) = selected_one q e at is f
-  selected_by_came f (lost dc may same) = selected_same same f
+  by_class : (v : Value) (k : Option Class) → s.course.class_seen ≡ k → IsEarly k →
+      After Right end units begun s f (routed Left v s (route Left s.course v))
+  by_class v k is (inl none) =
+      let before = is ∙ none in
+      subst (λ (j : Option Class). After Right end units begun s f (routed Left v s (route_in j Left (has_broken Right s.course) v)))
+      (sym before) (before_comes v before)
+  by_class v k is (inr selected) = comes_by Right end units begun s f v (has_broken Right s.course) s.course.class_seen (is ∙ selected)
 
-  pub selecting_comes : w.judge.course.right_erred ≡ false → IsCalm (takes Left v w.judge).state.course → (local : Local) →
-      Selecting local w → Selecting local after
-  selecting_comes fine after_it local f = search (arith, selecting_by, came_so, calm after_it)
-
-  pub selected_comes : w.judge.course.right_erred ≡ false → IsCalm (takes Left v w.judge).state.course → Selected w → Selected after
-  selected_comes fine after_it f = search (arith, selected_by_came, came_so, calm after_it)
+  pub selected_comes : (v : Value) → IsZeroed Right end units begun (takes Left v s).state
+  selected_comes v = comes_so Right end units begun s f v (by_class v s.course.class_seen refl f.judge.theirs_seen)

@@ -1,7 +1,7 @@
 -- Each unit of the other side, by what is found of it: it has its effect, or none, or the connection is not judged any more.
 -- For the laws on a line.
 use Rattle.osi_fair.proofs.Vocabulary.{arith, [], ap, Bool, false, if◌then◌else◌, inl, inr, List, Option, Some, subst, sym, true, ℕ, ◌++◌}
-use Rattle.osi_fair.proofs.Vocabulary.{◌+◌, ◌<◌, ◌∙◌, ◌∷◌, ◌≡◌, ◌≢◌, ◌⊎◌, not, ◌&&◌, ◌||◌, acknowledge, confirm, data2, destination_of}
+use Rattle.osi_fair.proofs.Vocabulary.{◌<◌, ◌∙◌, ◌∷◌, ◌≡◌, ◌≢◌, ◌⊎◌, not, ◌&&◌, ◌||◌, acknowledge, confirm, data2, destination_of}
 use Rattle.osi_fair.proofs.Vocabulary.{disconnect, disconnected, error, HasFieldsInRange, Value, Standing, Two, is_applied, reach_of}
 use Rattle.osi_fair.proofs.Vocabulary.{first_failed, has_passed, is_due, is_tellable, keeps_credit, Test, is_closing, is_open, is_silent}
 use Rattle.osi_fair.proofs.Vocabulary.{found, sent_on, Connection, Course, Left, Right, Finding, Broke, NotJudged, Phase, Acts}

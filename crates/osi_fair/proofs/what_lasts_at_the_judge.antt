@@ -1,10 +1,11 @@
 -- What is known at the judge stays known as more passes: that class 2 holds; and what is judged was judged before.
 -- For the law on requests.
-use Rattle.osi_fair.proofs.Vocabulary.{arith, Bool, false, if◌then◌else◌, Some, true, ℕ, ◌≡◌, confirm, Connect, disconnect, request, Value}
-use Rattle.osi_fair.proofs.Vocabulary.{Two, is_applied, reach_of, asks_of, class_for, course_after, course_after_none, course_begins}
-use Rattle.osi_fair.proofs.Vocabulary.{found_on, none_told, Outcome, reached, routed, Traffic as State, unnamed_told, Connection, Course}
-use Rattle.osi_fair.proofs.Vocabulary.{Direction, Finding, NotJudged, Reach, Route, passes, Passing, noted}
-use Rattle.osi_rules.specs.declared.findings.Rule.TheVariants as rule
+use Rattle.osi_fair.proofs.Vocabulary.{arith, arrives, asks_of, begins_other, begins_own, Bool, calls, class_for, confirm, Connect}
+use Rattle.osi_fair.proofs.Vocabulary.{Connection, Course, course_after, course_after_none, course_begins, Direction, disconnect, Event}
+use Rattle.osi_fair.proofs.Vocabulary.{false, Finding, found_on, Happens, if◌then◌else◌, is_applied, none_told, noted, NotJudged, other}
+use Rattle.osi_fair.proofs.Vocabulary.{Outcome, packet, passes, passes_rubbish, Passing, Reach, reach_of, reached, request, Route, routed}
+use Rattle.osi_fair.proofs.Vocabulary.{rubbish, Some, subst, sym, Traffic as State, true, Two, unit, unnamed_told, Value, Whole, ℕ, ◌≡◌}
+use Rattle.osi_fair.specs.Wholes.{passes_other, passes_own}
 use Rattle.osi_fair.proofs.small_facts_that_many_lemmas_use.{or_left}
 use Rattle.osi_fair.proofs.a_reference_names_one_connection.{applied_found}
 
@@ -77,6 +78,18 @@ begun d c = grind (arith, lasts_same)
 
 pub lasts_passing : (p : Passing) (s : State) → Lasts s.course (passes p s).course
 lasts_passing p s = grind (arith, begun, if_judged, lasts_reached)
+
+abbrev LastsTo : State → Whole → Type 0
+LastsTo s w = Lasts s.course w.judge.course
+
+pub lasts_happening : (d : Direction) (event : Event) (w new : Whole) → Happens d event w new → Lasts w.judge.course new.judge.course
+lasts_happening d arrives w new (u, coming, is) = subst (LastsTo w.judge) (sym is) (lasts_same w.judge.course)
+lasts_happening d (calls call) w new (may, is) = subst (LastsTo w.judge) (sym is) (lasts_same w.judge.course)
+lasts_happening d begins_own w new (some, not_begun, is) = subst (LastsTo w.judge) (sym is) (lasts_passing (packet d) w.judge)
+lasts_happening d passes_own w new (v, put, begun, is) = subst (LastsTo w.judge) (sym is) (lasts_passing (unit d v) w.judge)
+lasts_happening d begins_other w new is = subst (LastsTo w.judge) (sym is) (lasts_passing (packet (other d)) w.judge)
+lasts_happening d (passes_other v) w new (ranges, is) = subst (LastsTo w.judge) (sym is) (lasts_passing (unit (other d) v) w.judge)
+lasts_happening d passes_rubbish w new is = subst (LastsTo w.judge) (sym is) (lasts_passing (rubbish (other d)) w.judge)
 
 -- ---- both sides are judged
 

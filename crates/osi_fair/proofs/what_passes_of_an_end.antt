@@ -1,6 +1,6 @@
 -- A unit of an end begins to pass and passes, and a packet of the other side begins: each keeps what holds of the line.
 -- For the laws on a line.
-use Rattle.osi_fair.proofs.Vocabulary.{[], ap, arith, Bool, false, if◌then◌else◌, List, None, Option, subst, sym, true, ℕ, ◌+◌, ◌<◌, ◌∙◌}
+use Rattle.osi_fair.proofs.Vocabulary.{[], ap, arith, Bool, false, List, None, Option, subst, sym, true, ℕ, ◌+◌, ◌<◌, ◌∙◌}
 use Rattle.osi_fair.proofs.Vocabulary.{◌∷◌, ◌≡◌, ◌≤◌, acknowledge, data2, Value, longest_tsdu, Standing, begins, is_open, begun_after}
 use Rattle.osi_fair.proofs.Vocabulary.{half_after, sent_on, Connection, Course, Left, Right, Finding, Kept, Half, Phase, Acts}
 use Rattle.osi_fair.proofs.Vocabulary.{after_finding, finding_of, IsRight, IsRightNow, Line}

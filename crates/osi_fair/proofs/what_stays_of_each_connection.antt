@@ -1,14 +1,13 @@
 -- What stays of each connection at the judge of a calling end as units pass: its reference, and that no other has it.
 -- For the law on DRs.
-use Rattle.osi_fair.proofs.Vocabulary.{arith, Bool, false, if◌then◌else◌, List, None, Option, refl, set, Some, true, ℕ, ◌<◌, ◌∙◌, ◌≡◌, ◌⊎◌}
-use Rattle.osi_fair.proofs.Vocabulary.{position, slice_get, ◌&&◌, ◌||◌, confirm, request, Value, is_applied, reach_of, is_live, is_named}
-use Rattle.osi_fair.proofs.Vocabulary.{is_open, is_refused, is_silent, asked_by, asks_of, at_found, at_place, class_for, connection_after}
-use Rattle.osi_fair.proofs.Vocabulary.{found_on, half_after, judged_on, none_told, Outcome, route, routed, sent_on, Traffic as State, takes}
-use Rattle.osi_fair.proofs.Vocabulary.{Broke, Finding, Kept, Outside, TooMany, asks_by, Connect, first_failed, is_free, length, placed}
-use Rattle.osi_fair.proofs.Vocabulary.{request_tests}
-use Rattle.osi_fair.proofs.Vocabulary.{Connection, Direction, Left, Right, NotJudged, Reach, Half, Route, Asks, Named, Only, Unnamed}
-use Rattle.osi_rules.specs.declared.findings.Rule.TheVariants as rule
+use Rattle.osi_fair.proofs.Vocabulary.{arith, asked_by, Asks, asks_by, asks_of, at_found, at_place, Bool, Broke, class_for, confirm}
+use Rattle.osi_fair.proofs.Vocabulary.{Connect, Connection, connection_after, Direction, false, Finding, first_failed, found_on, half_after}
+use Rattle.osi_fair.proofs.Vocabulary.{if◌then◌else◌, is_applied, is_free, is_live, is_named, is_refused, is_silent, judged_on, Kept, Left}
+use Rattle.osi_fair.proofs.Vocabulary.{length, List, Named, None, none_told, NotJudged, Only, Option, Outcome, Outside, placed, position}
+use Rattle.osi_fair.proofs.Vocabulary.{Reach, reach_of, refl, request, request_tests, Right, Route, route, routed, sent_on, set, slice_get}
+use Rattle.osi_fair.proofs.Vocabulary.{Some, takes, TooMany, Traffic as State, true, Unnamed, Value, ℕ, ◌<◌, ◌||◌, ◌∙◌, ◌≡◌, ◌⊎◌}
 use Rattle.osi_fair.proofs.small_facts_that_many_lemmas_use.{sized_judged}
+use Rattle.osi_fair.proofs.what_is_live_at_an_end.{IsLively, is_there}
 use Rattle.osi_fair.proofs.what_holds_of_one_item.{HoldsOfEach, after_add, after_set, each_add, each_set}
 
 -- ---- the halves of a connection after a unit
@@ -43,14 +42,6 @@ IsStarted c = (is_silent c.left.phase || is_refused c.left.phase) ≡ false
 abbrev pub AreDistinct : List Connection → Type 0
 AreDistinct cs = (i j : ℕ) (c e : Connection) → slice_get cs i ≡ Some c → slice_get cs j ≡ Some e →
     c.left.reference ≡ e.left.reference → i ≡ j
-
--- it is open for left, and right has not closed it
-abbrev pub is_there : Half → Half → Bool
-is_there mine theirs = is_open mine.phase && (is_silent theirs.phase || is_open theirs.phase)
-
--- then, as long as the connection is judged, this holds of its reference
-abbrev pub IsLively : (ℕ → Type 0) → Connection → Type 0
-IsLively L c = c.is_judged ≡ true → is_there c.left c.right ≡ true → L c.left.reference
 
 -- ---- a unit of left
 
@@ -178,5 +169,5 @@ module _ (P : Connection → Type 0) where
 pub started_stays : (d : Direction) (v : Value) (s : State) → StaysAfter IsStarted d v s
 started_stays d v s c h r = (stays_by d s v r c).started h
 
-pub lively_stays : (L : ℕ → Type 0) (v : Value) (s : State) → StaysAfter (IsLively L) Left v s
+pub lively_stays : (L : ℕ → Type 0) (v : Value) (s : State) → StaysAfter (IsLively Left L) Left v s
 lively_stays L v s c h r = grind (arith, own_stays, judged_was, there_before)

@@ -1,21 +1,23 @@
 -- What the other side closes at the judge of a calling end: if a DR closed something, the end had the connection open there.
 -- For the law on DRs.
-use Rattle.osi_fair.proofs.Vocabulary.{arith, ap, Bool, false, if◌then◌else◌, inl, inr, List, None, Option, refl, set, Some, subst, sym}
-use Rattle.osi_fair.proofs.Vocabulary.{true, ℕ, ◌≡◌, ◌⊎◌, eqb-true, not, position, slice_get, ◌&&◌, ◌==◌, ◌||◌, acknowledge, confirm}
-use Rattle.osi_fair.proofs.Vocabulary.{Connect, data2, disconnect, disconnected, error, Value, Class, Two, Zero, is_applied}
-use Rattle.osi_fair.proofs.Vocabulary.{is_of_connection, passes_over, reach_of, is_closed, is_closing, is_named, is_open, is_refused}
-use Rattle.osi_fair.proofs.Vocabulary.{is_silent, at_found, at_place, class_for, connection_after, course_after, found, found_on}
-use Rattle.osi_fair.proofs.Vocabulary.{half_after, is_stray, one_told, Outcome, reached, route_in, routed, Traffic as State, takes}
-use Rattle.osi_fair.proofs.Vocabulary.{unnamed_told, uses_source, Connection, Course, Right, Finding, Broke, NotJudged, Reach, Rule, Half}
-use Rattle.osi_fair.proofs.Vocabulary.{Phase, noted}
+use Rattle.osi_fair.proofs.Vocabulary.{ap, arith, at_found, Bool, Broke, Class, class_for, confirm, Connect, Connection, connection_after}
+use Rattle.osi_fair.proofs.Vocabulary.{Course, course_after, destination_of, disconnect, disconnected, eqb-true, error, false, Finding}
+use Rattle.osi_fair.proofs.Vocabulary.{found, found_on, Half, half_after, if◌then◌else◌, inl, inr, is_applied, is_closed, is_closing}
+use Rattle.osi_fair.proofs.Vocabulary.{is_named, is_of_connection, is_open, is_refused, is_silent, is_stray, knows_disconnect, Left, List}
+use Rattle.osi_fair.proofs.Vocabulary.{None, not, noted, NotJudged, one_told, Option, Outcome, passes_over, Phase, Reach, reach_of, reached}
+use Rattle.osi_fair.proofs.Vocabulary.{refl, Right, Rule, set, slice_get, Some, subst, sym, takes, theirs, Traffic as State, true, Two}
+use Rattle.osi_fair.proofs.Vocabulary.{uses_source, Value, Zero, ℕ, ◌&&◌, ◌==◌, ◌||◌, ◌≡◌, ◌⊎◌}
 use Rattle.osi_rules.specs.declared.findings.Reach.TheVariants as reach
 use Rattle.osi_rules.specs.declared.findings.Rule.TheVariants as rule
-use Rattle.osi_fair.proofs.small_facts_that_many_lemmas_use.{both, closing_shuts, differ, not_not, or_last, or_left, or_right}
+use Rattle.osi_fair.proofs.small_facts_that_many_lemmas_use.{and_first, both, closing_shuts, differ, not_not, or_last, or_left}
+use Rattle.osi_fair.proofs.small_facts_that_many_lemmas_use.{or_right}
 use Rattle.osi_fair.proofs.all_are_judged_unless_one_broke.{AreJudged}
 use Rattle.osi_fair.proofs.what_holds_of_one_item.{HoldsOfEach, each_set}
 use Rattle.osi_fair.proofs.what_keeps_names_apart.{AreApart, Sound}
-use Rattle.osi_fair.proofs.while_no_class_is_selected.{after_change, named_where}
-use Rattle.osi_fair.proofs.what_stays_of_each_connection.{AreDistinct, IsLively, IsStarted, is_there, left_then, right_judged, right_own}
+use Rattle.osi_fair.proofs.while_no_class_is_selected.{after_change}
+use Rattle.osi_fair.proofs.what_is_live_at_an_end.{IsLively, Less, dr_for, is_there, shuts_of}
+use Rattle.osi_fair.proofs.which_unit_of_the_other_side_passes.{Came as Passes, asks_so, came_so, for_one, lost as spared}
+use Rattle.osi_fair.proofs.what_stays_of_each_connection.{AreDistinct, IsStarted, left_then, right_judged, right_own}
 use Rattle.osi_fair.proofs.names_stay_apart_though_one_is_lost.{AreNamedApart, each_sound}
 use Rattle.osi_fair.proofs.what_lasts_at_the_judge.{IsCalm, calm_noted}
 pub use Rattle.osi_fair.proofs.small_facts_that_many_lemmas_use.{judged_same}
@@ -52,25 +54,27 @@ pub record IsClear (c : Course) : Type 0 where
 pub going_on : (c : Course) → IsClear c → IsOngoing c
 going_on c h = record { sure = record { left = h.sure.left; right = h.sure.right }; two = h.two }
 
--- the reference of the connection that a unit of the other side refuses or closes
-abbrev pub closed_by : Value → Option ℕ
-closed_by (disconnect destination source reason user) = Some destination
-closed_by (disconnected destination source) = Some destination
-closed_by (error destination cause) = Some destination
-closed_by _ = None
-
 abbrev pub IsDr : Value → Type 0
 IsDr (disconnect destination source reason user) = Unit {0}
 IsDr _ = ⊥
 
-abbrev pub Less : (ℕ → Type 0) → ℕ → ℕ → Type 0
-Less L n m = L m × (m ≡ n → ⊥)
+pub dr_none : (v : Value) → shuts_of Left v ≡ None → dr_for v ≡ None
+dr_none v e = grind arith
+
+pub is_dr : (v : Value) (m : ℕ) → dr_for v ≡ Some m → IsDr v
+is_dr v m e = grind arith
+
+pub dr_is : (v : Value) (m : ℕ) → IsDr v → shuts_of Left v ≡ Some m → dr_for v ≡ Some m
+dr_is v m dr e = grind arith
+
+pub same_closed : (v : Value) (q m : ℕ) → shuts_of Left v ≡ Some q → dr_for v ≡ Some m → q ≡ m
+same_closed v q m e k = grind arith
 
 -- a unit of the other side closes nothing, or the connection with this reference
 pub data Came (L : ℕ → Type 0) (v : Value) (s t : State) : Type 0 where
-  stays : closed_by v ≡ None → HoldsOfEach (IsLively L) t.connections → Came L v s t
-  closes : (n : ℕ) → closed_by v ≡ Some n → (p : ℕ) (c : Connection) → slice_get s.connections p ≡ Some c → c.left.reference ≡ n →
-      (IsDr v → L n) → HoldsOfEach (IsLively (Less L n)) t.connections → Came L v s t
+  stays : shuts_of Left v ≡ None → HoldsOfEach (IsLively Left L) t.connections → Came L v s t
+  closes : (n : ℕ) → shuts_of Left v ≡ Some n → (p : ℕ) (c : Connection) → slice_get s.connections p ≡ Some c → c.left.reference ≡ n →
+      (IsDr v → L n) → HoldsOfEach (IsLively Left (Less L n)) t.connections → Came L v s t
 
 -- ---- what is wrong is not calm, or its connection is not judged any more
 
@@ -78,14 +82,6 @@ pub data Came (L : ℕ → Type 0) (v : Value) (s t : State) : Type 0 where
 pub soft : (k : Option Class) (r : Rule) (c : Course) → passes_over r ≡ false → IsCalm (reached Right (reach_of k (Broke r)) c) →
     (reach_of k (Broke r) ≡ reach.Connection) × (is_of_connection r ≡ true)
 soft k r c e h = grind (arith, differ)
-
-pub not_calm : {A : Type 0} (k : Option Class) (r : Rule) (c : Course) → passes_over r ≡ false → is_of_connection r ≡ false →
-    IsCalm (reached Right (reach_of k (Broke r)) c) → A
-not_calm k r c e f h = differ (is_of_connection r) (soft k r c e h).1 f
-
-none_bad : {A : Type 0} (v : Value) (s : State) → s.course.disconnects.strays ≡ false → s.course.left_erred ≡ false →
-    IsPlain (unnamed_told Right v s).state.course → A
-none_bad v s plain fine h = search (arith, calm_of)
 
 reached_plain : (r : Reach) (c : Course) → (reached Right r c).disconnects.strays ≡ false → c.disconnects.strays ≡ false
 reached_plain r c h = grind arith
@@ -103,7 +99,7 @@ still_open p q a b c h = grind arith
 
 module _ (L : ℕ → Type 0) (s : State) (q : ℕ) (c : Connection) (at : slice_get s.connections q ≡ Some c)
     (sound : Sound c) (started : IsStarted c) (distinct : AreDistinct s.connections)
-    (lively : HoldsOfEach (IsLively L) s.connections) (plain : s.course.disconnects.strays ≡ false)
+    (lively : HoldsOfEach (IsLively Left L) s.connections) (plain : s.course.disconnects.strays ≡ false)
     (fine : s.course.left_erred ≡ false) where
   abbrev finding : Value → Finding
   finding v = found_on Right s c v
@@ -120,20 +116,20 @@ module _ (L : ℕ → Type 0) (s : State) (q : ℕ) (c : Connection) (at : slice
   -- if it closes the connection
   less_by : (v : Value) (n : ℕ) → c.left.reference ≡ n →
       ((after v).is_judged ≡ true → is_there (after v).left (after v).right ≡ true → ⊥) → (i : ℕ) (e : Connection) →
-      ((i ≡ q) × (e ≡ after v)) ⊎ ((i ≡ q → ⊥) × (slice_get s.connections i ≡ Some e)) → IsLively (Less L n) e
+      ((i ≡ q) × (e ≡ after v)) ⊎ ((i ≡ q → ⊥) × (slice_get s.connections i ≡ Some e)) → IsLively Left (Less L n) e
   less_by v n is none i e h j there = grind (arith, is_there)
 
   less_lively : (v : Value) (n : ℕ) → c.left.reference ≡ n →
       ((after v).is_judged ≡ true → is_there (after v).left (after v).right ≡ true → ⊥) →
-      HoldsOfEach (IsLively (Less L n)) (set s.connections q (after v))
+      HoldsOfEach (IsLively Left (Less L n)) (set s.connections q (after v))
   less_lively v n is none i e at_i = less_by v n is none i e (after_change s.connections q i (after v) e at_i)
 
   -- of a connection that is judged no more after it nothing is claimed
-  lost_lively : (v : Value) → (after v).is_judged ≡ false → HoldsOfEach (IsLively L) (set s.connections q (after v))
+  lost_lively : (v : Value) → (after v).is_judged ≡ false → HoldsOfEach (IsLively Left L) (set s.connections q (after v))
   lost_lively v lost =
-      each_set (IsLively L) s.connections q (after v) lively (λ j there. differ (after v).is_judged j lost)
+      each_set (IsLively Left L) s.connections q (after v) lively (λ j there. differ (after v).is_judged j lost)
 
-  lost_closed : (v : Value) (n : ℕ) → closed_by v ≡ Some n → c.left.reference ≡ n → (IsDr v → ⊥) → (after v).is_judged ≡ false →
+  lost_closed : (v : Value) (n : ℕ) → shuts_of Left v ≡ Some n → c.left.reference ≡ n → (IsDr v → ⊥) → (after v).is_judged ≡ false →
       Came L v s (one_told Right q c v s).state
   lost_closed v n e is none lost =
       closes n e q c at is (λ dr. absurd (none dr)) (less_lively v n is (λ j there. differ (after v).is_judged j lost))
@@ -147,7 +143,7 @@ module _ (L : ℕ → Type 0) (s : State) (q : ℕ) (c : Connection) (at : slice
     lost_found : (v : Value) → finding v ≡ NotJudged
     lost_found v = ap (λ (b : Bool). if b then found Right s.course (uses_source Right s.connections v) c v else NotJudged) lost
 
-    lost_came : (v : Value) → ((n : ℕ) → closed_by v ≡ Some n → c.left.reference ≡ n) → Told v
+    lost_came : (v : Value) → ((n : ℕ) → shuts_of Left v ≡ Some n → c.left.reference ≡ n) → Told v
     lost_came (disconnect destination source reason user) is h = grind (arith, reached_plain, differ, or_last, lost_found)
     lost_came (disconnected destination source) is h =
         lost_closed (disconnected destination source) destination refl (is destination refl) (λ dr. dr)
@@ -163,8 +159,8 @@ module _ (L : ℕ → Type 0) (s : State) (q : ℕ) (c : Connection) (at : slice
     abbrev Before : Value → Type 0
     Before v = is_there (after v).left (after v).right ≡ true → is_there c.left c.right ≡ true
 
-    all_lively : (v : Value) → Before v → HoldsOfEach (IsLively L) (set s.connections q (after v))
-    all_lively v h = grind (arith, left_then, each_set (IsLively L) s.connections q (after v) lively (grind (arith, left_then)))
+    all_lively : (v : Value) → Before v → HoldsOfEach (IsLively Left L) (set s.connections q (after v))
+    all_lively v h = grind (arith, left_then, each_set (IsLively Left L) s.connections q (after v) lively (grind (arith, left_then)))
 
     same_phase : (v : Value) → (half_after v c.right).phase ≡ c.right.phase → Before v
     same_phase v e = search arith
@@ -177,7 +173,7 @@ module _ (L : ℕ → Type 0) (s : State) (q : ℕ) (c : Connection) (at : slice
         is_open (half_after v c.right).phase ≡ false → is_there (after v).left (after v).right ≡ true → ⊥
     ended_there v e a b there = grind (arith, there_not, right_own, right_judged)
 
-    closed_so : (v : Value) (n : ℕ) → closed_by v ≡ Some n → c.left.reference ≡ n → is_applied (finding v) ≡ true →
+    closed_so : (v : Value) (n : ℕ) → shuts_of Left v ≡ Some n → c.left.reference ≡ n → is_applied (finding v) ≡ true →
         is_silent (half_after v c.right).phase ≡ false → is_open (half_after v c.right).phase ≡ false → (IsDr v → L n) →
         Came L v s (one_told Right q c v s).state
     closed_so v n e is applied a b k = closes n e q c at is k (less_lively v n is (λ j there. ended_there v applied a b there))
@@ -237,7 +233,7 @@ module _ (L : ℕ → Type 0) (s : State) (q : ℕ) (c : Connection) (at : slice
 
     -- ---- any
 
-    one_came : (v : Value) → ((n : ℕ) → closed_by v ≡ Some n → c.left.reference ≡ n) → Told v
+    one_came : (v : Value) → ((n : ℕ) → shuts_of Left v ≡ Some n → c.left.reference ≡ n) → Told v
     one_came (confirm destination x) is h = stays refl (all_lively (confirm destination x) (confirms destination x))
     one_came (disconnect destination source reason user) is h =
         closes_by destination source reason user (is_applied (finding (disconnect destination source reason user))) refl
@@ -247,6 +243,12 @@ module _ (L : ℕ → Type 0) (s : State) (q : ℕ) (c : Connection) (at : slice
     one_came v is h = grind (arith, all_lively v (same_phase v refl), same_phase v refl)
 
 -- ---- by the way that a unit takes
+
+no_zero : (k : Option Class) → (k ≡ Some Zero → ⊥) → (k ≡ None) ⊎ (k ≡ Some Two)
+no_zero k h = grind arith
+
+closes_named : (v : Value) (n m : ℕ) → destination_of v ≡ Some n → shuts_of Left v ≡ Some m → n ≡ m
+closes_named v n m e k = grind arith
 
 -- what holds at the judge
 pub record IsSane (s : State) : Type 0 where
@@ -259,12 +261,12 @@ pub is_name : (c : Connection) (n : ℕ) → Sound c → is_named Right n c ≡ 
 is_name c n sound h = grind (arith, eqb-true)
 
 module _ (L : ℕ → Type 0) (s : State) (sane : IsSane s) (peers : AreNamedApart Right s.connections)
-    (lively : HoldsOfEach (IsLively L) s.connections) (before : IsPlain s.course) (fine : s.course.left_erred ≡ false) where
+    (lively : HoldsOfEach (IsLively Left L) s.connections) (before : IsPlain s.course) (fine : s.course.left_erred ≡ false) where
   abbrev Comes : Value → Outcome → Type 0
   Comes v o = IsPlain o.state.course → Came L v s o.state
 
   one_by : (v : Value) (q : ℕ) (c : Connection) → slice_get s.connections q ≡ Some c →
-      ((n : ℕ) → closed_by v ≡ Some n → c.left.reference ≡ n) → (b : Bool) → c.is_judged ≡ b → Comes v (at_found Right v s q (Some c))
+      ((n : ℕ) → shuts_of Left v ≡ Some n → c.left.reference ≡ n) → (b : Bool) → c.is_judged ≡ b → Comes v (at_found Right v s q (Some c))
   one_by v q c at is true j h =
       one_came L s q c at (each_sound Right s.connections sane.apart peers q c at)
       (sane.started q c at) sane.distinct lively before.strays
@@ -275,57 +277,19 @@ module _ (L : ℕ → Type 0) (s : State) (sane : IsSane s) (peers : AreNamedApa
       fine j v is h
 
   at_one : (v : Value) (q : ℕ) (c : Connection) → slice_get s.connections q ≡ Some c →
-      ((n : ℕ) → closed_by v ≡ Some n → is_named Right n c ≡ true) → Comes v (at_found Right v s q (Some c))
+      ((n : ℕ) → shuts_of Left v ≡ Some n → is_named Right n c ≡ true) → Comes v (at_found Right v s q (Some c))
   at_one v q c at named =
       one_by v q c at (λ n e. is_name c n (each_sound Right s.connections sane.apart peers q c at) (named n e)) c.is_judged refl
 
-  there : (v : Value) (q : ℕ) (c : Connection) → slice_get s.connections q ≡ Some c →
-      ((n : ℕ) → closed_by v ≡ Some n → is_named Right n c ≡ true) → Comes v (at_place Right v s (Some q))
-  there v q c at named = subst (λ (o : Option Connection). Comes v (at_found Right v s q o)) (sym at) (at_one v q c at named)
-
-  at_name : (v : Value) (n : ℕ) (o : Option ℕ) → position (is_named Right n) s.connections ≡ o →
-      ((m : ℕ) → closed_by v ≡ Some m → n ≡ m) → Comes v (at_place Right v s o)
-  at_name v n None e same h = none_bad v s before.strays fine h
-  at_name v n (Some q) e same h =
-      let (c, at, named) = named_where s.connections n q e in
-      there v q c at (λ m k. subst (λ (i : ℕ). is_named Right i c ≡ true) (same m k) named) h
-
-  same_number : (n m : ℕ) → Some n ≡ Some m → n ≡ m
-  same_number n m e = cc
-
-  by_class : (k : Option Class) → s.course.class ≡ k → (v : Value) → Comes v (routed Right v s (route_in k Right false v))
-  by_class None is (confirm destination x) =
-      at_name (confirm destination x) destination (position (is_named Right destination) s.connections) refl (λ m e. absurd (cc e))
-  by_class None is (disconnect destination source reason user) =
-      at_name (disconnect destination source reason user) destination (position (is_named Right destination) s.connections) refl
-      (λ m e. same_number destination m e)
-  by_class None is (disconnected destination source) =
-      at_name (disconnected destination source) destination (position (is_named Right destination) s.connections) refl
-      (λ m e. same_number destination m e)
-  by_class None is (error destination cause) =
-      at_name (error destination cause) destination (position (is_named Right destination) s.connections) refl
-      (λ m e. same_number destination m e)
-  by_class (Some Zero) is v = absurd (before.two is)
-  by_class (Some Two) is (confirm destination x) =
-      at_name (confirm destination x) destination (position (is_named Right destination) s.connections) refl (λ m e. absurd (cc e))
-  by_class (Some Two) is (disconnect destination source reason user) =
-      at_name (disconnect destination source reason user) destination (position (is_named Right destination) s.connections) refl
-      (λ m e. same_number destination m e)
-  by_class (Some Two) is (disconnected destination source) =
-      at_name (disconnected destination source) destination (position (is_named Right destination) s.connections) refl
-      (λ m e. same_number destination m e)
-  by_class (Some Two) is (data2 destination number end user) =
-      at_name (data2 destination number end user) destination (position (is_named Right destination) s.connections) refl
-      (λ m e. absurd (cc e))
-  by_class (Some Two) is (acknowledge credit destination number) =
-      at_name (acknowledge credit destination number) destination (position (is_named Right destination) s.connections) refl
-      (λ m e. absurd (cc e))
-  by_class (Some Two) is (error destination cause) =
-      at_name (error destination cause) destination (position (is_named Right destination) s.connections) refl
-      (λ m e. same_number destination m e)
-  by_class _ is v = grind (arith, not_calm, calm_noted, calm_of)
-
+  -- by what the rules take it for
   pub what_came : (v : Value) → IsPlain (takes Right v s).state.course → Came L v s (takes Right v s).state
-  what_came v =
-      let so : takes Right v s ≡ routed Right v s (route_in s.course.class Right false v) = grind arith in
-      subst (Comes v) (sym so) (by_class s.course.class refl v)
+  what_came v h = by (came_so Right v s (λ m cause e. fine) before.right (no_zero s.course.class before.two)
+      (calm_of (takes Right v s).state.course h))
+    where
+      by : Passes Right v s (takes Right v s) → Came L v s (takes Right v s).state
+      by (asks_so x left e kept is) = absurd (cc left)
+      by (for_one n q c dest at named is) =
+          subst (Comes v) (sym is)
+          (at_one v q c at (λ m e. subst (λ (i : ℕ). is_named Right i c ≡ true) (closes_named v n m dest e) named)) h
+      by (spared idle) = differ s.course.disconnects.strays
+          (and_first s.course.disconnects.strays (knows_disconnect Right s.course.disconnects) idle.may) before.strays

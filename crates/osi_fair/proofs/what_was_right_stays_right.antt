@@ -1,6 +1,6 @@
 -- What was right stays right if more of the other side has passed: row by row.
 -- For the law of that name.
-use Rattle.osi_fair.proofs.Vocabulary.{arith, Bool, length, true, ℕ, ◌≡◌, lt-ltb, ltb-true, acknowledge, data2, disconnected, Value}
+use Rattle.osi_fair.proofs.Vocabulary.{arith, Bool, length, ℕ, ◌≡◌, lt-ltb, ltb-true, acknowledge, data2, disconnected, Value}
 use Rattle.osi_fair.proofs.Vocabulary.{data2_tests, first_failed, other, own, seen, theirs, found, Connection, Course, Direction, Left}
 use Rattle.osi_fair.proofs.Vocabulary.{Right, Kept, Half, IsLater, knows}
 use Rattle.osi_rules.specs.Sides.{sends}

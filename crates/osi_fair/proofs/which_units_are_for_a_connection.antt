@@ -1,12 +1,10 @@
 -- Which units of a list are for a connection, by their references; and those that the line of a connection has put.
 -- For the law on a whole end.
-use Rattle.osi_fair.proofs.Vocabulary.{arith, [], ap, Bool, false, length, List, None, Option, refl, Some, true, ℕ, ◌++◌, ◌+◌, ◌∙◌, ◌∷◌}
-use Rattle.osi_fair.proofs.Vocabulary.{◌≡◌, eq-eqb, append-nil, AllByRecursion, ◌&&◌, ◌==◌, acknowledge, data2, destination_of, disconnect}
-use Rattle.osi_fair.proofs.Vocabulary.{disconnected, Value, is_open, Line, request, confirm, data0, error}
+use Rattle.osi_fair.proofs.Vocabulary.{[], AllByRecursion, ap, append-nil, arith, Bool, destination_of, disconnected, eq-eqb, false, Half}
+use Rattle.osi_fair.proofs.Vocabulary.{is_open, Line, List, None, Option, refl, Some, Standing, theirs, true, Value, ℕ, ◌&&◌, ◌++◌}
+use Rattle.osi_fair.proofs.Vocabulary.{◌==◌, ◌∙◌, ◌∷◌, ◌≡◌}
 use Rattle.osi_fair.proofs.small_facts_that_many_lemmas_use.{and_not, both, no_two, unequal}
-use Rattle.osi_fair.proofs.units_in_flight.{Bounds, Puts}
-use Rattle.osi_fair.proofs.what_a_link_does.{begun_by}
-use Rattle.osi_fair.proofs.what_holds_of_a_line.{Holds}
+use Rattle.osi_fair.proofs.what_holds_of_a_line.{Holds, PutsAt, Tally}
 use Rattle.osi_fair.proofs.what_keeps_names_apart.{differ}
 
 abbrev pub names_in : ℕ → Option ℕ → Bool
@@ -89,9 +87,6 @@ first_kept n v vs e = picked_first (names n) v vs e
 pub first_left : (n : ℕ) (v : Value) (vs : List Value) → names n v ≡ false → those n (v ∷ vs) ≡ those n vs
 first_left n v vs e = picked_rest (names n) v vs e
 
-abbrev pub AllNamed : ℕ → List Value → Type 0
-AllNamed n units = AllByRecursion (λ (v : Value). destination_of v ≡ Some n) units
-
 -- ---- the units of a connection of the end
 
 -- a DC
@@ -152,31 +147,19 @@ none_ours r q m peer (v ∷ vs) other (one, more) = grind (arith, picked_rest, o
 
 -- ---- the units that a line has put
 
-puts_ours : (s : Bounds) (e : ℕ → ℕ → Type 0) (passed shown begun : ℕ) (units : List Value) → Puts s e passed shown begun units →
-    AllOurs s.reference s.peer units
-puts_ours s e passed shown begun [] h = tt
-puts_ours s e passed shown begun (data2 destination number end user ∷ units) (a, b, c, d, f, g) =
-    grind (arith, begun_by, puts_ours s e (passed + 1) shown (begun_by begun end (length user)) units g)
-puts_ours s e passed shown begun (acknowledge credit destination number ∷ units) (count, a, b, c, d, f, g) =
-    (record { named = ap (λ (n : ℕ). Some n) a; from = refl }, puts_ours s e passed count begun units g)
-puts_ours s e passed shown begun (disconnect destination source reason user ∷ units) (a, b, c) = grind arith
-puts_ours s e passed shown begun (disconnected destination source ∷ units) (a, b, c, d, f) = grind (arith, eq-eqb)
-puts_ours s e passed shown begun (request x ∷ units) h = absurd h
-puts_ours s e passed shown begun (confirm destination x ∷ units) h = absurd h
-puts_ours s e passed shown begun (data0 end user ∷ units) h = absurd h
-puts_ours s e passed shown begun (error destination cause ∷ units) h = absurd h
-
-all_named : (r peer : ℕ) (units : List Value) → AllOurs r peer units → AllNamed peer units
-all_named r peer [] h = tt
-all_named r peer (v ∷ vs) (one, more) = (one.named, all_named r peer vs more)
-
-pub line_named : (r peer : ℕ) (line : Line) → Holds r peer line → AllNamed peer line.put
-line_named r peer line h = all_named r peer line.put (grind (arith, puts_ours))
-
 pub last_ours : (r peer : ℕ) (xs ys : List Value) → AllOurs r peer (xs ++ ys) → AllOurs r peer ys
 last_ours r peer [] ys h = h
 last_ours r peer (x ∷ xs) ys (one, more) = last_ours r peer xs ys more
 
-pub close_waits : (r peer : ℕ) (line : Line) → Holds r peer line → line.link ≡ None → is_open line.judge.left.phase ≡ true →
+pub closes_with_none : (r peer : ℕ) (line : Line) → Holds r peer line → line.link ≡ None → is_open line.judge.left.phase ≡ true →
     line.put ≡ [] → ⊥
-close_waits r peer line h none live e = grind arith
+closes_with_none r peer line h none live e = grind arith
+
+-- of a link that is there, the end has not closed the connection
+put_open : (r peer limit : ℕ) (x : Tally) (mine theirs : Half) (put : List Value) (link : Option Standing) (l : Standing) →
+    PutsAt r peer limit x mine theirs put link → link ≡ Some l → is_open mine.phase ≡ true
+put_open r peer limit x mine theirs put link l h e = grind arith
+
+pub open_with_link : (r peer : ℕ) (line : Line) → Holds r peer line → (l : Standing) → line.link ≡ Some l →
+    is_open line.judge.left.phase ≡ true
+open_with_link r peer line h l is = grind (arith, put_open)

@@ -1,6 +1,6 @@
 -- What the other side may send a calling end while no class is selected: it answers the CR that waits, and a DC changes nothing.
 -- For the law on requests.
-use Rattle.osi_fair.proofs.Vocabulary.{arith, [], ap, Bool, false, if◌then◌else◌, inl, inr, length, List, map, None, Option, refl, set}
+use Rattle.osi_fair.proofs.Vocabulary.{arith, [], ap, Bool, false, inl, inr, length, List, map, None, Option, refl, set}
 use Rattle.osi_fair.proofs.Vocabulary.{Some, subst, suc, sym, true, zero, ℕ, ◌++◌, ◌∙◌, ◌∷◌, ◌≡◌, ◌⊎◌, slice_get-map, nat_le, not, position}
 use Rattle.osi_fair.proofs.Vocabulary.{slice_get, confirm, Connect, disconnect, disconnected, error, Value, is_applied, reach_of}
 use Rattle.osi_fair.proofs.Vocabulary.{code_named, first_failed, given_again, is_inside, is_offered, begins, is_free, is_named, is_over}

@@ -14,6 +14,7 @@ use Rattle.osi_blameless.proofs.Vocabulary.{those, those_join, Deeds, units_in, 
 use Rattle.osi_blameless.proofs.Vocabulary.{asked_so, has_given, Holding, Joined, Sessions, Course, unit_passes, units_pass, Joint, Steps}
 use Rattle.osi_blameless.proofs.Vocabulary.{TakesTurn, begin, begins_other, begins_own, passes_other, passes_own, HaveSamePlaces, IsOneOf}
 use Rattle.osi_blameless.proofs.Vocabulary.{named_by}
+use Rattle.osi_blameless.proofs.Vocabulary.{◌≤◌}
 use Rattle.osi_carrier.specs.State.{State as Carrier, asked}
 use Rattle.osi_rules.specs.declared.directions.Direction.{Direction as Way}
 use Rattle.osi_rules.specs.declared.directions.Direction.TheVariants as way
@@ -75,7 +76,11 @@ answer_of local w next more f is r lasts waits a =
     grind (arith, all_front, those, those_join, one_of)
 
 given_there : (local : Local) (w : Whole) (r : ℕ) → Follows local w → 0 < r → Tracked w.judge.connections r → has_given r w.end ≡ true
-given_there local w r j some (p, c, at, tracked, same) = search (arith, lt-ltb, le-leb)
+given_there local w r j some (p, c, at, tracked, same) =
+    let below = j.kept.newer.below p c at in
+    let last = j.kept.newer.given in
+    let up : r ≤ w.end.given = omega (arith, below, last, same) in
+    grind (arith, lt-ltb, le-leb)
 
 -- as the judge knows more of the same end
 still_tracked : (local : Local) (w next : Whole) (more : List Value) → Follows local w → Follows local next → IsOngoing w.judge.course →
@@ -240,7 +245,7 @@ module _ (local : Local) (v : Value) (w : Whole) (j : Follows local w) (on : All
   named_there_by r may t false e same right = absurd (q.closed t.q t.c t.at e (subst (MayOpen w.end) (sym same) may))
 
   tracked_of : (r : ℕ) → MayOpen w.end r → IsForOne r v →
-      Told v w.judge (takes way.Right v w.judge) ⊎ IsIdle v w.judge (takes way.Right v w.judge) → Tracked w.judge.connections r
+      Told v w.judge (takes way.Right v w.judge) ⊎ IsIdle way.Right v w.judge (takes way.Right v w.judge) → Tracked w.judge.connections r
   tracked_of r may one (inr idle) = no_dc r idle.m idle.source v one idle.dc
   tracked_of r may one (inl t) =
       let sound = each_sound way.Right w.judge.connections j.kept.sane.apart (j.peers clear) t.q t.c t.at in

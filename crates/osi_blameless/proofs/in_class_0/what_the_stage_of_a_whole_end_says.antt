@@ -136,12 +136,13 @@ module _ (local : Local) (w : Whole) (class : w.judge.course.class ≡ Some Zero
   called_puts : CalledStage local w → AllByRecursion IsDt0 w.put
   called_puts (lines h c named) = grind (arith, none_some, small.zero_two)
   called_puts (selecting z) = none_some w.judge.course.class Zero z.class class
-  called_puts (selected z) = all_data z.limit z.c.right.begun w.put (zero_puts z.limit w.end z.c.right.begun w.put z.end)
+  called_puts (selected z) =
+      all_data z.judge.limit z.judge.c.right.begun w.put (zero_puts z.judge.limit w.end z.judge.c.right.begun w.put z.goes)
 
   not_early : (r : ℕ) → 0 < r → r ≤ w.end.given → w.end.ended ≡ None → stage_at r w.end ≡ early → CalledStage local w → ⊥
   not_early r some up lasts may (lines h c named) = grind (arith, none_some, small.zero_two)
   not_early r some up lasts may (selecting z) = none_some w.judge.course.class Zero z.class class
-  not_early r some up lasts may (selected z) = open_or_over z.limit z.c.right.begun r w.end w.put z.end some up lasts may
+  not_early r some up lasts may (selected z) = open_or_over z.judge.limit z.judge.c.right.begun r w.end w.put z.goes some up lasts may
 
 -- ---- of either
 

@@ -110,8 +110,8 @@ module _ (local : Local) (w : Whole) (f : Called local w) where
       (record { flows = λ l same. (_, ap (λ (k : Standing). k.flow) (sym (same_link _ l same))); put = tt }) in
       subst (AllByRecursion IsNotZero) (sym h.mine_is) (λ last user same. cc same, after.put)
   stand_two p c (runs h none) =
-      let o = h.opened in
-      let after = acts_two Right h.r h.peer h.acts h.first h.line h.along (record {
+      let o = h.tracks.opened in
+      let after = acts_two Right h.r h.peer h.tracks.acts h.tracks.first h.line h.tracks.along (record {
         flows = λ l same. (_, ap (λ (k : Standing). k.flow) (sym (same_link _ l (sym o.link ∙ same))));
         put = subst (AllByRecursion IsNotZero) (sym o.put) tt;
       }) in

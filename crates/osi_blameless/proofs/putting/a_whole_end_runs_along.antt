@@ -58,7 +58,7 @@ module _ (local : Local) (j : Joint) (f : IsFollowed Right (wholes.begin false l
     by_stage : Stage local f.whole → HasLines local f.whole ⊎ Selecting local f.whole
     by_stage (lines h c named) = inl (record { called = h; end = c; apart = called_joined.apart; named = named })
     by_stage (selecting z) = inr z
-    by_stage (selected z) = absurd (judge_clear.two z.class)
+    by_stage (selected z) = absurd (judge_clear.two z.judge.class)
 
     pub lines_or_selects : HasLines local f.whole ⊎ Selecting local f.whole
     lines_or_selects = by_stage (called_joined.stage judge_clear.sure)

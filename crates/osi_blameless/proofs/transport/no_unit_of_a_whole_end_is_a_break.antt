@@ -36,4 +36,4 @@ pub is_right_in_class_0 : (d : Direction) (local : Local) (events : List Event) 
 is_right_in_class_0 Left local events w unit rest along begun put judged firm zero =
     calling_fair_in_class_0 local events w unit rest along begun put judged zero
 is_right_in_class_0 Right local events w unit rest along begun put judged firm zero =
-    called_fair_in_class_0 local events w unit rest along begun put judged firm zero
+    called_fair_in_class_0 local events w unit rest along begun put judged zero

@@ -6,4 +6,5 @@ pub returns-clause-judged : goal.returns-clause-judged
 returns-clause-judged c = called_fair
 
 pub returns-clause-in_class_0 : goal.returns-clause-in_class_0
-returns-clause-in_class_0 c = called_fair_in_class_0
+returns-clause-in_class_0 c local events w unit rest along begun put judged firm =
+    called_fair_in_class_0 local events w unit rest along begun put judged
