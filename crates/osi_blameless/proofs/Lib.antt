@@ -4,7 +4,7 @@ pub mod small_facts_that_many_lemmas_use
 -- A capture of an end is steps of the end and of the judge.
 pub mod steps
 -- No unit of an end breaks a rule of transport, whatever the other side breaks.
-pub mod transport
+pub mod keeping
 -- What a judge has joined of a connection, beside what was done at the end; the session is not to blame for that.
 pub mod shown
 -- All connections stand at a judge, as units pass and as the end takes a turn.

@@ -12,10 +12,10 @@ use Rattle.osi_rules.specs.declared.findings.Reach.TheVariants as reach
 use Rattle.osi_fair.specs.Wholes as wholes
 use Rattle.osi_judge.specs.Courses.{Course as Passed}
 use Rattle.osi_judge.specs.States as states
-use Rattle.osi_blameless.proofs.transport.a_break_ends_no_judging_or_all.{all_ends, mild_reach, reach_so}
+use Rattle.osi_blameless.proofs.keeping.a_break_ends_no_judging_or_all.{all_ends, mild_reach, reach_so}
 use Rattle.osi_blameless.proofs.steps.all_is_judged_or_nothing.{IsOver, unread_over}
-use Rattle.osi_blameless.proofs.transport.no_unit_of_a_whole_end_is_a_break.{IsNoBreak}
-use Rattle.osi_blameless.proofs.transport.steps_are_events.{IsFollowed, step_followed}
+use Rattle.osi_blameless.proofs.keeping.no_unit_of_a_whole_end_is_a_break.{IsNoBreak}
+use Rattle.osi_blameless.proofs.keeping.steps_are_events.{IsFollowed, step_followed}
 use Rattle.osi_blameless.proofs.steps.what_passes_keeps_a_claim.{IsClaim, after_join, step_kept, units_kept}
 use Rattle.osi_blameless.proofs.steps.what_the_turns_among_steps_do.{ComesByDoing, IsOfJudge, StepsDo, TurnDoes}
 use Rattle.osi_blameless.proofs.breaking.an_end_beside_a_judge.{Goes, first_goes, other_begins_goes, other_goes, own_begins_goes, own_goes}

@@ -4,8 +4,8 @@ use Rattle.osi_blameless.proofs.Vocabulary.{slice_get, ◌⊎◌, ℕ, inl, inr,
 use Rattle.osi_blameless.proofs.Vocabulary.{Capture, Direction, other, Holding, IsFresh, IsSeen, Run, Turn, Known, IsToBlame, Joined}
 use Rattle.osi_blameless.proofs.Vocabulary.{Sessions, Course, comes_to, AreOctets, differ, BreaksFirst, First, calls_from}
 use Rattle.osi_blameless.proofs.steps.a_capture_is_steps.{capture_steps}
-use Rattle.osi_blameless.proofs.transport.in_class_0_one_side_alone_is_judged.{IsLoose}
-use Rattle.osi_blameless.proofs.transport.no_unit_of_an_end_breaks_a_rule.{always_unbroken}
+use Rattle.osi_blameless.proofs.keeping.in_class_0_one_side_alone_is_judged.{IsLoose}
+use Rattle.osi_blameless.proofs.keeping.no_unit_of_an_end_breaks_a_rule.{always_unbroken}
 use Rattle.osi_blameless.proofs.small_facts_that_many_lemmas_use.{zero_two}
 use Rattle.osi_blameless.proofs.steps.what_the_turns_among_steps_do.{ComesByDoing, comes_by_steps}
 use Rattle.osi_blameless.proofs.breaking.an_end_of_class_0_has_begun_what_a_judge_has_joined.{begun_until_two}

@@ -8,9 +8,9 @@ use Rattle.osi_rules.specs.declared.findings.Reach.TheVariants as reach
 use Rattle.osi_fair.specs.Pieces.{units_in}
 use Rattle.osi_judge.specs.Courses.{Course as Passed}
 use Rattle.osi_blameless.specs.Spoilt.{GoesOn}
-use Rattle.osi_blameless.proofs.transport.a_break_ends_no_judging_or_all.{IsGoing, nothing_goes, part_goes, side_known}
+use Rattle.osi_blameless.proofs.keeping.a_break_ends_no_judging_or_all.{IsGoing, nothing_goes, part_goes, side_known}
 use Rattle.osi_blameless.proofs.steps.all_is_judged_or_nothing.{IsOver}
-use Rattle.osi_blameless.proofs.transport.an_end_that_is_judged_alone_stays_so.{later_kept}
+use Rattle.osi_blameless.proofs.keeping.an_end_that_is_judged_alone_stays_so.{later_kept}
 use Rattle.osi_blameless.proofs.steps.what_the_turns_among_steps_do.{ComesByDoing}
 use Rattle.osi_blameless.proofs.blaming.each_step_keeps_an_end_blameless.{Comes, IsDone, RestsSo, SoFar, Stood, all_done, at_last, ended}
 use Rattle.osi_blameless.proofs.blaming.each_step_keeps_an_end_blameless.{done_claim, goes, is_done, is_taken, rested}

@@ -9,9 +9,9 @@ use Rattle.osi_blameless.proofs.Vocabulary.{unread_moment, way_of}
 use Rattle.osi_rules.specs.Traffic as traffic
 use Rattle.osi_judge.specs.Courses.{breaks}
 use Rattle.osi_judge.specs.States as states
-use Rattle.osi_blameless.proofs.transport.a_break_ends_no_judging_or_all.{mid, other_unbroken, own_unbroken, reached_broke, refuses}
-use Rattle.osi_blameless.proofs.transport.a_break_ends_no_judging_or_all.{some_earlier, unread_if, unread_unbroken}
-use Rattle.osi_blameless.proofs.transport.no_unit_of_a_whole_end_is_a_break.{IsNoBreak}
+use Rattle.osi_blameless.proofs.keeping.a_break_ends_no_judging_or_all.{mid, other_unbroken, own_unbroken, reached_broke, refuses}
+use Rattle.osi_blameless.proofs.keeping.a_break_ends_no_judging_or_all.{some_earlier, unread_if, unread_unbroken}
+use Rattle.osi_blameless.proofs.keeping.no_unit_of_a_whole_end_is_a_break.{IsNoBreak}
 use Rattle.osi_blameless.proofs.small_facts_that_many_lemmas_use.{all_join}
 use Rattle.osi_blameless.proofs.steps.all_is_judged_or_nothing.{marked_first}
 use Rattle.osi_blameless.proofs.steps.what_passes_keeps_a_claim.{IsClaim, after_kept}

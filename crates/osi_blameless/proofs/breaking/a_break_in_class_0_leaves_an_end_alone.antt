@@ -11,15 +11,15 @@ use Rattle.osi_rules.specs.declared.findings.Reach.TheVariants as reach
 use Rattle.osi_fair.specs.Pieces.{units_in}
 use Rattle.osi_fair.specs.Wholes as wholes
 use Rattle.osi_judge.specs.Courses.{Course as Passed}
-use Rattle.osi_blameless.proofs.transport.a_break_ends_no_judging_or_all.{reach_so, refuses}
-use Rattle.osi_blameless.proofs.transport.an_end_that_is_judged_alone_stays_so.{later_kept}
-use Rattle.osi_blameless.proofs.transport.in_class_0_one_side_alone_is_judged.{IsAlone}
-use Rattle.osi_blameless.proofs.transport.later_steps_are_events.{later_followed, spoilt_followed}
-use Rattle.osi_blameless.proofs.transport.steps_are_events.{IsFollowed}
+use Rattle.osi_blameless.proofs.keeping.a_break_ends_no_judging_or_all.{reach_so, refuses}
+use Rattle.osi_blameless.proofs.keeping.an_end_that_is_judged_alone_stays_so.{later_kept}
+use Rattle.osi_blameless.proofs.keeping.in_class_0_one_side_alone_is_judged.{IsAlone}
+use Rattle.osi_blameless.proofs.keeping.later_steps_are_events.{later_followed, spoilt_followed}
+use Rattle.osi_blameless.proofs.keeping.steps_are_events.{IsFollowed}
 use Rattle.osi_blameless.proofs.steps.all_is_judged_or_nothing.{IsJudged}
-use Rattle.osi_blameless.proofs.transport.what_is_halted_stays_halted.{unread_same}
+use Rattle.osi_blameless.proofs.keeping.what_is_halted_stays_halted.{unread_same}
 use Rattle.osi_blameless.proofs.steps.what_passes_keeps_a_claim.{units_kept}
-use Rattle.osi_blameless.proofs.transport.what_is_judged_beside_a_halted_side.{IsBeside, beside_break, beside_unread}
+use Rattle.osi_blameless.proofs.keeping.what_is_judged_beside_a_halted_side.{IsBeside, beside_break, beside_unread}
 use Rattle.osi_blameless.proofs.breaking.a_dt_that_is_too_long_stays_so.{IsTooLong, breaks_too_long}
 use Rattle.osi_blameless.proofs.breaking.an_end_beside_a_judge.{Goes, other_goes}
 use Rattle.osi_blameless.proofs.breaking.an_end_goes_on_as_if_no_break_had_come.{How, IsAsWithout, IsHardFor, is_over, none_alone}

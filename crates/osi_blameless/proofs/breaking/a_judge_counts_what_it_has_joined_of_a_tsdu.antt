@@ -12,7 +12,7 @@ use Rattle.osi_blameless.proofs.Vocabulary.{unread_mark, unread_moment}
 use Rattle.osi_rules.specs.Traffic as traffic
 use Rattle.osi_judge.specs.Connections as joined
 use Rattle.osi_judge.specs.Courses.{fresh}
-use Rattle.osi_blameless.proofs.transport.a_break_ends_no_judging_or_all.{refused_traffic, refuses, unread_if}
+use Rattle.osi_blameless.proofs.keeping.a_break_ends_no_judging_or_all.{refused_traffic, refuses, unread_if}
 use Rattle.osi_blameless.proofs.small_facts_that_many_lemmas_use.{same_one}
 use Rattle.osi_blameless.proofs.steps.what_passes_keeps_a_claim.{IsClaim}
 use Rattle.osi_blameless.proofs.standing.all_connections_stand.{map_of, other_after, own_after}

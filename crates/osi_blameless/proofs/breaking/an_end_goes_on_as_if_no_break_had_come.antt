@@ -14,12 +14,12 @@ use Rattle.osi_fair.specs.Wholes as wholes
 use Rattle.osi_blameless.proofs.steps.what_the_turns_among_steps_do.{takes_turn}
 use Rattle.osi_stack.specs.Feeding.{stops}
 use Rattle.osi_judge.specs.Courses.{Course as Passed}
-use Rattle.osi_blameless.proofs.transport.a_break_ends_no_judging_or_all.{far_of}
-use Rattle.osi_blameless.proofs.transport.an_end_that_is_judged_alone_stays_so.{own_alone}
-use Rattle.osi_blameless.proofs.transport.in_class_0_one_side_alone_is_judged.{IsAlone, alone_begins, alone_own}
-use Rattle.osi_blameless.proofs.transport.steps_are_events.{IsFollowed, step_followed}
-use Rattle.osi_blameless.proofs.transport.no_unit_of_a_whole_end_is_a_break.{IsNoBreak}
-use Rattle.osi_blameless.proofs.transport.what_is_judged_beside_a_halted_side.{IsBeside, beside_own}
+use Rattle.osi_blameless.proofs.keeping.a_break_ends_no_judging_or_all.{far_of}
+use Rattle.osi_blameless.proofs.keeping.an_end_that_is_judged_alone_stays_so.{own_alone}
+use Rattle.osi_blameless.proofs.keeping.in_class_0_one_side_alone_is_judged.{IsAlone, alone_begins, alone_own}
+use Rattle.osi_blameless.proofs.keeping.steps_are_events.{IsFollowed, step_followed}
+use Rattle.osi_blameless.proofs.keeping.no_unit_of_a_whole_end_is_a_break.{IsNoBreak}
+use Rattle.osi_blameless.proofs.keeping.what_is_judged_beside_a_halted_side.{IsBeside, beside_own}
 use Rattle.osi_blameless.proofs.steps.what_passes_keeps_a_claim.{step_kept}
 use Rattle.osi_blameless.proofs.breaking.a_dt_that_is_too_long_stays_so.{IsTooLong, begins_too_long, only_of, passes_too_long}
 use Rattle.osi_blameless.proofs.in_class_0.what_the_stage_of_a_whole_end_says.{own_is_dt}

@@ -7,9 +7,9 @@ use Rattle.osi_blameless.proofs.Vocabulary.{arith, may_be_followed, ended, waits
 use Rattle.osi_fair.specs.Pieces.{units_in}
 use Rattle.osi_fair.specs.Wholes as wholes
 use Rattle.osi_fair.proofs.how_requests_go_on.{asks, zero}
-use Rattle.osi_blameless.proofs.transport.a_carrier_does_events.{none_of}
+use Rattle.osi_blameless.proofs.keeping.a_carrier_does_events.{none_of}
 use Rattle.osi_blameless.proofs.small_facts_that_many_lemmas_use.{none_some, over_none, zero_two}
-use Rattle.osi_blameless.proofs.transport.steps_are_events.{IsFollowed}
+use Rattle.osi_blameless.proofs.keeping.steps_are_events.{IsFollowed}
 use Rattle.osi_blameless.proofs.in_class_0.what_the_stage_of_a_whole_end_says.{StageOf, stage_of}
 use Rattle.osi_blameless.proofs.putting.what_a_turn_puts_goes_to_its_peer.{one_of}
 

@@ -23,8 +23,8 @@ use Rattle.osi_fair.specs.Wholes as wholes
 use Rattle.osi_fair.proofs.a_calling_end_is_fair_in_class_2.{Joined as Follows}
 use Rattle.osi_fair.proofs.no_two_open_connections_have_one_peer.{differ}
 use Rattle.osi_fair.proofs.what_becomes_of_a_connection.{Told}
-use Rattle.osi_blameless.proofs.transport.a_carrier_does_events.{none_of}
-use Rattle.osi_blameless.proofs.transport.steps_are_events.{IsFollowed}
+use Rattle.osi_blameless.proofs.keeping.a_carrier_does_events.{none_of}
+use Rattle.osi_blameless.proofs.keeping.steps_are_events.{IsFollowed}
 use Rattle.osi_blameless.proofs.in_class_2.no_unit_waits_for_the_reference_that_a_cc_gives.{one_plain}
 use Rattle.osi_blameless.proofs.in_class_2.an_end_hears_what_breaks_no_rule.{AreFine, IsHeardOn}
 use Rattle.osi_blameless.proofs.putting.a_whole_end_runs_along.{first, whole_joined}

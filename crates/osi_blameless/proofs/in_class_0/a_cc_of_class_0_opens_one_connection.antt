@@ -12,7 +12,7 @@ use Rattle.osi_rules.specs.declared.directions.Direction.TheVariants.{Right}
 use Rattle.osi_rules.specs.declared.findings.Rule.TheVariants as rule
 use Rattle.osi_fair.proofs.class_0_stays_selected.{reached_class}
 use Rattle.osi_judge.specs.Connections as joined
-use Rattle.osi_blameless.proofs.transport.what_a_taker_passes_over.{IsMild}
+use Rattle.osi_blameless.proofs.keeping.what_a_taker_passes_over.{IsMild}
 use Rattle.osi_blameless.proofs.shown.a_unit_is_joined_where_it_is_named.{joined_named}
 use Rattle.osi_blameless.proofs.in_class_0.class_0_keeps_its_one_place.{HasOne}
 use Rattle.osi_blameless.proofs.shown.connections_have_the_same_places.{at_same, unit_joins, unit_knows}

@@ -9,7 +9,7 @@ use Rattle.osi_blameless.proofs.Vocabulary.{Joint, TakesTurn, parts_of, HaveSame
 use Rattle.std.proofs.lemmas.List.Concat.{flat_map-append}
 use Rattle.osi_carrier.specs.State.{State as Carrier}
 use Rattle.osi_judge.specs.Courses.{Course as Passed}
-use Rattle.osi_blameless.proofs.transport.steps_are_events.{IsFollowed}
+use Rattle.osi_blameless.proofs.keeping.steps_are_events.{IsFollowed}
 use Rattle.osi_blameless.proofs.small_facts_that_many_lemmas_use.{none_some, all_front, early_lasts}
 use Rattle.osi_blameless.proofs.putting.a_called_end_answers_with_class_2_or_selects_class_0.{answers_or_selects}
 use Rattle.osi_blameless.proofs.putting.a_turn_does_what_its_deeds_say.{turn_uses}

@@ -11,7 +11,7 @@ use Rattle.osi_rules.specs.declared.directions.Direction.TheVariants as way
 use Rattle.osi_fair.specs.Wholes as wholes
 use Rattle.osi_judge.specs.Courses.{Course as Passed}
 use Rattle.osi_blameless.proofs.small_facts_that_many_lemmas_use.{all_join}
-use Rattle.osi_blameless.proofs.transport.what_a_taker_passes_over.{mild_of}
+use Rattle.osi_blameless.proofs.keeping.what_a_taker_passes_over.{mild_of}
 use Rattle.osi_blameless.proofs.in_class_0.a_cc_of_class_0_opens_one_connection.{HasEffect, cc_answers, has_effect}
 use Rattle.osi_blameless.proofs.putting.a_turn_does_what_its_deeds_say.{units_more}
 use Rattle.osi_blameless.proofs.shown.a_unit_is_joined_where_it_is_named.{joined_named}

@@ -14,10 +14,10 @@ use Rattle.osi_blameless.proofs.Vocabulary.{passes_other, passes_own}
 use Rattle.osi_carrier.specs.State.{State as Carrier}
 use Rattle.osi_rules.specs.declared.directions.Direction.TheVariants as way
 use Rattle.osi_fair.specs.Wholes as wholes
-use Rattle.osi_blameless.proofs.transport.a_carrier_does_events.{IsLike, none_of}
-use Rattle.osi_blameless.proofs.transport.a_break_ends_no_judging_or_all.{reach_so}
+use Rattle.osi_blameless.proofs.keeping.a_carrier_does_events.{IsLike, none_of}
+use Rattle.osi_blameless.proofs.keeping.a_break_ends_no_judging_or_all.{reach_so}
 use Rattle.osi_blameless.proofs.small_facts_that_many_lemmas_use.{all_front, all_join, given_so, none_some, over_none, ranges_of}
-use Rattle.osi_blameless.proofs.transport.what_a_taker_passes_over.{IsMild, mild_reach}
+use Rattle.osi_blameless.proofs.keeping.what_a_taker_passes_over.{IsMild, mild_reach}
 use Rattle.osi_blameless.proofs.in_class_0.a_cc_of_class_0_opens_one_connection.{awaits_this, cc_opens, effect, opens_within}
 use Rattle.osi_blameless.proofs.putting.a_turn_does_what_its_deeds_say.{units_more}
 use Rattle.osi_blameless.proofs.standing.all_connections_stand.{AllStand, all_room}

@@ -9,7 +9,7 @@ use Rattle.osi_blameless.proofs.Vocabulary.{packet_begins, unit_passes, units_pa
 use Rattle.osi_blameless.proofs.Vocabulary.{begins_own, passes_other, passes_own, going_on, IsOngoing, takes, class_of, Class, ◌==◌}
 use Rattle.osi_rules.specs.declared.directions.Direction.TheVariants as way
 use Rattle.osi_judge.specs.Courses.{Course as Passed}
-use Rattle.osi_blameless.proofs.transport.what_a_taker_passes_over.{mild_of}
+use Rattle.osi_blameless.proofs.keeping.what_a_taker_passes_over.{mild_of}
 use Rattle.osi_blameless.proofs.steps.what_the_turns_among_steps_do.{TurnDoes}
 use Rattle.osi_blameless.proofs.small_facts_that_many_lemmas_use.{none_some}
 use Rattle.osi_blameless.proofs.putting.a_called_end_answers_with_class_2_or_selects_class_0.{answers_or_selects}

@@ -10,7 +10,7 @@ use Rattle.osi_rules.specs.declared.directions.Direction.{Direction as Way}
 use Rattle.osi_rules.specs.Traffic as traffic
 use Rattle.osi_judge.specs.Connections.{packet_begins}
 use Rattle.osi_judge.specs.Connections as joined
-use Rattle.osi_blameless.proofs.transport.what_a_taker_passes_over.{IsMild}
+use Rattle.osi_blameless.proofs.keeping.what_a_taker_passes_over.{IsMild}
 use Rattle.osi_blameless.proofs.standing.all_connections_stand.{map_of}
 use Rattle.osi_blameless.proofs.standing.class_0_has_one_connection.{set_other}
 use Rattle.osi_blameless.proofs.shown.connections_have_the_same_places.{unit_joins, unit_knows}

@@ -5,7 +5,7 @@ use Rattle.osi_blameless.proofs.Vocabulary.{arith, AllByRecursion, Connect, Valu
 use Rattle.osi_blameless.proofs.Vocabulary.{Selecting, IsClear, IsFirm, Deeds, then_did, units_in, all_units, Turn}
 use Rattle.osi_blameless.proofs.Vocabulary.{amid, stage_at, all_units_more, Sessions, Joint, TakesTurn, parts_of, going_on}
 use Rattle.osi_carrier.specs.State.{State as Carrier}
-use Rattle.osi_blameless.proofs.transport.steps_are_events.{IsFollowed}
+use Rattle.osi_blameless.proofs.keeping.steps_are_events.{IsFollowed}
 use Rattle.osi_blameless.proofs.small_facts_that_many_lemmas_use.{none_some}
 use Rattle.osi_blameless.proofs.in_class_2.an_end_is_ready_for_each_cc_that_passes.{waits_above}
 use Rattle.osi_blameless.proofs.putting.a_whole_end_runs_along.{has_lines}

@@ -10,7 +10,7 @@ use Rattle.osi_rules.specs.declared.directions.Direction.{Direction as Way}
 use Rattle.osi_rules.specs.declared.directions.Direction.TheVariants as way
 use Rattle.osi_rules.specs.declared.findings.Reach.TheVariants as reach
 use Rattle.osi_rules.specs.declared.findings.Rule.TheVariants as rule
-use Rattle.osi_blameless.proofs.transport.a_break_ends_no_judging_or_all.{takes_reach}
+use Rattle.osi_blameless.proofs.keeping.a_break_ends_no_judging_or_all.{takes_reach}
 use Rattle.osi_blameless.proofs.shown.a_dt_that_is_no_break_is_right.{found_two}
 use Rattle.osi_blameless.proofs.standing.a_unit_after_a_dr_leaves_all_standing.{after_keeps}
 use Rattle.osi_blameless.proofs.shown.a_unit_is_joined_where_it_is_named.{joined_any}

@@ -14,9 +14,9 @@ use Rattle.osi_blameless.proofs.Vocabulary.{differ, IsOngoing, Rise}
 use Rattle.osi_carrier.specs.State.{Connection as Live, State as Carrier, asked}
 use Rattle.osi_fair.specs.Wholes as wholes
 use Rattle.osi_honest.proofs.courses.how_long_a_connection_is_open.{Stage}
-use Rattle.osi_blameless.proofs.transport.a_carrier_does_events.{none_of}
+use Rattle.osi_blameless.proofs.keeping.a_carrier_does_events.{none_of}
 use Rattle.osi_blameless.proofs.small_facts_that_many_lemmas_use.{amid_not, early_lasts, given_so, past_not}
-use Rattle.osi_blameless.proofs.transport.steps_are_events.{IsFollowed}
+use Rattle.osi_blameless.proofs.keeping.steps_are_events.{IsFollowed}
 use Rattle.osi_blameless.proofs.putting.a_whole_end_runs_along.{HasLines, has_lines}
 use Rattle.osi_blameless.proofs.putting.a_called_end_of_class_2_puts_no_dt_of_class_0.{called_put_two}
 use Rattle.osi_blameless.proofs.in_class_2.an_end_of_class_2_goes_on.{OwnInTwo}

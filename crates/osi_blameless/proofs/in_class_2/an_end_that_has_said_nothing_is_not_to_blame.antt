@@ -9,7 +9,7 @@ use Rattle.osi_blameless.proofs.Vocabulary.{Step, Steps, calls_from, arith, Cour
 use Rattle.osi_fair.specs.Wholes as wholes
 use Rattle.osi_judge.specs.Connections.{packet_begins}
 use Rattle.osi_judge.specs.Connections as joined
-use Rattle.osi_blameless.proofs.transport.steps_are_events.{IsFollowed, step_followed}
+use Rattle.osi_blameless.proofs.keeping.steps_are_events.{IsFollowed, step_followed}
 use Rattle.osi_blameless.proofs.steps.what_the_turns_among_steps_do.{TurnDoes}
 use Rattle.osi_blameless.proofs.standing.nobody_of_a_side_is_to_blame.{IsMute}
 use Rattle.osi_blameless.proofs.standing.all_connections_stand.{map_of}

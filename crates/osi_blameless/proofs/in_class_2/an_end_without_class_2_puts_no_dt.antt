@@ -2,7 +2,7 @@
 -- For the law that no session of an end is blamed first.
 use Rattle.osi_blameless.proofs.Vocabulary.{false, true, ℕ, ◌≡◌, Local, Left, Value, Joint, Steps, passes_own, IsOngoing, arith, ◌∙◌, ◌∷◌}
 use Rattle.osi_fair.specs.Wholes.{begin}
-use Rattle.osi_blameless.proofs.transport.steps_are_events.{IsFollowed}
+use Rattle.osi_blameless.proofs.keeping.steps_are_events.{IsFollowed}
 use Rattle.osi_blameless.proofs.standing.what_stands_of_a_connection.{is_part}
 use Rattle.osi_blameless.proofs.in_class_0.what_the_stage_of_a_whole_end_says.{runs_staged}
 

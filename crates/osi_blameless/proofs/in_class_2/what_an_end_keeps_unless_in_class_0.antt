@@ -32,7 +32,7 @@ use Rattle.osi_blameless.proofs.coming.what_has_come_before_a_cc.{AreQuiet, begi
 use Rattle.osi_blameless.proofs.coming.what_has_come_before_a_cc.{passes_other_quiet, passes_own_quiet, turns_quiet}
 use Rattle.osi_blameless.proofs.in_class_2.what_is_asked_of_what_holds_at_each_step.{ArePassed, Keeps, Leads, leads_either}
 use Rattle.osi_blameless.proofs.small_facts_that_many_lemmas_use.{all_front, none_some}
-use Rattle.osi_blameless.proofs.transport.steps_are_events.{IsFollowed, begin_followed}
+use Rattle.osi_blameless.proofs.keeping.steps_are_events.{IsFollowed, begin_followed}
 use Rattle.osi_blameless.proofs.steps.what_passes_keeps_a_claim.{step_kept}
 use Rattle.osi_blameless.proofs.steps.what_the_turns_among_steps_do.{TurnDoes}
 use Rattle.osi_blameless.proofs.in_class_2.what_is_asked_of_what_holds_at_each_step.{leads_more}

@@ -15,9 +15,9 @@ use Rattle.osi_fair.specs.Wholes as wholes
 use Rattle.osi_honest.specs.Courses.{Course}
 use Rattle.osi_judge.specs.Courses.{Course as Passed, fresh}
 use Rattle.osi_judge.specs.States as states
-use Rattle.osi_blameless.proofs.transport.steps_are_events.{IsFollowed}
-use Rattle.osi_blameless.proofs.transport.no_unit_of_a_whole_end_is_a_break.{IsNoBreak, is_fair}
-use Rattle.osi_blameless.proofs.transport.a_break_ends_no_judging_or_all.{IsGoing, begins_going, nothing_ends, nothing_goes}
+use Rattle.osi_blameless.proofs.keeping.steps_are_events.{IsFollowed}
+use Rattle.osi_blameless.proofs.keeping.no_unit_of_a_whole_end_is_a_break.{IsNoBreak, is_fair}
+use Rattle.osi_blameless.proofs.keeping.a_break_ends_no_judging_or_all.{IsGoing, begins_going, nothing_ends, nothing_goes}
 use Rattle.osi_blameless.proofs.steps.all_is_judged_or_nothing.{IsJudged}
 use Rattle.osi_blameless.proofs.steps.what_passes_keeps_a_claim.{IsClaim, after_kept, step_kept, units_kept}
 use Rattle.osi_blameless.proofs.steps.what_the_turns_among_steps_do.{TurnDoes}

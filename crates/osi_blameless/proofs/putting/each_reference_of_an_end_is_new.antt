@@ -10,8 +10,8 @@ use Rattle.osi_blameless.proofs.Vocabulary.{turns, HaveSamePlaces}
 use Rattle.osi_fair.specs.Wholes as wholes
 use Rattle.osi_judge.specs.Connections.{packet_begins}
 use Rattle.osi_judge.specs.Connections as joined
-use Rattle.osi_blameless.proofs.transport.a_carrier_does_events.{happen_join}
-use Rattle.osi_blameless.proofs.transport.steps_are_events.{IsFollowed, begin_followed, step_followed}
+use Rattle.osi_blameless.proofs.keeping.a_carrier_does_events.{happen_join}
+use Rattle.osi_blameless.proofs.keeping.steps_are_events.{IsFollowed, begin_followed, step_followed}
 use Rattle.osi_blameless.proofs.standing.all_connections_stand.{map_of}
 use Rattle.osi_blameless.proofs.shown.connections_have_the_same_places.{unit_agrees, unit_joins, unit_knows}
 use Rattle.osi_blameless.proofs.putting.units_that_wait_give_references_above_those_that_passed.{AreAbove, above_along, gives, passes_given}

@@ -14,7 +14,7 @@ use Rattle.osi_fair.proofs.each_connection_of_a_called_end.{Row, past}
 use Rattle.osi_fair.proofs.units_by_their_place.{units_at}
 use Rattle.osi_honest.specs.Arriving.{is_open as opened}
 use Rattle.osi_blameless.proofs.small_facts_that_many_lemmas_use.{all_front, over_not, not_some}
-use Rattle.osi_blameless.proofs.transport.steps_are_events.{IsFollowed}
+use Rattle.osi_blameless.proofs.keeping.steps_are_events.{IsFollowed}
 use Rattle.osi_blameless.proofs.putting.a_whole_end_runs_along.{HasLines}
 use Rattle.osi_blameless.proofs.putting.a_called_end_of_class_2_puts_no_dt_of_class_0.{StandsAt, place_parts}
 use Rattle.osi_blameless.proofs.shown.a_right_dt_has_one_place.{still_used}

@@ -15,7 +15,7 @@ use Rattle.osi_fair.specs.Wholes.{begin}
 use Rattle.osi_honest.proofs.courses.the_first_cc_opens_a_connection.{opens_so}
 use Rattle.osi_judge.specs.Courses.{Course as Passed}
 use Rattle.osi_blameless.proofs.small_facts_that_many_lemmas_use.{and_both, over_not, all_join as all_of_both}
-use Rattle.osi_blameless.proofs.transport.steps_are_events.{IsFollowed}
+use Rattle.osi_blameless.proofs.keeping.steps_are_events.{IsFollowed}
 use Rattle.osi_blameless.proofs.putting.a_turn_does_what_its_deeds_say.{turn_uses}
 use Rattle.osi_blameless.proofs.putting.a_whole_end_runs_along.{whole_followed}
 use Rattle.osi_blameless.proofs.shown.connections_have_the_same_places.{at_same}

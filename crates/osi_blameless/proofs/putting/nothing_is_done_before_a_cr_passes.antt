@@ -10,8 +10,8 @@ use Rattle.osi_blameless.proofs.Vocabulary.{opens_by, past, stage_at, stage_over
 use Rattle.osi_blameless.proofs.Vocabulary.{TakesTurn, HaveSamePlaces}
 use Rattle.osi_carrier.specs.State.{State as Carrier}
 use Rattle.osi_honest.proofs.courses.how_long_a_connection_is_open.{Stage}
-use Rattle.osi_blameless.proofs.transport.a_carrier_does_events.{none_of}
-use Rattle.osi_blameless.proofs.transport.steps_are_events.{IsFollowed}
+use Rattle.osi_blameless.proofs.keeping.a_carrier_does_events.{none_of}
+use Rattle.osi_blameless.proofs.keeping.steps_are_events.{IsFollowed}
 use Rattle.osi_blameless.proofs.putting.a_turn_does_what_its_deeds_say.{turn_uses}
 use Rattle.osi_blameless.proofs.shown.connections_have_the_same_places.{at_same}
 use Rattle.osi_blameless.proofs.putting.each_reference_of_an_end_is_new.{AreUpTo}

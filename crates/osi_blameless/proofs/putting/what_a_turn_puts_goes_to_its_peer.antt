@@ -9,8 +9,8 @@ use Rattle.osi_blameless.proofs.Vocabulary.{Lives, Parts, Continues, Deeds, Mark
 use Rattle.osi_blameless.proofs.Vocabulary.{Sessions, Joint, TakesTurn, differ}
 use Rattle.osi_carrier.specs.State.{Connection as Live, State as Carrier}
 use Rattle.osi_honest.specs.Arriving as arriving
-use Rattle.osi_blameless.proofs.transport.a_carrier_does_events.{none_of, units_join}
-use Rattle.osi_blameless.proofs.transport.steps_are_events.{IsFollowed}
+use Rattle.osi_blameless.proofs.keeping.a_carrier_does_events.{none_of, units_join}
+use Rattle.osi_blameless.proofs.keeping.steps_are_events.{IsFollowed}
 use Rattle.osi_blameless.proofs.steps.the_packets_that_an_end_took_come_first.{are_first}
 use Rattle.osi_blameless.proofs.putting.each_unit_of_a_turn_has_one_connection.{IsFor, IsHomed, IsMarked, of_none, of_one}
 use Rattle.osi_blameless.proofs.standing.what_stands_of_a_connection.{is_for}

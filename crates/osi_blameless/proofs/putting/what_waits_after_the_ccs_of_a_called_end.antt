@@ -10,7 +10,7 @@ use Rattle.osi_blameless.proofs.Vocabulary.{HaveSamePlaces, AreApart, Course, di
 use Rattle.osi_fair.specs.Wholes.{begin}
 use Rattle.osi_honest.specs.Arriving.{is_open as opened}
 use Rattle.osi_blameless.proofs.small_facts_that_many_lemmas_use.{same_bool}
-use Rattle.osi_blameless.proofs.transport.steps_are_events.{IsFollowed}
+use Rattle.osi_blameless.proofs.keeping.steps_are_events.{IsFollowed}
 use Rattle.osi_blameless.proofs.putting.a_whole_end_runs_along.{HasLines}
 use Rattle.osi_blameless.proofs.putting.a_called_end_of_class_2_puts_no_dt_of_class_0.{called_put_two}
 use Rattle.osi_blameless.proofs.standing.all_connections_stand.{one_at}

@@ -7,9 +7,9 @@ use Rattle.osi_blameless.proofs.Vocabulary.{is_applied, reach_of, is_open, own, 
 use Rattle.osi_blameless.proofs.Vocabulary.{meant, takes, Deeds, Joined, Sessions, reference_of, Course, unit_passes, way_of, IsOneOf}
 use Rattle.osi_rules.specs.declared.findings.Reach.TheVariants as reach
 use Rattle.osi_judge.specs.Connections as joined
-use Rattle.osi_blameless.proofs.transport.a_break_ends_no_judging_or_all.{takes_reach}
-use Rattle.osi_blameless.proofs.transport.no_unit_of_a_whole_end_is_a_break.{IsNoBreak}
-use Rattle.osi_blameless.proofs.transport.what_a_taker_passes_over.{IsMild, applied_of, mild_of}
+use Rattle.osi_blameless.proofs.keeping.a_break_ends_no_judging_or_all.{takes_reach}
+use Rattle.osi_blameless.proofs.keeping.no_unit_of_a_whole_end_is_a_break.{IsNoBreak}
+use Rattle.osi_blameless.proofs.keeping.what_a_taker_passes_over.{IsMild, applied_of, mild_of}
 use Rattle.osi_blameless.proofs.standing.a_dt_of_class_0_has_one_place.{IsOnly, both_named, dt_takes, other_none}
 use Rattle.osi_blameless.proofs.shown.a_dt_that_is_no_break_is_right.{dt_clear}
 use Rattle.osi_blameless.proofs.shown.a_right_dt_has_one_place.{zero_placed}

@@ -12,7 +12,7 @@ use Rattle.osi_rules.specs.Sides as sides
 use Rattle.osi_rules.specs.Traffic as traffic
 use Rattle.osi_rules.specs.declared.directions.Direction.TheVariants as way
 use Rattle.osi_rules.specs.declared.findings.Rule.TheVariants as rule
-use Rattle.osi_blameless.proofs.transport.what_a_taker_passes_over.{IsDr}
+use Rattle.osi_blameless.proofs.keeping.what_a_taker_passes_over.{IsDr}
 use Rattle.osi_blameless.proofs.shown.a_unit_is_joined_where_it_is_named.{named_there, names_there}
 use Rattle.osi_blameless.proofs.standing.right_units_leave_all_standing.{IsLink, ak, dt, link_names}
 use Rattle.osi_blameless.proofs.standing.what_a_unit_does_at_its_place.{Does, asks_again, asks_more, nowhere, somewhere, unit_does}

@@ -14,7 +14,7 @@ use Rattle.osi_rules.specs.Traffic as traffic
 use Rattle.osi_honest.specs.Courses.{Course}
 use Rattle.osi_judge.specs.Connections.{packet_begins}
 use Rattle.osi_judge.specs.Connections as joined
-use Rattle.osi_blameless.proofs.transport.a_break_ends_no_judging_or_all.{takes_reach}
+use Rattle.osi_blameless.proofs.keeping.a_break_ends_no_judging_or_all.{takes_reach}
 use Rattle.osi_blameless.proofs.shown.connections_have_the_same_places.{as_long, at_same, begun_same, unit_places}
 use Rattle.osi_blameless.proofs.shown.what_a_judge_shows_goes_on.{named_added}
 use Rattle.osi_blameless.proofs.standing.what_a_unit_does_at_its_place.{Does, asks_again, asks_more, nowhere, somewhere, unit_does}

@@ -7,7 +7,7 @@ use Rattle.osi_blameless.proofs.Vocabulary.{cause_of, is_some, marks_of, unread,
 use Rattle.osi_rules.specs.Traffic as traffic
 use Rattle.osi_judge.specs.Connections.{packet_begins}
 use Rattle.osi_judge.specs.Courses as courses
-use Rattle.osi_blameless.proofs.transport.a_break_ends_no_judging_or_all.{refuses, unread_if}
+use Rattle.osi_blameless.proofs.keeping.a_break_ends_no_judging_or_all.{refuses, unread_if}
 use Rattle.osi_blameless.proofs.small_facts_that_many_lemmas_use.{all_join}
 use Rattle.osi_blameless.proofs.steps.all_is_judged_or_nothing.{IsOver}
 use Rattle.osi_blameless.proofs.standing.all_connections_stand.{map_of}

@@ -6,7 +6,7 @@ use Rattle.osi_blameless.proofs.Vocabulary.{spoken, way_of, heard, Joint, Steps,
 use Rattle.osi_blameless.proofs.Vocabulary.{calls_from}
 use Rattle.osi_honest.specs.Courses.{Course}
 use Rattle.osi_judge.specs.Courses.{Course as Passed}
-use Rattle.osi_blameless.proofs.transport.no_unit_of_a_whole_end_is_a_break.{IsNoBreak}
+use Rattle.osi_blameless.proofs.keeping.no_unit_of_a_whole_end_is_a_break.{IsNoBreak}
 use Rattle.osi_blameless.proofs.shown.a_right_dt_has_one_place.{AreUsedApart}
 use Rattle.osi_blameless.proofs.standing.a_turn_leaves_all_standing.{Turns, all_turn}
 use Rattle.osi_blameless.proofs.standing.all_connections_stand.{AllStand, all_begin_other, all_begin_own}

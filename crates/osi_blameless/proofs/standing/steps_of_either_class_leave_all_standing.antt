@@ -5,8 +5,8 @@ use Rattle.osi_blameless.proofs.Vocabulary.{Direction, class_for, is_stopped, ta
 use Rattle.osi_blameless.proofs.Vocabulary.{Deeds, unit_passes, way_of, Joint, Steps, passes_own, calls_from}
 use Rattle.osi_honest.specs.Courses.{Course}
 use Rattle.osi_judge.specs.Courses.{Course as Passed}
-use Rattle.osi_blameless.proofs.transport.no_unit_of_a_whole_end_is_a_break.{IsNoBreak}
-use Rattle.osi_blameless.proofs.transport.what_a_taker_passes_over.{IsMild}
+use Rattle.osi_blameless.proofs.keeping.no_unit_of_a_whole_end_is_a_break.{IsNoBreak}
+use Rattle.osi_blameless.proofs.keeping.what_a_taker_passes_over.{IsMild}
 use Rattle.osi_blameless.proofs.standing.a_dt_of_class_0_leaves_all_standing as zero
 use Rattle.osi_blameless.proofs.standing.a_turn_leaves_all_standing.{all_blameless}
 use Rattle.osi_blameless.proofs.standing.nobody_of_a_side_is_to_blame.{IsMute, NoneIsToBlame, mute_none}

@@ -11,9 +11,9 @@ use Rattle.osi_rules.specs.declared.directions.Direction.{Direction as Way}
 use Rattle.osi_rules.specs.declared.directions.Direction.TheVariants as way
 use Rattle.osi_rules.specs.declared.findings.Reach.TheVariants as reach
 use Rattle.osi_rules.specs.declared.findings.Rule.TheVariants as rule
-use Rattle.osi_blameless.proofs.transport.a_break_ends_no_judging_or_all.{takes_reach}
-use Rattle.osi_blameless.proofs.transport.no_unit_of_a_whole_end_is_a_break.{IsNoBreak}
-use Rattle.osi_blameless.proofs.transport.what_a_taker_passes_over.{IsMild, applied_of, mild_of, mild_reach}
+use Rattle.osi_blameless.proofs.keeping.a_break_ends_no_judging_or_all.{takes_reach}
+use Rattle.osi_blameless.proofs.keeping.no_unit_of_a_whole_end_is_a_break.{IsNoBreak}
+use Rattle.osi_blameless.proofs.keeping.what_a_taker_passes_over.{IsMild, applied_of, mild_of, mild_reach}
 use Rattle.osi_blameless.proofs.shown.a_dt_that_is_no_break_is_right.{IsClear, clear_any, clear_tests, dt_clear, found_two}
 use Rattle.osi_blameless.proofs.shown.a_right_dt_has_one_place.{AreUsedApart, judged_apart, never_unnamed}
 use Rattle.osi_blameless.proofs.standing.all_connections_stand.{AllStand, Leaves, Loses, all_after, like_same, other_plain}

@@ -1,6 +1,6 @@
 use Rattle.osi_blameless.proofs.Vocabulary.{Direction, Left, Right, AreOctets, Capture, Holding, IsFresh, IsSeen}
 use Rattle.osi_blameless.proofs.Vocabulary.{List, Local, None, Run, Turn, calls_from, comes_to, marks_of, ◌≡◌}
-use Rattle.osi_blameless.proofs.transport.no_unit_of_an_end_breaks_a_rule.{always_unbroken}
+use Rattle.osi_blameless.proofs.keeping.no_unit_of_an_end_breaks_a_rule.{always_unbroken}
 use Rattle.osi_blameless.proofs.laws.the_transport_of_an_end_is_blamed_nowhere.Goals as goal
 
 unbroken : (c : goal.After-a_capture_of_an_end_is_steps) (d : Direction) (local : Local) (begin end : Holding) (turns : List Turn)

@@ -1,6 +1,6 @@
 use Rattle.osi_blameless.proofs.Vocabulary.{Direction, Left, Right, AreOctets, Capture, Holding, IsFresh, IsSeen}
 use Rattle.osi_blameless.proofs.Vocabulary.{List, Local, Run, Turn, calls_from, comes_to}
-use Rattle.osi_blameless.proofs.transport.no_unit_of_an_end_breaks_a_rule.{always_unbroken}
+use Rattle.osi_blameless.proofs.keeping.no_unit_of_an_end_breaks_a_rule.{always_unbroken}
 use Rattle.osi_blameless.proofs.blaming.the_first_break_of_all_is_of_the_other_side.{IsUnblamed, capture_unblamed, no_transport}
 use Rattle.osi_blameless.proofs.laws.the_transport_of_an_end_is_never_blamed_first.Goals as goal
 

@@ -10,7 +10,7 @@ use Rattle.osi_carrier.specs.State.{Outcome, State}
 use Rattle.osi_rules.specs.declared.directions.Direction.{Direction}
 use Rattle.osi_fair.specs.Pieces.{units_in}
 use Rattle.osi_honest.specs.Doing as doing
-use Rattle.osi_blameless.proofs.transport.what_waits_changes_nothing.{IsApart, bare, call_apart, done_alike, put_alike, together_alike, unit_apart}
+use Rattle.osi_blameless.proofs.keeping.what_waits_changes_nothing.{IsApart, bare, call_apart, done_alike, put_alike, together_alike, unit_apart}
 
 -- ---- a carrier that has ended does nothing
 

@@ -4,7 +4,7 @@ use Rattle.osi_blameless.proofs.Vocabulary.{arith, ◌≡◌, ◌⊎◌, true, f
 use Rattle.osi_blameless.proofs.Vocabulary.{Outside, TooMany, Rule, is_applied, reach_of}
 use Rattle.osi_rules.specs.declared.findings.Reach.TheVariants as reach
 use Rattle.osi_rules.specs.declared.findings.Rule.TheVariants as rule
-use Rattle.osi_blameless.proofs.transport.no_unit_of_a_whole_end_is_a_break.{IsNoBreak}
+use Rattle.osi_blameless.proofs.keeping.no_unit_of_a_whole_end_is_a_break.{IsNoBreak}
 
 abbrev pub IsDr : Value → Type 0
 IsDr (disconnect n source reason user) = Unit {0}

@@ -11,9 +11,9 @@ use Rattle.osi_rules.specs.Traffic as traffic
 use Rattle.osi_fair.specs.Pieces.{units_in}
 use Rattle.osi_fair.specs.Wholes as wholes
 use Rattle.osi_blameless.proofs.small_facts_that_many_lemmas_use.{over_none}
-use Rattle.osi_blameless.proofs.transport.a_carrier_does_events.{IsLike, IsNext, comes, happen_join, none_of, units_join}
+use Rattle.osi_blameless.proofs.keeping.a_carrier_does_events.{IsLike, IsNext, comes, happen_join, none_of, units_join}
 use Rattle.osi_blameless.proofs.steps.all_is_judged_or_nothing.{changes_traffic}
-use Rattle.osi_blameless.proofs.transport.what_waits_changes_nothing.{bare}
+use Rattle.osi_blameless.proofs.keeping.what_waits_changes_nothing.{bare}
 
 -- ---- what the rules know of a unit, and of the units of a packet
 

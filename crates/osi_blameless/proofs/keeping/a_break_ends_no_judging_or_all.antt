@@ -16,7 +16,7 @@ use Rattle.osi_rules.specs.declared.findings.Reach.TheVariants as reach
 use Rattle.osi_rules.specs.Traffic as traffic
 use Rattle.osi_judge.specs.declared.marks.Cause.TheVariants as cause
 use Rattle.osi_judge.specs.Courses.{breaks}
-use Rattle.osi_blameless.proofs.transport.no_unit_of_a_whole_end_is_a_break.{IsNoBreak}
+use Rattle.osi_blameless.proofs.keeping.no_unit_of_a_whole_end_is_a_break.{IsNoBreak}
 use Rattle.osi_blameless.proofs.steps.all_is_judged_or_nothing.{IsJudged, IsOver, unread_over}
 use Rattle.osi_blameless.proofs.steps.what_passes_keeps_a_claim.{IsClaim}
 use Rattle.osi_blameless.proofs.standing.class_0_is_known_once_it_is_selected.{IsKnownOnce}

@@ -8,9 +8,9 @@ use Rattle.osi_fair.specs.Pieces.{units_in}
 use Rattle.osi_fair.specs.Wholes as wholes
 use Rattle.osi_rules.specs.Sides as sides
 use Rattle.osi_rules.specs.Traffic as traffic
-use Rattle.osi_blameless.proofs.transport.a_break_ends_no_judging_or_all.{refused_traffic, refuses, unread_if}
-use Rattle.osi_blameless.proofs.transport.a_carrier_does_events.{happen_join, units_join}
-use Rattle.osi_blameless.proofs.transport.steps_are_events.{IsFollowed, passes_other_so, step_followed, turned}
+use Rattle.osi_blameless.proofs.keeping.a_break_ends_no_judging_or_all.{refused_traffic, refuses, unread_if}
+use Rattle.osi_blameless.proofs.keeping.a_carrier_does_events.{happen_join, units_join}
+use Rattle.osi_blameless.proofs.keeping.steps_are_events.{IsFollowed, passes_other_so, step_followed, turned}
 
 fits_by : (r : Result (List Value) TpduFault) (packet : List ℕ) → IsOctets packet → units_of packet ≡ r → AllByRecursion Fits (units_by r)
 fits_by (Ok units) packet octets is = units_fit units packet (units_found packet units octets is)

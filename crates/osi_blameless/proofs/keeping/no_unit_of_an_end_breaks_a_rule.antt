@@ -15,15 +15,15 @@ use Rattle.osi_fair.specs.Naming.{unit as unit_passing}
 use Rattle.osi_fair.specs.Wholes as wholes
 use Rattle.osi_judge.specs.Courses.{fresh}
 use Rattle.osi_blameless.specs.Spoilt.{GoesOn}
-use Rattle.osi_blameless.proofs.transport.a_break_ends_no_judging_or_all.{IsGoing, IsLeft, all_ends, begins_going, left_claim, known_too, mild_reach}
-use Rattle.osi_blameless.proofs.transport.a_break_ends_no_judging_or_all.{nothing_goes, part_goes, side_known, other_unbroken, own_unbroken}
-use Rattle.osi_blameless.proofs.transport.a_break_ends_no_judging_or_all.{unread_unbroken}
-use Rattle.osi_blameless.proofs.transport.an_end_that_is_judged_alone_stays_so.{along_kept, along_too, own_alone}
-use Rattle.osi_blameless.proofs.transport.in_class_0_one_side_alone_is_judged.{AfterUnread, IsAlone, all_over, alone_begins, alone_own, unit_alone}
-use Rattle.osi_blameless.proofs.transport.in_class_0_one_side_alone_is_judged.{unread_alone}
-use Rattle.osi_blameless.proofs.transport.later_steps_are_events.{later_followed, spoilt_followed}
-use Rattle.osi_blameless.proofs.transport.steps_are_events.{IsFollowed, begin_followed}
-use Rattle.osi_blameless.proofs.transport.no_unit_of_a_whole_end_is_a_break.{IsNoBreak, is_fair}
+use Rattle.osi_blameless.proofs.keeping.a_break_ends_no_judging_or_all.{IsGoing, IsLeft, all_ends, begins_going, left_claim, known_too, mild_reach}
+use Rattle.osi_blameless.proofs.keeping.a_break_ends_no_judging_or_all.{nothing_goes, part_goes, side_known, other_unbroken, own_unbroken}
+use Rattle.osi_blameless.proofs.keeping.a_break_ends_no_judging_or_all.{unread_unbroken}
+use Rattle.osi_blameless.proofs.keeping.an_end_that_is_judged_alone_stays_so.{along_kept, along_too, own_alone}
+use Rattle.osi_blameless.proofs.keeping.in_class_0_one_side_alone_is_judged.{AfterUnread, IsAlone, all_over, alone_begins, alone_own, unit_alone}
+use Rattle.osi_blameless.proofs.keeping.in_class_0_one_side_alone_is_judged.{unread_alone}
+use Rattle.osi_blameless.proofs.keeping.later_steps_are_events.{later_followed, spoilt_followed}
+use Rattle.osi_blameless.proofs.keeping.steps_are_events.{IsFollowed, begin_followed}
+use Rattle.osi_blameless.proofs.keeping.no_unit_of_a_whole_end_is_a_break.{IsNoBreak, is_fair}
 use Rattle.osi_blameless.proofs.standing.class_0_is_known_once_it_is_selected.{IsKnownOnce, joint_known_once, unit_known_once}
 use Rattle.osi_blameless.proofs.shown.connections_have_the_same_places.{unit_knows}
 

@@ -2,7 +2,7 @@
 -- For what follows what can't be read.
 use Rattle.osi_blameless.proofs.Vocabulary.{arith, ◌≡◌, ℕ, Bool, true, Option, is_some, ap, Value, Direction, Reach, Cause, Mark, Course}
 use Rattle.osi_blameless.proofs.Vocabulary.{marks_of, noted_by, reached, unread}
-use Rattle.osi_blameless.proofs.transport.a_break_ends_no_judging_or_all.{halted_by, mark, mid, mid_marks, o, some_earlier, unread_if}
+use Rattle.osi_blameless.proofs.keeping.a_break_ends_no_judging_or_all.{halted_by, mark, mid, mid_marks, o, some_earlier, unread_if}
 use Rattle.osi_blameless.proofs.steps.what_an_octet_does.{begins}
 use Rattle.osi_blameless.proofs.steps.what_passes_keeps_a_claim.{IsClaim}
 

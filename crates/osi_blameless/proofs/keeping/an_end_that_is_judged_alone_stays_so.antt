@@ -5,9 +5,9 @@ use Rattle.osi_blameless.proofs.Vocabulary.{is_stopped, takes, Course, way_of, J
 use Rattle.osi_blameless.proofs.Vocabulary.{passes_own, turns, LaterAlong, LaterSteps, StepsAlong, units_by}
 use Rattle.osi_rules.specs.Traffic.{State as Traffic}
 use Rattle.osi_fair.specs.Wholes as wholes
-use Rattle.osi_blameless.proofs.transport.in_class_0_one_side_alone_is_judged.{IsAlone}
-use Rattle.osi_blameless.proofs.transport.steps_are_events.{IsFollowed}
-use Rattle.osi_blameless.proofs.transport.no_unit_of_a_whole_end_is_a_break.{is_right_in_class_0}
+use Rattle.osi_blameless.proofs.keeping.in_class_0_one_side_alone_is_judged.{IsAlone}
+use Rattle.osi_blameless.proofs.keeping.steps_are_events.{IsFollowed}
+use Rattle.osi_blameless.proofs.keeping.no_unit_of_a_whole_end_is_a_break.{is_right_in_class_0}
 use Rattle.osi_blameless.proofs.steps.what_passes_keeps_a_claim.{IsClaim, step_kept, units_kept}
 
 -- ---- steps one after the other
