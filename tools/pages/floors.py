@@ -24,10 +24,8 @@ GROUND = ("osi_unit", "what every grammar of units offers", 40, 440)
 # The crates next to the floors, by group: a heading, and crates.
 GROUPS = [
     ("Two ends", [("osi_pair", "two ends: the theorem"), ("osi_machine", "whole messages, two sides"),
-                  ("osi_between", "two carriers"), ("osi_side", "one side of a session, judged"), ("osi_rules", "rules of transport"), ("osi_honest", "the connections of an end"),
-                  ("osi_accord", "two sides that kept it"), ("osi_judge", "who broke the protocol first"),
-                  ("osi_fair", "an end keeps the rules"), ("osi_blameless", "an end and a judge"),
-                  ("osi_printed", "what is printed of an end")]),
+                  ("osi_between", "two carriers"), ("osi_side", "one side of a session, judged"), ("osi_rules", "rules of transport"),
+                  ("osi_judge", "who broke the protocol first"), ("osi_blameless", "an end and a judge")]),
     ("Given away", [("osi_c", "an end for C"), ("osi_tool", "the program osi"), ("osi_listing", "listings of captures"),
                     ("osi_script", "scripts, line by line"), ("osi_transcript", "plays a script on two ends"), ("osi_report", "judges a capture as text"),
                     ("osi_explain", "a run for what was sent"),

@@ -1,5 +1,8 @@
 -- The map of these proofs, in reading order: each folder has a map of its files. `Vocabulary` has the names that come from elsewhere.
 mod Vocabulary
+pub mod ends
+pub mod transport
+pub mod accord
 pub mod small_facts_that_many_lemmas_use
 -- A capture of an end is steps of the end and of the judge.
 pub mod steps

@@ -104,41 +104,41 @@ pub use Rattle.osi_side.specs.Running.{IsHonest, IsSentFrom}
 pub use Rattle.osi_side.specs.Sides.{begin_of}
 pub use Rattle.osi_side.specs.declared.directions.Direction.{Direction}
 pub use Rattle.osi_side.specs.declared.directions.Direction.TheVariants.{Left, Right}
-pub use Rattle.osi_honest.proofs.courses.an_end_is_sound_between_turns.{IsSane, fresh_sane, leads_to, turn_sane}
-pub use Rattle.osi_honest.proofs.courses.an_end_takes_packets_up_to_its_last.{Stopped, TakesFirst, none_held, prefix_or, stopped_there}
-pub use Rattle.osi_honest.proofs.courses.how_long_a_connection_is_open.{BeforeOpen, HasNoDr, Life, Stage as Time, WhenPast, WhileOpen, amid}
-pub use Rattle.osi_honest.proofs.courses.how_long_a_connection_is_open.{early, is_dr, opens_by, past, stage_at, stage_by, stage_is}
-pub use Rattle.osi_honest.proofs.courses.how_long_a_connection_is_open.{stage_over, stage_there, stays}
-pub use Rattle.osi_honest.proofs.courses.the_first_cc_opens_a_connection.{Awaiting, FirstOf, HasNoCc, asked_so, awaits, goes}
-pub use Rattle.osi_honest.proofs.courses.units_of_each_connection.{all_units_more, none_mark, units_more}
-pub use Rattle.osi_honest.proofs.courses.what_a_run_does_to_it.{TurnOf, TurnsOf, fresh_course, fresh_turns, turn_continues}
-pub use Rattle.osi_honest.proofs.courses.what_a_session_puts.{unlinked_put}
-pub use Rattle.osi_honest.proofs.courses.what_calls_of_a_link_say.{fresh_of, none_said, out_more, said_more, taken_more}
-pub use Rattle.osi_honest.proofs.courses.what_sessions_hear_of_it.{Known}
-pub use Rattle.osi_honest.proofs.courses.what_units_do_to_a_course.{no_calls}
-pub use Rattle.osi_honest.proofs.courses.what_was_said_is_explained.{IsSaid, nothing, shown_said, something, units_came}
-pub use Rattle.osi_honest.proofs.ends.an_end_that_is_over_does_nothing.{never_lasts, over_acts}
-pub use Rattle.osi_honest.proofs.ends.the_cn_of_a_request_fits.{can_begin}
-pub use Rattle.osi_honest.proofs.ends.what_a_session_answers_fits.{all_proper}
-pub use Rattle.osi_honest.proofs.ends.what_a_session_sends_fits.{AllProper}
-pub use Rattle.osi_honest.proofs.ends.what_class_0_does_not_take_ends_the_end.{AreHard, IsHard, IsHardPacket, IsLast, IsZeroAt, hard_ends}
-pub use Rattle.osi_honest.proofs.reading.two_readings_of_a_stream_agree.{GoesBeyond, first, packets_on, packets_then, front_of as part_of}
-pub use Rattle.osi_honest.proofs.reading.two_readings_of_a_stream_agree.{second, two_readings}
-pub use Rattle.osi_honest.proofs.reading.what_is_written_is_read_again.{CanBeWritten, packets_joined, read_again}
-pub use Rattle.osi_honest.proofs.sessions.a_history_is_a_run.{history_runs}
-pub use Rattle.osi_honest.proofs.sessions.the_session_of_a_request_is_a_caller.{opens_so}
-pub use Rattle.osi_honest.specs.Arriving.{Answers, AreApart, Begins, GivesTo, Lives, Opens, Parts, TakesAll, is_shut, opens}
-pub use Rattle.osi_honest.specs.Courses.{AreCalls, Continues, Deeds, Gone, IsFreshLink, IsShut, Speaks, all_did, no_deeds, said_in}
-pub use Rattle.osi_honest.specs.Courses.{then_did, units_given, units_in, units_read, units_taken}
-pub use Rattle.osi_honest.specs.Courses.Course.{awaited, is_gone, unknown}
-pub use Rattle.osi_honest.specs.Courses.Gone.{closed, never, over}
-pub use Rattle.osi_honest.specs.Doing.{Makes}
-pub use Rattle.osi_honest.specs.Marked.{Marked, all_units, is_of_link, units_at}
-pub use Rattle.osi_honest.specs.Parts.{ends_whole}
-pub use Rattle.osi_honest.specs.Seeing.{IsFresh, IsPrefix, IsSeen, PassAfter, put_along, used_along}
-pub use Rattle.osi_honest.specs.Showing.{Shows}
-pub use Rattle.osi_honest.specs.Talking.{Said, octets_said, told_of}
-pub use Rattle.osi_honest.specs.Turns.{Run, Takes, Turn}
+pub use Rattle.osi_blameless.proofs.ends.courses.an_end_is_sound_between_turns.{IsSane, fresh_sane, leads_to, turn_sane}
+pub use Rattle.osi_blameless.proofs.ends.courses.an_end_takes_packets_up_to_its_last.{Stopped, TakesFirst, none_held, prefix_or, stopped_there}
+pub use Rattle.osi_blameless.proofs.ends.courses.how_long_a_connection_is_open.{BeforeOpen, HasNoDr, Life, Stage as Time, WhenPast, WhileOpen, amid}
+pub use Rattle.osi_blameless.proofs.ends.courses.how_long_a_connection_is_open.{early, is_dr, opens_by, past, stage_at, stage_by, stage_is}
+pub use Rattle.osi_blameless.proofs.ends.courses.how_long_a_connection_is_open.{stage_over, stage_there, stays}
+pub use Rattle.osi_blameless.proofs.ends.courses.the_first_cc_opens_a_connection.{Awaiting, FirstOf, HasNoCc, asked_so, awaits, goes}
+pub use Rattle.osi_blameless.proofs.ends.courses.units_of_each_connection.{all_units_more, none_mark, units_more}
+pub use Rattle.osi_blameless.proofs.ends.courses.what_a_run_does_to_it.{TurnOf, TurnsOf, fresh_course, fresh_turns, turn_continues}
+pub use Rattle.osi_blameless.proofs.ends.courses.what_a_session_puts.{unlinked_put}
+pub use Rattle.osi_blameless.proofs.ends.courses.what_calls_of_a_link_say.{fresh_of, none_said, out_more, said_more, taken_more}
+pub use Rattle.osi_blameless.proofs.ends.courses.what_sessions_hear_of_it.{Known}
+pub use Rattle.osi_blameless.proofs.ends.courses.what_units_do_to_a_course.{no_calls}
+pub use Rattle.osi_blameless.proofs.ends.courses.what_was_said_is_explained.{IsSaid, nothing, shown_said, something, units_came}
+pub use Rattle.osi_blameless.proofs.ends.ends.an_end_that_is_over_does_nothing.{never_lasts, over_acts}
+pub use Rattle.osi_blameless.proofs.ends.ends.the_cn_of_a_request_fits.{can_begin}
+pub use Rattle.osi_blameless.proofs.ends.ends.what_a_session_answers_fits.{all_proper}
+pub use Rattle.osi_blameless.proofs.ends.ends.what_a_session_sends_fits.{AllProper}
+pub use Rattle.osi_blameless.proofs.ends.ends.what_class_0_does_not_take_ends_the_end.{AreHard, IsHard, IsHardPacket, IsLast, IsZeroAt, hard_ends}
+pub use Rattle.osi_blameless.proofs.ends.reading.two_readings_of_a_stream_agree.{GoesBeyond, first, packets_on, packets_then, front_of as part_of}
+pub use Rattle.osi_blameless.proofs.ends.reading.two_readings_of_a_stream_agree.{second, two_readings}
+pub use Rattle.osi_blameless.proofs.ends.reading.what_is_written_is_read_again.{CanBeWritten, packets_joined, read_again}
+pub use Rattle.osi_blameless.proofs.ends.sessions.a_history_is_a_run.{history_runs}
+pub use Rattle.osi_blameless.proofs.ends.sessions.the_session_of_a_request_is_a_caller.{opens_so}
+pub use Rattle.osi_blameless.specs.ends.Arriving.{Answers, AreApart, Begins, GivesTo, Lives, Opens, Parts, TakesAll, is_shut, opens}
+pub use Rattle.osi_blameless.specs.ends.Courses.{AreCalls, Continues, Deeds, Gone, IsFreshLink, IsShut, Speaks, all_did, no_deeds, said_in}
+pub use Rattle.osi_blameless.specs.ends.Courses.{then_did, units_given, units_in, units_read, units_taken}
+pub use Rattle.osi_blameless.specs.ends.Courses.Course.{awaited, is_gone, unknown}
+pub use Rattle.osi_blameless.specs.ends.Courses.Gone.{closed, never, over}
+pub use Rattle.osi_blameless.specs.ends.Doing.{Makes}
+pub use Rattle.osi_blameless.specs.ends.Marked.{Marked, all_units, is_of_link, units_at}
+pub use Rattle.osi_blameless.specs.ends.Parts.{ends_whole}
+pub use Rattle.osi_blameless.specs.ends.Seeing.{IsFresh, IsPrefix, IsSeen, PassAfter, put_along, used_along}
+pub use Rattle.osi_blameless.specs.ends.Showing.{Shows}
+pub use Rattle.osi_blameless.specs.ends.Talking.{Said, octets_said, told_of}
+pub use Rattle.osi_blameless.specs.ends.Turns.{Run, Takes, Turn}
 pub use Rattle.osi_judge.proofs.a_capture_has_one_first_break.{first_held}
 pub use Rattle.osi_judge.proofs.a_piece_comes_to_what_its_octets_do.{after_more, going, looks}
 pub use Rattle.osi_judge.proofs.no_break_was_before_the_first.{marked_past, noted_past}
@@ -163,62 +163,62 @@ pub use Rattle.osi_judge.specs.declared.marks.Mark.{Mark}
 pub use Rattle.osi_judge.specs.declared.marks.Marks.{Marks}
 pub use Rattle.osi_judge.specs.declared.rooms.Room.{Room}
 pub use Rattle.osi_judge.specs.declared.rooms.Room.TheVariants.{All, Octets}
-pub use Rattle.osi_fair.proofs.a_called_end_is_fair.{Stage, called_fair, lines, selected, selecting}
-pub use Rattle.osi_fair.proofs.a_called_end_is_fair_in_class_0.{called_fair_in_class_0}
-pub use Rattle.osi_fair.proofs.a_called_end_selects_class_zero.{Selecting}
-pub use Rattle.osi_fair.proofs.a_calling_end_is_fair.{calling_fair, calling_fair_in_class_0}
-pub use Rattle.osi_fair.proofs.a_calling_end_is_fair_in_class_2.{Joined as Follows, first_joined, next_joined}
-pub use Rattle.osi_fair.proofs.a_connection_is_lost_in_class_2_alone.{IsOfTwo, firm_unless_two, still_two}
-pub use Rattle.osi_fair.proofs.a_dr_for_what_is_gone.{before_going}
-pub use Rattle.osi_fair.proofs.a_dt_of_class_zero_passes.{only_first, unlike}
-pub use Rattle.osi_fair.proofs.a_reference_names_one_connection.{applied_found, applied_judged, fresh_apart, no_item, not_first, not_true}
-pub use Rattle.osi_fair.proofs.a_reference_names_one_connection.{passes_apart}
-pub use Rattle.osi_fair.proofs.a_request_of_a_whole_end_is_new.{unit_gives}
-pub use Rattle.osi_fair.proofs.a_right_unit_is_not_blamed.{first_there}
-pub use Rattle.osi_fair.proofs.a_called_end_selects_class_zero.{selecting_passes}
-pub use Rattle.osi_fair.proofs.all_are_judged_unless_one_broke.{AreJudged, still_judged}
-pub use Rattle.osi_fair.proofs.class_0_stays_selected.{zero_stays}
-pub use Rattle.osi_fair.proofs.each_connection_has_its_line.{AreGiven, Followed, IsAnswer, IsAsking, IsNoCc, IsOwned, Row, Tracked, all_so}
-pub use Rattle.osi_fair.proofs.each_connection_has_its_line.{asking, is_tracked, stray}
-pub use Rattle.osi_fair.proofs.each_connection_of_a_called_end.{Answering, AreAbove, AreStrays, Asked, Called, Stand, StrayIf, Untagged}
-pub use Rattle.osi_fair.proofs.each_connection_of_a_called_end.{answers as answering, comes, line_of, refuses, runs}
-pub use Rattle.osi_fair.proofs.how_a_calling_end_asks.{IsOver, one}
-pub use Rattle.osi_fair.proofs.how_requests_go_on.{Calling, answered, ended, known, quiet, refused, waits}
-pub use Rattle.osi_fair.proofs.left_selects_no_class.{left_class}
-pub use Rattle.osi_fair.proofs.names_stay_apart_though_one_is_lost.{AreNamedApart, OnlyOne, each_sound}
-pub use Rattle.osi_fair.proofs.no_request_is_blamed.{Holds, holds_first, holds_next}
-pub use Rattle.osi_fair.proofs.no_two_open_connections_have_one_peer.{both, left_open}
-pub use Rattle.osi_fair.proofs.one_request_waits.{begun_live, reached_class}
-pub use Rattle.osi_fair.proofs.references_of_requests_rise.{Rise, all_gives, closed_gives, ended_gives, not_less, rise_from, sent_gives}
-pub use Rattle.osi_fair.proofs.small_facts_that_many_lemmas_use.{and_false, begins_judged, begun_left, begun_right, closing_same, differ}
-pub use Rattle.osi_fair.proofs.small_facts_that_many_lemmas_use.{first_is, is_false, judged_same, no_list, none_of, number_is, some_same}
-pub use Rattle.osi_fair.proofs.small_facts_that_many_lemmas_use.{unequal}
-pub use Rattle.osi_fair.proofs.the_end_is_judged_as_the_other_side_is.{side_zero}
-pub use Rattle.osi_fair.proofs.units_by_their_place.{Placed, at_first, at_join, first_at, values}
-pub use Rattle.osi_fair.proofs.what_a_carrier_puts.{alone, connected}
-pub use Rattle.osi_fair.proofs.what_a_link_does.{begun_by, gives_so, takes_so}
-pub use Rattle.osi_fair.proofs.what_an_end_does_in_class_zero.{IsInZero, anyhow, zero_puts}
-pub use Rattle.osi_fair.proofs.what_an_end_puts_in_class_zero.{PutsData}
-pub use Rattle.osi_fair.proofs.what_becomes_of_a_called_end.{IsCalled, closing_no_cc, confirms_no_cc, given_no_cc, none_by_call}
-pub use Rattle.osi_fair.proofs.what_becomes_of_a_connection.{comes_for}
-pub use Rattle.osi_fair.proofs.what_holds_of_one_item.{HoldsOfEach, after_add, after_map, after_set, each_add, each_map, each_set}
-pub use Rattle.osi_fair.proofs.what_holds_of_one_item.{first_true, none_true, one_added, one_changed, one_mapped, one_put}
-pub use Rattle.osi_fair.proofs.what_is_right_passes_each_test.{passes_each}
-pub use Rattle.osi_fair.proofs.what_keeps_names_apart.{AreApart as NamesApart, Sound}
-pub use Rattle.osi_fair.proofs.what_lasts_at_the_judge.{lasts_passing}
-pub use Rattle.osi_fair.proofs.what_stays_of_each_connection.{left_then, own_stays, right_passes}
-pub use Rattle.osi_fair.proofs.what_the_other_side_closes.{IsClear, IsFirm, IsOngoing, going_on, is_name}
-pub use Rattle.osi_fair.proofs.which_requests_are_put.{asked_among, call_asks, unit_asks}
-pub use Rattle.osi_fair.proofs.which_unit_of_the_other_side_passes.{IsCalm, IsIdle}
-pub use Rattle.osi_fair.proofs.which_units_are_for_a_connection.{IsDc, each_picked, first_kept, first_left, names_in as is_at, is_dc, keep}
-pub use Rattle.osi_fair.proofs.which_units_are_for_a_connection.{leads, names, picked, picked_first, picked_join, picked_other, picked_rest}
-pub use Rattle.osi_fair.proofs.which_units_are_for_a_connection.{those, those_join}
-pub use Rattle.osi_fair.proofs.while_no_class_is_selected.{GoesOn, Waits, after_change, calm_judge, done_takes, set_same, set_there}
-pub use Rattle.osi_fair.specs.Asking.{asked_in}
-pub use Rattle.osi_fair.specs.Lines.{Act, Acts, ActsAlong, Line, begins_elsewhere, ignores, moves, opened_line, units_put}
-pub use Rattle.osi_fair.specs.Naming.{HoldsOfOne, Passing, packet, passes, rubbish, unit}
-pub use Rattle.osi_fair.specs.Pieces.{units_by}
-pub use Rattle.osi_fair.specs.Wholes.{Event, HappenAlong, Happens, MayCall, Whole, arrives, calls, passes_rubbish}
+pub use Rattle.osi_blameless.proofs.transport.a_called_end_is_fair.{Stage, called_fair, lines, selected, selecting}
+pub use Rattle.osi_blameless.proofs.transport.a_called_end_is_fair_in_class_0.{called_fair_in_class_0}
+pub use Rattle.osi_blameless.proofs.transport.a_called_end_selects_class_zero.{Selecting}
+pub use Rattle.osi_blameless.proofs.transport.a_calling_end_is_fair.{calling_fair, calling_fair_in_class_0}
+pub use Rattle.osi_blameless.proofs.transport.a_calling_end_is_fair_in_class_2.{Joined as Follows, first_joined, next_joined}
+pub use Rattle.osi_blameless.proofs.transport.a_connection_is_lost_in_class_2_alone.{IsOfTwo, firm_unless_two, still_two}
+pub use Rattle.osi_blameless.proofs.transport.a_dr_for_what_is_gone.{before_going}
+pub use Rattle.osi_blameless.proofs.transport.a_dt_of_class_zero_passes.{only_first, unlike}
+pub use Rattle.osi_blameless.proofs.transport.a_reference_names_one_connection.{applied_found, applied_judged, fresh_apart, no_item, not_first, not_true}
+pub use Rattle.osi_blameless.proofs.transport.a_reference_names_one_connection.{passes_apart}
+pub use Rattle.osi_blameless.proofs.transport.a_request_of_a_whole_end_is_new.{unit_gives}
+pub use Rattle.osi_blameless.proofs.transport.a_right_unit_is_not_blamed.{first_there}
+pub use Rattle.osi_blameless.proofs.transport.a_called_end_selects_class_zero.{selecting_passes}
+pub use Rattle.osi_blameless.proofs.transport.all_are_judged_unless_one_broke.{AreJudged, still_judged}
+pub use Rattle.osi_blameless.proofs.transport.class_0_stays_selected.{zero_stays}
+pub use Rattle.osi_blameless.proofs.transport.each_connection_has_its_line.{AreGiven, Followed, IsAnswer, IsAsking, IsNoCc, IsOwned, Row, Tracked, all_so}
+pub use Rattle.osi_blameless.proofs.transport.each_connection_has_its_line.{asking, is_tracked, stray}
+pub use Rattle.osi_blameless.proofs.transport.each_connection_of_a_called_end.{Answering, AreAbove, AreStrays, Asked, Called, Stand, StrayIf, Untagged}
+pub use Rattle.osi_blameless.proofs.transport.each_connection_of_a_called_end.{answers as answering, comes, line_of, refuses, runs}
+pub use Rattle.osi_blameless.proofs.transport.how_a_calling_end_asks.{IsOver, one}
+pub use Rattle.osi_blameless.proofs.transport.how_requests_go_on.{Calling, answered, ended, known, quiet, refused, waits}
+pub use Rattle.osi_blameless.proofs.transport.left_selects_no_class.{left_class}
+pub use Rattle.osi_blameless.proofs.transport.names_stay_apart_though_one_is_lost.{AreNamedApart, OnlyOne, each_sound}
+pub use Rattle.osi_blameless.proofs.transport.no_request_is_blamed.{Holds, holds_first, holds_next}
+pub use Rattle.osi_blameless.proofs.transport.no_two_open_connections_have_one_peer.{both, left_open}
+pub use Rattle.osi_blameless.proofs.transport.one_request_waits.{begun_live, reached_class}
+pub use Rattle.osi_blameless.proofs.transport.references_of_requests_rise.{Rise, all_gives, closed_gives, ended_gives, not_less, rise_from, sent_gives}
+pub use Rattle.osi_blameless.proofs.transport.small_facts_that_many_lemmas_use.{and_false, begins_judged, begun_left, begun_right, closing_same, differ}
+pub use Rattle.osi_blameless.proofs.transport.small_facts_that_many_lemmas_use.{first_is, is_false, judged_same, no_list, none_of, number_is, some_same}
+pub use Rattle.osi_blameless.proofs.transport.small_facts_that_many_lemmas_use.{unequal}
+pub use Rattle.osi_blameless.proofs.transport.the_end_is_judged_as_the_other_side_is.{side_zero}
+pub use Rattle.osi_blameless.proofs.transport.units_by_their_place.{Placed, at_first, at_join, first_at, values}
+pub use Rattle.osi_blameless.proofs.transport.what_a_carrier_puts.{alone, connected}
+pub use Rattle.osi_blameless.proofs.transport.what_a_link_does.{begun_by, gives_so, takes_so}
+pub use Rattle.osi_blameless.proofs.transport.what_an_end_does_in_class_zero.{IsInZero, anyhow, zero_puts}
+pub use Rattle.osi_blameless.proofs.transport.what_an_end_puts_in_class_zero.{PutsData}
+pub use Rattle.osi_blameless.proofs.transport.what_becomes_of_a_called_end.{IsCalled, closing_no_cc, confirms_no_cc, given_no_cc, none_by_call}
+pub use Rattle.osi_blameless.proofs.transport.what_becomes_of_a_connection.{comes_for}
+pub use Rattle.osi_blameless.proofs.transport.what_holds_of_one_item.{HoldsOfEach, after_add, after_map, after_set, each_add, each_map, each_set}
+pub use Rattle.osi_blameless.proofs.transport.what_holds_of_one_item.{first_true, none_true, one_added, one_changed, one_mapped, one_put}
+pub use Rattle.osi_blameless.proofs.transport.what_is_right_passes_each_test.{passes_each}
+pub use Rattle.osi_blameless.proofs.transport.what_keeps_names_apart.{AreApart as NamesApart, Sound}
+pub use Rattle.osi_blameless.proofs.transport.what_lasts_at_the_judge.{lasts_passing}
+pub use Rattle.osi_blameless.proofs.transport.what_stays_of_each_connection.{left_then, own_stays, right_passes}
+pub use Rattle.osi_blameless.proofs.transport.what_the_other_side_closes.{IsClear, IsFirm, IsOngoing, going_on, is_name}
+pub use Rattle.osi_blameless.proofs.transport.which_requests_are_put.{asked_among, call_asks, unit_asks}
+pub use Rattle.osi_blameless.proofs.transport.which_unit_of_the_other_side_passes.{IsCalm, IsIdle}
+pub use Rattle.osi_blameless.proofs.transport.which_units_are_for_a_connection.{IsDc, each_picked, first_kept, first_left, names_in as is_at, is_dc, keep}
+pub use Rattle.osi_blameless.proofs.transport.which_units_are_for_a_connection.{leads, names, picked, picked_first, picked_join, picked_other, picked_rest}
+pub use Rattle.osi_blameless.proofs.transport.which_units_are_for_a_connection.{those, those_join}
+pub use Rattle.osi_blameless.proofs.transport.while_no_class_is_selected.{GoesOn, Waits, after_change, calm_judge, done_takes, set_same, set_there}
+pub use Rattle.osi_blameless.specs.transport.Asking.{asked_in}
+pub use Rattle.osi_blameless.specs.transport.Lines.{Act, Acts, ActsAlong, Line, begins_elsewhere, ignores, moves, opened_line, units_put}
+pub use Rattle.osi_blameless.specs.transport.Naming.{HoldsOfOne, Passing, packet, passes, rubbish, unit}
+pub use Rattle.osi_blameless.specs.transport.Pieces.{units_by}
+pub use Rattle.osi_blameless.specs.transport.Wholes.{Event, HappenAlong, Happens, MayCall, Whole, arrives, calls, passes_rubbish}
 pub use Rattle.osi_blameless.specs.Bounded.{AreJudgedOf, AreMomentsOf, IsCourseOf, IsFedWithin, IsJudgedOf, IsMomentOf, SessionsOf}
 pub use Rattle.osi_blameless.specs.Bounded.{comes_within}
 pub use Rattle.osi_blameless.specs.Bounded.IsFedWithin.{fed, unfed}

@@ -11,10 +11,10 @@ use Rattle.osi_carrier.specs.State.{State, packets}
 use Rattle.osi_side.specs.declared.directions.Direction.{Direction}
 use Rattle.osi_side.specs.Captures.{other}
 use Rattle.osi_stack.specs.State.{Holding}
-use Rattle.osi_fair.specs.Pieces.{units_in}
-use Rattle.osi_honest.specs.Doing.{Makes}
-use Rattle.osi_honest.specs.Turns.{Takes, Turn}
-use Rattle.osi_honest.specs.Writable.{CanBeWritten}
+use Rattle.osi_blameless.specs.transport.Pieces.{units_in}
+use Rattle.osi_blameless.specs.ends.Doing.{Makes}
+use Rattle.osi_blameless.specs.ends.Turns.{Takes, Turn}
+use Rattle.osi_blameless.specs.ends.Writable.{CanBeWritten}
 use Rattle.osi_judge.specs.Courses.{Course, fresh, packet_begins, units_pass}
 
 pub record Joint : Type 0 where

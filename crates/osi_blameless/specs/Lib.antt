@@ -1,3 +1,6 @@
+pub mod ends
+pub mod transport
+pub mod accord
 pub mod Bounded
 pub mod Joint
 pub mod Spoilt

@@ -7,9 +7,9 @@ use Rattle.osi_class.specs.Tsdus.{Part, tsdus}
 use Rattle.osi_side.specs.Captures.{other}
 use Rattle.osi_side.specs.declared.directions.Direction.{Direction}
 use Rattle.osi_side.specs.declared.directions.Direction.TheVariants.{Left, Right}
-use Rattle.osi_honest.specs.Courses.{Deeds, said_in}
-use Rattle.osi_honest.specs.Parts.{ends_whole}
-use Rattle.osi_honest.specs.Talking.{Said}
+use Rattle.osi_blameless.specs.ends.Courses.{Deeds, said_in}
+use Rattle.osi_blameless.specs.ends.Parts.{ends_whole}
+use Rattle.osi_blameless.specs.ends.Talking.{Said}
 use Rattle.osi_judge.specs.declared.rooms.Room.TheVariants.{All}
 use Rattle.osi_judge.specs.Connections.{Joined, reference_of, spoken}
 use Rattle.osi_judge.specs.Lines.{Begun, Spoken, before, begun_octets, heard}

@@ -1,4 +1,39 @@
 //! Laws of an end and of a judge of its byte connection. Each function does nothing: its clauses are the laws.
+//!
+//! - A `Joint` (`specs/Joint`) is an end and a judge of what passes anywhere between it and the other side, with the units
+//!   in flight. A `Step` is what happens to both, packet by packet.
+//! - A capture of an end is such steps, up to what the other side sends and nobody can read:
+//!   [`a_capture_of_an_end_is_steps`].
+//! - **The transport of an end is never blamed first.** Steps of a `Joint` are events of a whole end (`specs/transport/Wholes`), whose carrier
+//!   reports nothing and hands nothing over: what a turn does to the carrier of an end is units that arrive and calls. So as long
+//!   as nobody has broken a rule, both sides are judged, and no unit of the end is a break. What comes after the first break
+//!   doesn't change it: [`the_transport_of_an_end_is_never_blamed_first`].
+//! - **Nor is it blamed after the first break**, called or calling, in either class: what a break of the other side leaves to be judged
+//!   of the end is right, or not judged, or beyond what the rules look at: [`the_transport_of_an_end_is_blamed_nowhere`].
+//! - **The session of an end is not to blame for what a capture shows of it.** `IsShownOf` (`specs/Shown`) says what a judge has joined of
+//!   a connection beside what was done there: [`a_session_that_is_shown_is_not_to_blame`]. It goes on so packet by packet:
+//!   [`what_a_judge_shows_goes_on`]. A unit is joined at the place that the rules of transport tell:
+//!   [`connections_have_the_same_places`]. In either class, steps of a `Joint` leave this so of all its connections (`Standing` in
+//!   `proofs/sessions`), if nobody breaks a rule, the end takes at each connection the first of what is in flight to it, and what it puts
+//!   in a turn is for the connections that put it. Lemmas there say so of a calling end and of a called end in class 2; and of both until
+//!   class 2 is selected, so in class 0 too.
+//! - **No session of an end is blamed first**, called or calling, in either class, with any number of connections. At each step of a
+//!   `Joint` from the beginning these premises hold as long as nobody breaks a rule, so the first break of all, of transport or of a
+//!   session, is of the other side: [`no_session_of_an_end_is_blamed_first`].
+//! - **Nor is one to blame after a break of the other side**, in either class. In class 2 a break may end the judging of one
+//!   connection: the judge joins nothing more of it, and the others go on as if it weren't there. A break of class 0 ends the judging of
+//!   the other side. The end takes nothing of its packet and is over with it, and the judge joins nothing more of that side. So both go on
+//!   as if the break had not come: [`no_session_of_an_end_is_to_blame_after_a_break`].
+//! - **A judge with a bound for each connection blames no end first either.** `IsCourseOf` (`specs/Bounded`) compares it with a judge
+//!   without one: [`bounded::a_bound_changes_nothing_that_is_judged`]. Of a connection that has reached the bound it says what it said
+//!   before. So at no moment is a session to blame that a judge without a bound doesn't blame then or before:
+//!   [`bounded::no_end_is_blamed_first_within_a_bound`].
+
+pub mod accord;
+pub mod bounded;
+pub mod ends;
+pub mod printed;
+pub mod transport;
 
 ghost use Rattle.std.specs.Prelude.{◌≡◌, ◌⊎◌, Bool, false, true, List, None, Option, Some, ◌≢◌, ◌<◌, ◌^◌, ◌++◌, ◌∷◌, [], ℕ, length};
 ghost use Rattle.std.specs.Prelude.{slice_get};
@@ -7,8 +42,8 @@ ghost use Rattle.osi_class.specs.declared.terms.Local.{Local};
 ghost use Rattle.osi_side.specs.Captures.{Capture, other};
 ghost use Rattle.osi_side.specs.declared.directions.Direction.{Direction};
 ghost use Rattle.osi_stack.specs.State.{Holding, End};
-ghost use Rattle.osi_honest.specs.Seeing.{IsFresh, IsSeen};
-ghost use Rattle.osi_honest.specs.Turns.{Run, Turn};
+ghost use Rattle.osi_blameless.specs.ends.Seeing.{IsFresh, IsSeen};
+ghost use Rattle.osi_blameless.specs.ends.Turns.{Run, Turn};
 ghost use Rattle.osi_judge.specs.declared.marks.First.{First};
 ghost use Rattle.osi_judge.specs.States.{comes_to};
 ghost use Rattle.osi_blameless.specs.Passing.{AreOctets, ComesBySteps};
@@ -19,7 +54,7 @@ ghost use Rattle.osi_rules.specs.declared.connections.Connection.{Connection};
 ghost use Rattle.osi_rules.specs.Sides.{is_open, own};
 ghost use Rattle.osi_rules.specs.declared.findings.Finding.{Finding};
 ghost use Rattle.osi_rules.specs.declared.findings.Rule.{Rule};
-ghost use Rattle.osi_honest.specs.Courses.{Course, Deeds, then_did};
+ghost use Rattle.osi_blameless.specs.ends.Courses.{Course, Deeds, then_did};
 ghost use Rattle.osi_judge.specs.Blaming.{IsFirstOf, IsQuiet, IsToBlame};
 ghost use Rattle.osi_judge.specs.Connections.{Joined, adds, packet_begins, reference_of, spoken, user_of};
 ghost use Rattle.osi_judge.specs.Courses.{Course as Passed, Moment, unit_passes, way_of};
@@ -42,7 +77,7 @@ use osi_spdu::laws::{few_octets_fit, serial_digits};
 /// read: then the steps are all that happened until then, and it goes on by other steps, in which a packet may have no units
 /// ([`ComesBySteps`]).
 ///
-/// [`IsSeen`]: ../../osi_honest/specs/Seeing.antt
+/// [`IsSeen`]: ../specs/ends/Seeing.antt
 /// [`ComesBySteps`]: ../specs/Passing.antt
 pub fn a_capture_of_an_end_is_steps()
     ensures { (d : Direction) (is_caller : Bool) (local : Local) (begin end : Holding) (turns : List Turn) (capture : Capture) →
@@ -60,7 +95,7 @@ pub fn a_capture_of_an_end_is_steps()
 /// called one (`called`) or the calling one (`calling`), and whatever classes it offers. If both ends are of this library, no break of
 /// transport passed (`both`).
 ///
-/// [`IsSeen`]: ../../osi_honest/specs/Seeing.antt
+/// [`IsSeen`]: ../specs/ends/Seeing.antt
 pub fn the_transport_of_an_end_is_never_blamed_first()
     ensures called { (local : Local) (begin end : Holding) (turns : List Turn) (capture : Capture) (f : First) →
         IsFresh false local begin → Run begin turns end → AreOctets capture → IsSeen Direction.Right turns capture →
@@ -188,7 +223,7 @@ pub fn connections_have_the_same_places()
 ///
 /// It is assumed that fewer than 2^64 units have passed: a judge counts no further.
 ///
-/// [`IsSeen`]: ../../osi_honest/specs/Seeing.antt
+/// [`IsSeen`]: ../specs/ends/Seeing.antt
 /// [`IsFirstOf`]: ../../osi_judge/specs/Blaming.antt
 /// [`IsFed`]: ../../osi_judge/specs/Standing.antt
 pub fn no_session_of_an_end_is_blamed_first()

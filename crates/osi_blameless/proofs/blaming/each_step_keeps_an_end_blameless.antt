@@ -9,7 +9,7 @@ use Rattle.osi_blameless.proofs.Vocabulary.{stops_last, Holding, Deeds, all_did,
 use Rattle.osi_blameless.proofs.Vocabulary.{unit_passes, units_pass, way_of, comes_to, Joint, Step, Steps, StepsAlong, TakesTurn, begin}
 use Rattle.osi_blameless.proofs.Vocabulary.{begins_other, begins_own, passes_other, passes_own, turns, TurnsBad, calls_from}
 use Rattle.osi_rules.specs.declared.findings.Reach.TheVariants as reach
-use Rattle.osi_fair.specs.Wholes as wholes
+use Rattle.osi_blameless.specs.transport.Wholes as wholes
 use Rattle.osi_judge.specs.Courses.{Course as Passed}
 use Rattle.osi_judge.specs.States as states
 use Rattle.osi_blameless.proofs.keeping.a_break_ends_no_judging_or_all.{all_ends, mild_reach, reach_so}

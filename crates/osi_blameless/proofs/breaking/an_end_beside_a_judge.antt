@@ -7,8 +7,8 @@ use Rattle.osi_blameless.proofs.Vocabulary.{fresh_sane, fresh_course, CanBeWritt
 use Rattle.osi_blameless.proofs.Vocabulary.{heard, Joint, Step, Steps, TakesTurn, begin, begins_other, begins_own, passes_other, passes_own}
 use Rattle.osi_blameless.proofs.Vocabulary.{takes, turns, way_of, calls_from}
 use Rattle.osi_rules.specs.declared.findings.Reach.TheVariants as reach
-use Rattle.osi_fair.specs.Wholes as wholes
-use Rattle.osi_honest.specs.Courses.{Course}
+use Rattle.osi_blameless.specs.transport.Wholes as wholes
+use Rattle.osi_blameless.specs.ends.Courses.{Course}
 use Rattle.osi_judge.specs.Courses.{Course as Passed}
 use Rattle.osi_blameless.proofs.keeping.no_unit_of_a_whole_end_is_a_break.{IsNoBreak}
 use Rattle.osi_blameless.proofs.small_facts_that_many_lemmas_use.{can_more}

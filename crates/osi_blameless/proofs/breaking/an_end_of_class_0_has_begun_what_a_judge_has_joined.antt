@@ -5,8 +5,8 @@ use Rattle.osi_blameless.proofs.Vocabulary.{slice_get, AllByRecursion, Standing,
 use Rattle.osi_blameless.proofs.Vocabulary.{Direction, Left, Right, has_given, IsFirm, Deeds, IsZeroAt, IsSane, amid}
 use Rattle.osi_blameless.proofs.Vocabulary.{stage_at, stage_is, Joined, spoken, begun_octets, Joint, State, is_open, own, way_of, true, sym}
 use Rattle.osi_carrier.specs.State.{State as Carrier}
-use Rattle.osi_fair.specs.Pieces.{units_in}
-use Rattle.osi_honest.specs.Courses as honest
+use Rattle.osi_blameless.specs.transport.Pieces.{units_in}
+use Rattle.osi_blameless.specs.ends.Courses as honest
 use Rattle.osi_blameless.proofs.small_facts_that_many_lemmas_use.{none_some}
 use Rattle.osi_blameless.proofs.standing.a_dt_of_class_0_has_one_place.{IsOnly}
 use Rattle.osi_blameless.proofs.breaking.an_end_of_class_0_has_its_connection_open.{MayBeFollowed}

@@ -4,9 +4,9 @@ use Rattle.osi_blameless.proofs.Vocabulary.{ap, is_some, List, None, Some, subst
 use Rattle.osi_blameless.proofs.Vocabulary.{confirm, Connect, Value, Standing, Zero, Local, Carrier, Traffic as State, Connection, Left}
 use Rattle.osi_blameless.proofs.Vocabulary.{Right, Direction, answered, known, quiet, refused, IsInZero, calm_judge, Whole, Joint, IsFirm}
 use Rattle.osi_blameless.proofs.Vocabulary.{arith, may_be_followed, ended, waits, IsZeroAt, calls_from, Disconnects}
-use Rattle.osi_fair.specs.Pieces.{units_in}
-use Rattle.osi_fair.specs.Wholes as wholes
-use Rattle.osi_fair.proofs.how_requests_go_on.{asks, zero}
+use Rattle.osi_blameless.specs.transport.Pieces.{units_in}
+use Rattle.osi_blameless.specs.transport.Wholes as wholes
+use Rattle.osi_blameless.proofs.transport.how_requests_go_on.{asks, zero}
 use Rattle.osi_blameless.proofs.keeping.a_carrier_does_events.{none_of}
 use Rattle.osi_blameless.proofs.small_facts_that_many_lemmas_use.{none_some, over_none, zero_two}
 use Rattle.osi_blameless.proofs.keeping.steps_are_events.{IsFollowed}

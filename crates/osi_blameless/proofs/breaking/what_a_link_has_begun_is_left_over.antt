@@ -9,8 +9,8 @@ use Rattle.osi_blameless.proofs.Vocabulary.{picked_rest, arith, if◌then◌else
 use Rattle.osi_blameless.proofs.Vocabulary.{IsShut, closed, never, IsZeroAt, begun_octets, over}
 use Rattle.osi_class.proofs.bounds.what_calls_take.{all as all_taken}
 use Rattle.osi_carrier.specs.State.{asked}
-use Rattle.osi_honest.specs.Courses.{Course, awaited, is_gone, unknown}
-use Rattle.osi_honest.specs.Courses.Course.{is_open as course_open}
+use Rattle.osi_blameless.specs.ends.Courses.{Course, awaited, is_gone, unknown}
+use Rattle.osi_blameless.specs.ends.Courses.Course.{is_open as course_open}
 use Rattle.osi_blameless.proofs.small_facts_that_many_lemmas_use.{over_none}
 use Rattle.osi_blameless.proofs.shown.a_session_that_is_shown_is_not_to_blame.{tsdus_more}
 use Rattle.osi_blameless.proofs.standing.all_connections_stand.{AllStand}

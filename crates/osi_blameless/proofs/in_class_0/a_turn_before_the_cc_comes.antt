@@ -5,7 +5,7 @@ use Rattle.osi_blameless.proofs.Vocabulary.{nat_lt, AllByRecursion, Value, confi
 use Rattle.osi_blameless.proofs.Vocabulary.{Deeds, then_did, units_in, Marked, all_units, is_of_link, Turn}
 use Rattle.osi_blameless.proofs.Vocabulary.{early, stage_at, all_units_more, Joint, TakesTurn}
 use Rattle.osi_carrier.specs.State.{State as Carrier}
-use Rattle.osi_fair.specs.Wholes as wholes
+use Rattle.osi_blameless.specs.transport.Wholes as wholes
 use Rattle.osi_blameless.proofs.small_facts_that_many_lemmas_use.{all_front, early_lasts, none_first}
 use Rattle.osi_blameless.proofs.coming.a_calling_end_takes_nothing_before_its_cc.{quiet_turn}
 use Rattle.osi_blameless.proofs.putting.a_turn_does_what_its_deeds_say.{turn_uses}

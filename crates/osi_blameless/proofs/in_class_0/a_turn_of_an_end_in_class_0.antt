@@ -8,7 +8,7 @@ use Rattle.osi_blameless.proofs.Vocabulary.{Deeds, then_did, units_in, Marked, a
 use Rattle.osi_blameless.proofs.Vocabulary.{stage_at, all_units_more, Joined, reference_of, Joint, TakesTurn, IsOneOf, calls_from, way_of}
 use Rattle.osi_blameless.proofs.Vocabulary.{is_of_link, Time}
 use Rattle.osi_carrier.specs.State.{State as Carrier}
-use Rattle.osi_fair.specs.Wholes as wholes
+use Rattle.osi_blameless.specs.transport.Wholes as wholes
 use Rattle.osi_judge.specs.Courses.{Course as Passed}
 use Rattle.osi_blameless.proofs.small_facts_that_many_lemmas_use.{all_front, early_lasts, past_not, same_one, none_first}
 use Rattle.osi_blameless.proofs.standing.a_dt_of_class_0_has_one_place.{IsOnly, both_named, other_none}

@@ -8,7 +8,7 @@ use Rattle.osi_blameless.proofs.Vocabulary.{units_pass, heard, left_class, begin
 use Rattle.osi_blameless.proofs.Vocabulary.{passes_own, Steps, parts_of, arith, packet_begins, first_is, Class}
 use Rattle.osi_carrier.specs.State.{State as Carrier}
 use Rattle.osi_rules.specs.declared.directions.Direction.TheVariants as way
-use Rattle.osi_fair.specs.Wholes as wholes
+use Rattle.osi_blameless.specs.transport.Wholes as wholes
 use Rattle.osi_judge.specs.Courses.{Course as Passed}
 use Rattle.osi_blameless.proofs.small_facts_that_many_lemmas_use.{all_join}
 use Rattle.osi_blameless.proofs.keeping.what_a_taker_passes_over.{mild_of}

@@ -13,7 +13,7 @@ use Rattle.osi_blameless.proofs.Vocabulary.{unit_passes, units_pass, heard, part
 use Rattle.osi_blameless.proofs.Vocabulary.{passes_other, passes_own}
 use Rattle.osi_carrier.specs.State.{State as Carrier}
 use Rattle.osi_rules.specs.declared.directions.Direction.TheVariants as way
-use Rattle.osi_fair.specs.Wholes as wholes
+use Rattle.osi_blameless.specs.transport.Wholes as wholes
 use Rattle.osi_blameless.proofs.keeping.a_carrier_does_events.{IsLike, none_of}
 use Rattle.osi_blameless.proofs.keeping.a_break_ends_no_judging_or_all.{reach_so}
 use Rattle.osi_blameless.proofs.small_facts_that_many_lemmas_use.{all_front, all_join, given_so, none_some, over_none, ranges_of}

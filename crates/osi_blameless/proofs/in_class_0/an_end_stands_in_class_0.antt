@@ -11,8 +11,8 @@ use Rattle.osi_blameless.proofs.Vocabulary.{Course, packet_begins, unit_passes, 
 use Rattle.osi_blameless.proofs.Vocabulary.{begins_other, begins_own, passes_other, passes_own, amid, calls_from, IsFirm}
 use Rattle.osi_carrier.specs.State.{State as Carrier}
 use Rattle.osi_rules.specs.declared.directions.Direction.TheVariants as way
-use Rattle.osi_fair.specs.Naming.{unit as passing}
-use Rattle.osi_fair.specs.Wholes as wholes
+use Rattle.osi_blameless.specs.transport.Naming.{unit as passing}
+use Rattle.osi_blameless.specs.transport.Wholes as wholes
 use Rattle.osi_blameless.proofs.keeping.what_a_taker_passes_over.{IsMild}
 use Rattle.osi_blameless.proofs.small_facts_that_many_lemmas_use.{all_join, none_some, same_one, zero_two}
 use Rattle.osi_blameless.proofs.standing.a_dt_of_class_0_has_one_place.{IsOnly, is_live_there}

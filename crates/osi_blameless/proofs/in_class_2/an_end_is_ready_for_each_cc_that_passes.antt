@@ -12,8 +12,8 @@ use Rattle.osi_blameless.proofs.Vocabulary.{amid, early, past, stage_at, stage_b
 use Rattle.osi_blameless.proofs.Vocabulary.{Sessions, Course, Joint, Steps, TakesTurn, passes_own, parts_of, HaveSamePlaces}
 use Rattle.osi_blameless.proofs.Vocabulary.{differ, IsOngoing, Rise}
 use Rattle.osi_carrier.specs.State.{Connection as Live, State as Carrier, asked}
-use Rattle.osi_fair.specs.Wholes as wholes
-use Rattle.osi_honest.proofs.courses.how_long_a_connection_is_open.{Stage}
+use Rattle.osi_blameless.specs.transport.Wholes as wholes
+use Rattle.osi_blameless.proofs.ends.courses.how_long_a_connection_is_open.{Stage}
 use Rattle.osi_blameless.proofs.keeping.a_carrier_does_events.{none_of}
 use Rattle.osi_blameless.proofs.small_facts_that_many_lemmas_use.{amid_not, early_lasts, given_so, past_not}
 use Rattle.osi_blameless.proofs.keeping.steps_are_events.{IsFollowed}

@@ -6,7 +6,7 @@ use Rattle.osi_blameless.proofs.Vocabulary.{Value, Local, Direction, Left, Right
 use Rattle.osi_blameless.proofs.Vocabulary.{IsFresh, stage_is, packet_begins, units_pass, Joint, Steps, begin, begins_other}
 use Rattle.osi_blameless.proofs.Vocabulary.{begins_own, passes_other, calls_from, true}
 use Rattle.osi_carrier.specs.State.{State as Carrier}
-use Rattle.osi_fair.specs.Wholes as wholes
+use Rattle.osi_blameless.specs.transport.Wholes as wholes
 use Rattle.osi_blameless.proofs.small_facts_that_many_lemmas_use.{all_join}
 use Rattle.osi_blameless.proofs.putting.a_turn_does_what_its_deeds_say.{units_more}
 use Rattle.osi_blameless.proofs.putting.each_reference_of_an_end_is_new.{AreUpTo, IsAhead, begins_other_ahead, begins_own_ahead}

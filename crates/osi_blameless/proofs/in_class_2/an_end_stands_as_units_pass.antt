@@ -6,7 +6,7 @@ use Rattle.osi_blameless.proofs.Vocabulary.{Holding, Joined, spoken, none, unit_
 use Rattle.osi_blameless.proofs.Vocabulary.{begin, passes_other, passes_own, Steps, Direction, other, HaveSamePlaces, arith, packet_begins}
 use Rattle.osi_blameless.proofs.Vocabulary.{calls_from, fresh_apart, no_item, HasFieldsInRange, IsFresh, IsOctets, IsOngoing}
 use Rattle.osi_blameless.proofs.Vocabulary.{Left, Local, Ok, Right, State, units_fit, units_found}
-use Rattle.osi_honest.specs.Courses.{Course}
+use Rattle.osi_blameless.specs.ends.Courses.{Course}
 use Rattle.osi_blameless.proofs.shown.a_right_dt_has_one_place.{AreUsedApart, named_apart}
 use Rattle.osi_blameless.proofs.putting.a_turn_does_what_its_deeds_say.{units_more}
 use Rattle.osi_blameless.proofs.standing.all_connections_stand.{AllStand, all_room}
@@ -19,7 +19,7 @@ use Rattle.osi_blameless.proofs.standing.steps_leave_all_standing.{IsProper, Sta
 use Rattle.osi_blameless.proofs.coming.the_dr_of_the_other_side_is_in_flight.{first_shut, AreShut, HaveRoom, begins_shut, own_shut}
 use Rattle.osi_blameless.proofs.standing.what_stands_of_a_connection.{Known}
 use Rattle.osi_blameless.proofs.standing.what_passes_leaves_all_standing.{IsReady}
-use Rattle.osi_fair.specs.Wholes as wholes
+use Rattle.osi_blameless.specs.transport.Wholes as wholes
 use Rattle.osi_blameless.proofs.small_facts_that_many_lemmas_use.{all_front, ranges_of}
 use Rattle.osi_blameless.proofs.putting.a_whole_end_runs_along.{has_lines}
 use Rattle.osi_blameless.proofs.in_class_2.an_end_of_class_2_goes_on.{MayCome, OwnInTwo, two_first, two_other_begins, two_other_passes}

@@ -6,7 +6,7 @@ use Rattle.osi_blameless.proofs.Vocabulary.{Zero, Local, meaning_if, meant, Traf
 use Rattle.osi_blameless.proofs.Vocabulary.{all_begin, asked, Joined, Sessions, spoken, taken, unit_passes, units_pass, way_of, Room}
 use Rattle.osi_blameless.proofs.Vocabulary.{after_add, after_set, IsOngoing, begins_other, begins_own, Joint, passes_other, passes_own}
 use Rattle.osi_blameless.proofs.Vocabulary.{Step, Steps, calls_from, arith, Course, TakesTurn, Turn, ap}
-use Rattle.osi_fair.specs.Wholes as wholes
+use Rattle.osi_blameless.specs.transport.Wholes as wholes
 use Rattle.osi_judge.specs.Connections.{packet_begins}
 use Rattle.osi_judge.specs.Connections as joined
 use Rattle.osi_blameless.proofs.keeping.steps_are_events.{IsFollowed, step_followed}

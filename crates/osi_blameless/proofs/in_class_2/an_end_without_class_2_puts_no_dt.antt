@@ -1,7 +1,7 @@
 -- As long as both sides are judged, a calling end that doesn't offer class 2 puts no DT unless class 0 is selected.
 -- For the law that no session of an end is blamed first.
 use Rattle.osi_blameless.proofs.Vocabulary.{false, true, ℕ, ◌≡◌, Local, Left, Value, Joint, Steps, passes_own, IsOngoing, arith, ◌∙◌, ◌∷◌}
-use Rattle.osi_fair.specs.Wholes.{begin}
+use Rattle.osi_blameless.specs.transport.Wholes.{begin}
 use Rattle.osi_blameless.proofs.keeping.steps_are_events.{IsFollowed}
 use Rattle.osi_blameless.proofs.standing.what_stands_of_a_connection.{is_part}
 use Rattle.osi_blameless.proofs.in_class_0.what_the_stage_of_a_whole_end_says.{runs_staged}

@@ -1,7 +1,7 @@
 -- What holds of an end at each step, unless class 0 is selected, is as it is asked for: all its connections stand, or it has said nothing.
 -- Then nobody of the end is to blame, also after a connection has lost its judgement.
 -- For the law that no session of an end is blamed first.
-use Rattle.osi_fair.specs.Wholes as wholes
+use Rattle.osi_blameless.specs.transport.Wholes as wholes
 use Rattle.osi_blameless.proofs.Vocabulary.{AllByRecursion, Bool, Connection, Deeds, Direction, Holding, IsFresh}
 use Rattle.osi_blameless.proofs.Vocabulary.{IsOngoing, Joint, Left, List, Local, None, Right, Selecting, Sessions, Some, State, Steps}
 use Rattle.osi_blameless.proofs.Vocabulary.{TakesTurn, Tracked, Turn, Two, Value, Zero, [], acceptance, ap, arith, begin}

@@ -11,8 +11,8 @@ use Rattle.osi_rules.specs.Sides as sides
 use Rattle.osi_rules.specs.Traffic.{State as Traffic}
 use Rattle.osi_rules.specs.Traffic as traffic
 use Rattle.osi_rules.specs.declared.findings.Reach.TheVariants as reach
-use Rattle.osi_fair.specs.Wholes as wholes
-use Rattle.osi_honest.specs.Courses.{Course}
+use Rattle.osi_blameless.specs.transport.Wholes as wholes
+use Rattle.osi_blameless.specs.ends.Courses.{Course}
 use Rattle.osi_judge.specs.Courses.{Course as Passed, fresh}
 use Rattle.osi_judge.specs.States as states
 use Rattle.osi_blameless.proofs.keeping.steps_are_events.{IsFollowed}

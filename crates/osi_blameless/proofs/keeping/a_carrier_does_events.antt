@@ -8,8 +8,8 @@ use Rattle.osi_blameless.proofs.Vocabulary.{Ended, NotCaller, put_by, put_for, E
 use Rattle.osi_blameless.proofs.Vocabulary.{react_over, outcome_over, unlinked_put, Makes, react}
 use Rattle.osi_carrier.specs.State.{Outcome, State}
 use Rattle.osi_rules.specs.declared.directions.Direction.{Direction}
-use Rattle.osi_fair.specs.Pieces.{units_in}
-use Rattle.osi_honest.specs.Doing as doing
+use Rattle.osi_blameless.specs.transport.Pieces.{units_in}
+use Rattle.osi_blameless.specs.ends.Doing as doing
 use Rattle.osi_blameless.proofs.keeping.what_waits_changes_nothing.{IsApart, bare, call_apart, done_alike, put_alike, together_alike, unit_apart}
 
 -- ---- a carrier that has ended does nothing

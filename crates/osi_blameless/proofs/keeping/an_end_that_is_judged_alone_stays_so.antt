@@ -4,7 +4,7 @@ use Rattle.osi_blameless.proofs.Vocabulary.{◌≡◌, ◌∙◌, ℕ, List, [],
 use Rattle.osi_blameless.proofs.Vocabulary.{is_stopped, takes, Course, way_of, Joint, Step, Steps, begins_other, begins_own, passes_other}
 use Rattle.osi_blameless.proofs.Vocabulary.{passes_own, turns, LaterAlong, LaterSteps, StepsAlong, units_by}
 use Rattle.osi_rules.specs.Traffic.{State as Traffic}
-use Rattle.osi_fair.specs.Wholes as wholes
+use Rattle.osi_blameless.specs.transport.Wholes as wholes
 use Rattle.osi_blameless.proofs.keeping.in_class_0_one_side_alone_is_judged.{IsAlone}
 use Rattle.osi_blameless.proofs.keeping.steps_are_events.{IsFollowed}
 use Rattle.osi_blameless.proofs.keeping.no_unit_of_a_whole_end_is_a_break.{is_right_in_class_0}

@@ -5,7 +5,7 @@ use Rattle.osi_blameless.proofs.Vocabulary.{Outside, Kept, NotJudged, TooMany, Z
 use Rattle.osi_blameless.proofs.Vocabulary.{called_fair, calls_from, way_of, calling_fair, arith, called_fair_in_class_0}
 use Rattle.osi_blameless.proofs.Vocabulary.{calling_fair_in_class_0}
 use Rattle.osi_rules.specs.Sides as sides
-use Rattle.osi_fair.specs.Wholes.{begin}
+use Rattle.osi_blameless.specs.transport.Wholes.{begin}
 
 -- this is no break
 abbrev pub IsNoBreak : Finding → Type 0

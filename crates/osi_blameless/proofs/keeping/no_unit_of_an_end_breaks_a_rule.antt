@@ -10,9 +10,9 @@ use Rattle.osi_rules.specs.declared.findings.Reach.TheVariants as reach
 use Rattle.osi_rules.specs.Sides as sides
 use Rattle.osi_blameless.proofs.steps.all_is_judged_or_nothing.{IsJudged}
 use Rattle.osi_rules.specs.Traffic.{State as Traffic}
-use Rattle.osi_fair.specs.Pieces.{units_in}
-use Rattle.osi_fair.specs.Naming.{unit as unit_passing}
-use Rattle.osi_fair.specs.Wholes as wholes
+use Rattle.osi_blameless.specs.transport.Pieces.{units_in}
+use Rattle.osi_blameless.specs.transport.Naming.{unit as unit_passing}
+use Rattle.osi_blameless.specs.transport.Wholes as wholes
 use Rattle.osi_judge.specs.Courses.{fresh}
 use Rattle.osi_blameless.specs.Spoilt.{GoesOn}
 use Rattle.osi_blameless.proofs.keeping.a_break_ends_no_judging_or_all.{IsGoing, IsLeft, all_ends, begins_going, left_claim, known_too, mild_reach}

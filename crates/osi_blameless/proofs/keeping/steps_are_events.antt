@@ -8,8 +8,8 @@ use Rattle.osi_blameless.proofs.Vocabulary.{Whole, begins_other, begins_own, Joi
 use Rattle.osi_blameless.proofs.Vocabulary.{arith, Course, packet_begins, begin}
 use Rattle.osi_rules.specs.Sides as sides
 use Rattle.osi_rules.specs.Traffic as traffic
-use Rattle.osi_fair.specs.Pieces.{units_in}
-use Rattle.osi_fair.specs.Wholes as wholes
+use Rattle.osi_blameless.specs.transport.Pieces.{units_in}
+use Rattle.osi_blameless.specs.transport.Wholes as wholes
 use Rattle.osi_blameless.proofs.small_facts_that_many_lemmas_use.{over_none}
 use Rattle.osi_blameless.proofs.keeping.a_carrier_does_events.{IsLike, IsNext, comes, happen_join, none_of, units_join}
 use Rattle.osi_blameless.proofs.steps.all_is_judged_or_nothing.{changes_traffic}

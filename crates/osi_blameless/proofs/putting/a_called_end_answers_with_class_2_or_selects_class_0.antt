@@ -4,7 +4,7 @@
 use Rattle.osi_blameless.proofs.Vocabulary.{false, inl, inr, subst, sym, ◌⊎◌, AllByRecursion, Local, Traffic}
 use Rattle.osi_blameless.proofs.Vocabulary.{Selecting, Joint, HaveSamePlaces, IsOngoing}
 use Rattle.osi_side.specs.declared.directions.Direction.TheVariants as side
-use Rattle.osi_fair.specs.Wholes.{begin}
+use Rattle.osi_blameless.specs.transport.Wholes.{begin}
 use Rattle.osi_blameless.proofs.keeping.steps_are_events.{IsFollowed}
 use Rattle.osi_blameless.proofs.putting.a_whole_end_runs_along.{HasLines, lines_or_selects}
 use Rattle.osi_blameless.proofs.putting.each_cc_of_a_called_end_opens_another_connection.{put_answers_two}

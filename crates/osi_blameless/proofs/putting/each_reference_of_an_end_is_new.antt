@@ -7,7 +7,7 @@ use Rattle.osi_blameless.proofs.Vocabulary.{meaning_if, meant, takes, Whole, aft
 use Rattle.osi_blameless.proofs.Vocabulary.{Room, Joined, Sessions, all_begin, asked, reference_of, taken, Course, unit_passes, units_pass}
 use Rattle.osi_blameless.proofs.Vocabulary.{way_of, Joint, Step, Steps, TakesTurn, begins_other, begins_own, passes_other, passes_own}
 use Rattle.osi_blameless.proofs.Vocabulary.{turns, HaveSamePlaces}
-use Rattle.osi_fair.specs.Wholes as wholes
+use Rattle.osi_blameless.specs.transport.Wholes as wholes
 use Rattle.osi_judge.specs.Connections.{packet_begins}
 use Rattle.osi_judge.specs.Connections as joined
 use Rattle.osi_blameless.proofs.keeping.a_carrier_does_events.{happen_join}

@@ -11,8 +11,8 @@ use Rattle.osi_blameless.proofs.Vocabulary.{is_dc, IsDc, IsOngoing, names, those
 use Rattle.osi_blameless.proofs.Vocabulary.{AreGiven, AreApart, BeforeOpen, WhileOpen, stage_by, Awaiting, HasNoCc, asked_so, goes}
 use Rattle.osi_blameless.proofs.Vocabulary.{le-leb, lt-ltb, awaits}
 use Rattle.osi_carrier.specs.State.{asked}
-use Rattle.osi_fair.specs.Wholes.{begin}
-use Rattle.osi_honest.proofs.courses.the_first_cc_opens_a_connection.{opens_so}
+use Rattle.osi_blameless.specs.transport.Wholes.{begin}
+use Rattle.osi_blameless.proofs.ends.courses.the_first_cc_opens_a_connection.{opens_so}
 use Rattle.osi_judge.specs.Courses.{Course as Passed}
 use Rattle.osi_blameless.proofs.small_facts_that_many_lemmas_use.{and_both, over_not, all_join as all_of_both}
 use Rattle.osi_blameless.proofs.keeping.steps_are_events.{IsFollowed}

@@ -9,7 +9,7 @@ use Rattle.osi_blameless.proofs.Vocabulary.{Deeds, then_did, units_in, units_tak
 use Rattle.osi_blameless.proofs.Vocabulary.{opens_by, past, stage_at, stage_over, stays, asked_so, taken_more, has_given, Sessions, Joint}
 use Rattle.osi_blameless.proofs.Vocabulary.{TakesTurn, HaveSamePlaces}
 use Rattle.osi_carrier.specs.State.{State as Carrier}
-use Rattle.osi_honest.proofs.courses.how_long_a_connection_is_open.{Stage}
+use Rattle.osi_blameless.proofs.ends.courses.how_long_a_connection_is_open.{Stage}
 use Rattle.osi_blameless.proofs.keeping.a_carrier_does_events.{none_of}
 use Rattle.osi_blameless.proofs.keeping.steps_are_events.{IsFollowed}
 use Rattle.osi_blameless.proofs.putting.a_turn_does_what_its_deeds_say.{turn_uses}

@@ -11,7 +11,7 @@ use Rattle.osi_blameless.proofs.Vocabulary.{closing_no_cc, confirms_no_cc, given
 use Rattle.osi_blameless.proofs.Vocabulary.{ended_gives, not_less, sent_gives, Rise, rise_from, asked_among, call_asks, unit_asks, asked_in}
 use Rattle.osi_blameless.proofs.Vocabulary.{Direction, Left, Right, way_of}
 use Rattle.osi_carrier.specs.State.{Outcome}
-use Rattle.osi_fair.specs.Wholes as wholes
+use Rattle.osi_blameless.specs.transport.Wholes as wholes
 
 -- ---- which references units give
 

@@ -8,7 +8,7 @@ use Rattle.osi_blameless.proofs.Vocabulary.{value_at, linked, packets, EndReason
 use Rattle.osi_blameless.proofs.Vocabulary.{Lives, Parts, Continues, Deeds, Marked, all_units, is_of_link, over_acts, all_units_more, Turn}
 use Rattle.osi_blameless.proofs.Vocabulary.{Sessions, Joint, TakesTurn, differ}
 use Rattle.osi_carrier.specs.State.{Connection as Live, State as Carrier}
-use Rattle.osi_honest.specs.Arriving as arriving
+use Rattle.osi_blameless.specs.ends.Arriving as arriving
 use Rattle.osi_blameless.proofs.keeping.a_carrier_does_events.{none_of, units_join}
 use Rattle.osi_blameless.proofs.keeping.steps_are_events.{IsFollowed}
 use Rattle.osi_blameless.proofs.steps.the_packets_that_an_end_took_come_first.{are_first}

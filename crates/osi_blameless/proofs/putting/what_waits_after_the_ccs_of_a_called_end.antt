@@ -7,8 +7,8 @@ use Rattle.osi_blameless.proofs.Vocabulary.{AllByRecursion, slice_get, confirm, 
 use Rattle.osi_blameless.proofs.Vocabulary.{Carrier, EndReason, Traffic as State, Right, over_acts, Answers, Begins, is_shut, Opens, opens}
 use Rattle.osi_blameless.proofs.Vocabulary.{Deeds, all_units, is_of_link, Marked, Turn, Sessions, Joint, TakesTurn}
 use Rattle.osi_blameless.proofs.Vocabulary.{HaveSamePlaces, AreApart, Course, differ, number_is}
-use Rattle.osi_fair.specs.Wholes.{begin}
-use Rattle.osi_honest.specs.Arriving.{is_open as opened}
+use Rattle.osi_blameless.specs.transport.Wholes.{begin}
+use Rattle.osi_blameless.specs.ends.Arriving.{is_open as opened}
 use Rattle.osi_blameless.proofs.small_facts_that_many_lemmas_use.{same_bool}
 use Rattle.osi_blameless.proofs.keeping.steps_are_events.{IsFollowed}
 use Rattle.osi_blameless.proofs.putting.a_whole_end_runs_along.{HasLines}

@@ -14,9 +14,9 @@ use Rattle.osi_blameless.proofs.Vocabulary.{unknown, Said, told_of, over}
 use Rattle.osi_side.specs.Explaining.{Told}
 use Rattle.osi_side.specs.Running as running
 use Rattle.osi_side.specs.declared.findings.Finding.{Finding}
-use Rattle.osi_honest.specs.Courses.{Course}
-use Rattle.osi_honest.specs.Courses.Course.{is_open}
-use Rattle.osi_honest.proofs.courses.what_was_said_is_explained.{units_put}
+use Rattle.osi_blameless.specs.ends.Courses.{Course}
+use Rattle.osi_blameless.specs.ends.Courses.Course.{is_open}
+use Rattle.osi_blameless.proofs.ends.courses.what_was_said_is_explained.{units_put}
 use Rattle.osi_judge.specs.Lines as lines
 
 -- what the laws of messages and of sessions state

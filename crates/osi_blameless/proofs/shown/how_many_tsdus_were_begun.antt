@@ -6,8 +6,8 @@ use Rattle.osi_blameless.proofs.Vocabulary.{move_keeps, all as all_sent, Ends, S
 use Rattle.osi_blameless.proofs.Vocabulary.{part_out, parts_out, take_in, tsdus_in, tsdus_out, unit_parts, Part, tsdus, tsdus_after, uncut}
 use Rattle.osi_blameless.proofs.Vocabulary.{End, fresh_of, no_calls, AreCalls, Deeds, said_in, is_gone, closed, ends_whole, left_over}
 use Rattle.osi_blameless.proofs.Vocabulary.{parts_of, never, awaited, unknown, Said, over}
-use Rattle.osi_honest.specs.Courses.{Course}
-use Rattle.osi_honest.specs.Courses.Course.{is_open}
+use Rattle.osi_blameless.specs.ends.Courses.{Course}
+use Rattle.osi_blameless.specs.ends.Courses.Course.{is_open}
 use Rattle.osi_blameless.proofs.shown.a_session_that_is_shown_is_not_to_blame.{octets_in, parts_put, tsdus_more}
 
 -- ---- parts one after the other

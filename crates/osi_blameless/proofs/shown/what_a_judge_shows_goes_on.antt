@@ -8,7 +8,7 @@ use Rattle.osi_blameless.proofs.Vocabulary.{tsdus, End, other, Direction, said_m
 use Rattle.osi_blameless.proofs.Vocabulary.{adds_all, adds_if, Joined, reference_of, spoken, user_of, added, Begun, begun_before, heard}
 use Rattle.osi_blameless.proofs.Vocabulary.{octets_of, Spoken, fits, kept_on, Room, All, all_before, AreAfter, before_begun, before_of}
 use Rattle.osi_blameless.proofs.Vocabulary.{calls_from, IsJoinedFrom, IsShownNow, left_over, parts_of, with_next, Said}
-use Rattle.osi_honest.specs.Courses.{Course}
+use Rattle.osi_blameless.specs.ends.Courses.{Course}
 use Rattle.osi_judge.specs.Connections.{packet_begins}
 use Rattle.osi_judge.specs.Lines.{begins}
 use Rattle.osi_blameless.proofs.small_facts_that_many_lemmas_use.{all_front, all_join}

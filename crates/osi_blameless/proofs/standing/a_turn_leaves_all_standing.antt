@@ -3,7 +3,7 @@
 use Rattle.osi_blameless.proofs.Vocabulary.{[], Bool, false, List, refl, Some, true, ℕ, ◌++◌, ◌≡◌, slice_get, Value, Part, End, is_open}
 use Rattle.osi_blameless.proofs.Vocabulary.{own, Traffic as State, Connection, other, Direction, Deeds, then_did, IsToBlame, Joined}
 use Rattle.osi_blameless.proofs.Vocabulary.{reference_of, Sessions, way_of, calls_from, IsShownNow, arith}
-use Rattle.osi_honest.specs.Courses.{Course}
+use Rattle.osi_blameless.specs.ends.Courses.{Course}
 use Rattle.osi_blameless.proofs.shown.a_session_that_is_shown_is_not_to_blame.{SessionLaws, none_broken, not_both, not_to_blame}
 use Rattle.osi_blameless.proofs.standing.all_connections_stand.{AllStand, Rests, quiet, rests, there_too}
 use Rattle.osi_blameless.proofs.shown.what_a_judge_shows_goes_on.{end_turns}

@@ -11,7 +11,7 @@ use Rattle.osi_blameless.proofs.Vocabulary.{after_change, packet, unit, calls_fr
 use Rattle.osi_blameless.proofs.Vocabulary.{some_same}
 use Rattle.osi_rules.specs.declared.findings.Reach.TheVariants as reach
 use Rattle.osi_rules.specs.Traffic as traffic
-use Rattle.osi_honest.specs.Courses.{Course}
+use Rattle.osi_blameless.specs.ends.Courses.{Course}
 use Rattle.osi_judge.specs.Connections.{packet_begins}
 use Rattle.osi_judge.specs.Connections as joined
 use Rattle.osi_blameless.proofs.keeping.a_break_ends_no_judging_or_all.{takes_reach}

@@ -6,7 +6,7 @@ use Rattle.osi_blameless.proofs.Vocabulary.{Passing, passes, unit, Event, Happen
 use Rattle.osi_blameless.proofs.Vocabulary.{zero_stays, arith, Joint}
 use Rattle.osi_rules.specs.Sides as sides
 use Rattle.osi_rules.specs.Traffic.{reached}
-use Rattle.osi_fair.specs.Wholes.{begin, begins_other, begins_own, passes_other, passes_own}
+use Rattle.osi_blameless.specs.transport.Wholes.{begin, begins_other, begins_own, passes_other, passes_own}
 use Rattle.osi_blameless.proofs.keeping.steps_are_events.{IsFollowed}
 
 -- ---- a unit leaves what the calling side knows

@@ -4,7 +4,7 @@ use Rattle.osi_blameless.proofs.Vocabulary.{arith, ◌≡◌, ◌≢◌, sym, su
 use Rattle.osi_blameless.proofs.Vocabulary.{Value, Zero, other, Direction, class_for, is_stopped, takes, Deeds, then_did, Turn, Joined}
 use Rattle.osi_blameless.proofs.Vocabulary.{spoken, way_of, heard, Joint, Steps, TakesTurn, begins_other, begins_own, passes_own}
 use Rattle.osi_blameless.proofs.Vocabulary.{calls_from}
-use Rattle.osi_honest.specs.Courses.{Course}
+use Rattle.osi_blameless.specs.ends.Courses.{Course}
 use Rattle.osi_judge.specs.Courses.{Course as Passed}
 use Rattle.osi_blameless.proofs.keeping.no_unit_of_a_whole_end_is_a_break.{IsNoBreak}
 use Rattle.osi_blameless.proofs.shown.a_right_dt_has_one_place.{AreUsedApart}

@@ -3,7 +3,7 @@
 use Rattle.osi_blameless.proofs.Vocabulary.{arith, ◌≡◌, sym, subst, ℕ, Bool, true, false, List, ◌∷◌, Option, Some, Value, Class, Zero}
 use Rattle.osi_blameless.proofs.Vocabulary.{Direction, class_for, is_stopped, takes, End}
 use Rattle.osi_blameless.proofs.Vocabulary.{Deeds, unit_passes, way_of, Joint, Steps, passes_own, calls_from}
-use Rattle.osi_honest.specs.Courses.{Course}
+use Rattle.osi_blameless.specs.ends.Courses.{Course}
 use Rattle.osi_judge.specs.Courses.{Course as Passed}
 use Rattle.osi_blameless.proofs.keeping.no_unit_of_a_whole_end_is_a_break.{IsNoBreak}
 use Rattle.osi_blameless.proofs.keeping.what_a_taker_passes_over.{IsMild}

@@ -7,7 +7,7 @@ use Rattle.osi_blameless.proofs.Vocabulary.{parts_in, unit_parts, Part, End, beg
 use Rattle.osi_blameless.proofs.Vocabulary.{said_in, then_did, adds, Joined, reference_of, spoken, user_of, way_of, heard, Spoken, All}
 use Rattle.osi_blameless.proofs.Vocabulary.{leads, picked, picked_first, picked_join, picked_rest, all_before, AreAfter, calls_from}
 use Rattle.osi_blameless.proofs.Vocabulary.{IsJoinedFrom, IsShownNow, parts_of, with_next, arith, differ}
-use Rattle.osi_honest.specs.Courses.{Course}
+use Rattle.osi_blameless.specs.ends.Courses.{Course}
 use Rattle.osi_judge.specs.Connections.{packet_begins}
 use Rattle.osi_blameless.proofs.small_facts_that_many_lemmas_use.{and_both}
 use Rattle.osi_blameless.proofs.shown.what_a_judge_shows_goes_on.{end_turns, none_passes, other_begins, other_passes, own_begins}

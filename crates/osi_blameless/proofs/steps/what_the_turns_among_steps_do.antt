@@ -6,7 +6,7 @@ use Rattle.osi_blameless.proofs.Vocabulary.{Holding, Capture, Direction, EndReas
 use Rattle.osi_blameless.proofs.Vocabulary.{FirstOf, Life, stage_at, ◌<◌}
 use Rattle.osi_blameless.proofs.Vocabulary.{Value, units_in, all_units, Turn, comes_to, begins_other, begins_own, Joint, passes_other, passes_own, Step}
 use Rattle.osi_blameless.proofs.Vocabulary.{Steps, StepsAlong, TakesTurn, turns, ComesBySteps, TurnsBad, begin}
-use Rattle.osi_fair.specs.Pieces as pieces
+use Rattle.osi_blameless.specs.transport.Pieces as pieces
 use Rattle.osi_blameless.specs.Spoilt.{GoesOn}
 use Rattle.osi_blameless.proofs.small_facts_that_many_lemmas_use.{same_units, units_join}
 use Rattle.osi_blameless.proofs.steps.the_packets_that_an_end_took_come_first.{are_first}

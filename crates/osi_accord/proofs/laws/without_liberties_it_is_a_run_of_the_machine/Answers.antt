@@ -1,7 +1,0 @@
-use Rattle.std.proofs.Common.{arith}
-use Rattle.osi_accord.proofs.Vocabulary.{said_again}
-use Rattle.osi_accord.proofs.a_run_without_liberties_is_one_of_the_machine.{machine_run}
-use Rattle.osi_accord.proofs.laws.without_liberties_it_is_a_run_of_the_machine.Goals as goal
-
-pub returns : goal.returns
-returns c = grind (arith, said_again, machine_run (grind (arith, said_again)))

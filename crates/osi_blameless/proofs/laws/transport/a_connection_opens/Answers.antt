@@ -1,0 +1,17 @@
+use Rattle.osi_blameless.proofs.transport.how_a_connection_opens.{asked_so, called_opens, calling_opens, two_right, zero_right}
+use Rattle.osi_blameless.proofs.laws.transport.a_connection_opens.Goals as goal
+
+pub returns-clause-two : goal.returns-clause-two
+returns-clause-two c = two_right
+
+pub returns-clause-zero : goal.returns-clause-zero
+returns-clause-zero c = zero_right
+
+pub returns-clause-called : goal.returns-clause-called
+returns-clause-called c = called_opens
+
+pub returns-clause-asked : goal.returns-clause-asked
+returns-clause-asked c = asked_so
+
+pub returns-clause-calling : goal.returns-clause-calling
+returns-clause-calling c = calling_opens

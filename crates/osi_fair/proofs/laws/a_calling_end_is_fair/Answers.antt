@@ -1,8 +1,0 @@
-use Rattle.osi_fair.proofs.a_calling_end_is_fair.{calling_fair, calling_fair_in_class_0}
-use Rattle.osi_fair.proofs.laws.a_calling_end_is_fair.Goals as goal
-
-pub returns-clause-judged : goal.returns-clause-judged
-returns-clause-judged c = calling_fair
-
-pub returns-clause-in_class_0 : goal.returns-clause-in_class_0
-returns-clause-in_class_0 c = calling_fair_in_class_0

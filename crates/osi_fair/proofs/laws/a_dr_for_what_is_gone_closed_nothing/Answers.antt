@@ -1,5 +1,0 @@
-use Rattle.osi_fair.proofs.a_calling_end_is_fair_in_class_2.{gone}
-use Rattle.osi_fair.proofs.laws.a_dr_for_what_is_gone_closed_nothing.Goals as goal
-
-pub returns : goal.returns
-returns c = gone

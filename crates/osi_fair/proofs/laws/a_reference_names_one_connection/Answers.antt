@@ -1,8 +1,0 @@
-use Rattle.osi_fair.proofs.a_reference_names_one_connection.{is_of_one, names_one}
-use Rattle.osi_fair.proofs.laws.a_reference_names_one_connection.Goals as goal
-
-pub returns-clause-used : goal.returns-clause-used
-returns-clause-used c = is_of_one
-
-pub returns-clause-named : goal.returns-clause-named
-returns-clause-named c = names_one

@@ -1,5 +1,0 @@
-use Rattle.osi_fair.proofs.an_open_end_is_fair.{open_is_fair}
-use Rattle.osi_fair.proofs.laws.an_open_end_is_fair.Goals as goal
-
-pub returns : goal.returns
-returns c = open_is_fair

@@ -1,9 +1,0 @@
-use Rattle.osi_fair.proofs.a_refused_request_waits_no_more.{waits_no_more}
-use Rattle.osi_fair.proofs.one_request_waits.{one_waits}
-use Rattle.osi_fair.proofs.laws.one_request_waits.Goals as goal
-
-pub returns-clause-one : goal.returns-clause-one
-returns-clause-one c = one_waits
-
-pub returns-clause-refused : goal.returns-clause-refused
-returns-clause-refused c = waits_no_more
