@@ -1,15 +1,15 @@
 """Makes docs/LAWS.md: each law of the workspace, with its sentence.
 
-A law is a public function of a crate's src/laws.rt, or of its src/bounded.rt, that does nothing, or only calls other laws. Its
+A law is a public function of a crate's src/laws.rt, or of a file of src/laws/, that does nothing, or only calls other laws. Its
 clauses are the law, and the comment above it states it in words. The page has these comments, crate by crate in the order of
 crates.txt.
 """
+import glob
 import os
 import re
 
 TOP = os.path.dirname(os.path.dirname(os.path.dirname(os.path.abspath(__file__))))
 PAGE = f"{TOP}/docs/LAWS.md"
-MODULES = ("laws", "bounded")
 LAW = re.compile(r"((?:^///.*\n)+)(?:^#\[.*\]\n)*^pub fn (\w+)\([^)]*\)\n((?:^    .*\n)*)\{", re.M)
 HEAD = """# Laws
 
@@ -27,12 +27,15 @@ def crates():
     return re.findall(r"^(osi_\w+)", read(f"{TOP}/crates.txt"), re.M)
 
 
+def modules_of(crate):
+    """The files of a crate that have laws, from its src."""
+    sources = f"{TOP}/crates/{crate}/src"
+    return [os.path.relpath(path, sources) for path in [*glob.glob(f"{sources}/laws.rt"), *sorted(glob.glob(f"{sources}/laws/*.rt"))]]
+
+
 def laws_of(crate, module):
-    """The laws of a module of a crate: name, clauses and text."""
-    path = f"{TOP}/crates/{crate}/src/{module}.rt"
-    if not os.path.exists(path):
-        return
-    for comment, name, clauses in LAW.findall(read(path)):
+    """The laws of a file of a crate: name, clauses and text."""
+    for comment, name, clauses in LAW.findall(read(f"{TOP}/crates/{crate}/src/{module}")):
         text = " ".join(line.removeprefix("///").strip() for line in comment.splitlines())
         yield name, re.findall(r"^    ensures (\w+) \{", clauses, re.M), text
 
@@ -42,10 +45,10 @@ def drawn():
     parts = [HEAD]
     for crate in crates():
         heading = f"\n## {crate}\n"
-        for module in MODULES:
+        for module in modules_of(crate):
             laws = list(laws_of(crate, module))
             if laws:
-                parts.append(f"{heading}[src/{module}.rt](../crates/{crate}/src/{module}.rt)\n")
+                parts.append(f"{heading}[src/{module}](../crates/{crate}/src/{module})\n")
                 heading = "\n"
             for name, clauses, text in laws:
                 named = f" ({', '.join(f'`{it}`' for it in clauses)})" if len(clauses) > 1 else ""

@@ -36,7 +36,7 @@ def check_names(page, crate, cell, text):
         last = re.sub(r"\.(antt|rt)$", "", name.split("::")[-1].split("/")[-1])
         if re.fullmatch(r"osi_\w+|crates|src|make|README", last) or not re.fullmatch(r"\w+", last):
             continue
-        here = has(last, text) or any(f"{last}.antt" == os.path.basename(path) for path in glob.glob(f"{TOP}/crates/*/specs/*"))
+        here = has(last, text) or any(f"{last}.antt" == os.path.basename(path) for path in glob.glob(f"{TOP}/crates/*/specs/**/*", recursive=True))
         check(f"{page}: {crate} has {name}", here or any(has(last, sources_of(other)) for other in re.findall(r"osi_\w+", cell)))
 
 

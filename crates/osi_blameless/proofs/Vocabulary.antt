@@ -163,57 +163,57 @@ pub use Rattle.osi_judge.specs.declared.marks.Mark.{Mark}
 pub use Rattle.osi_judge.specs.declared.marks.Marks.{Marks}
 pub use Rattle.osi_judge.specs.declared.rooms.Room.{Room}
 pub use Rattle.osi_judge.specs.declared.rooms.Room.TheVariants.{All, Octets}
-pub use Rattle.osi_blameless.proofs.transport.a_called_end_is_fair.{Stage, called_fair, lines, selected, selecting}
-pub use Rattle.osi_blameless.proofs.transport.a_called_end_is_fair_in_class_0.{called_fair_in_class_0}
-pub use Rattle.osi_blameless.proofs.transport.a_called_end_selects_class_zero.{Selecting}
-pub use Rattle.osi_blameless.proofs.transport.a_calling_end_is_fair.{calling_fair, calling_fair_in_class_0}
-pub use Rattle.osi_blameless.proofs.transport.a_calling_end_is_fair_in_class_2.{Joined as Follows, first_joined, next_joined}
-pub use Rattle.osi_blameless.proofs.transport.a_connection_is_lost_in_class_2_alone.{IsOfTwo, firm_unless_two, still_two}
-pub use Rattle.osi_blameless.proofs.transport.a_dr_for_what_is_gone.{before_going}
-pub use Rattle.osi_blameless.proofs.transport.a_dt_of_class_zero_passes.{only_first, unlike}
-pub use Rattle.osi_blameless.proofs.transport.a_reference_names_one_connection.{applied_found, applied_judged, fresh_apart, no_item, not_first, not_true}
-pub use Rattle.osi_blameless.proofs.transport.a_reference_names_one_connection.{passes_apart}
-pub use Rattle.osi_blameless.proofs.transport.a_request_of_a_whole_end_is_new.{unit_gives}
-pub use Rattle.osi_blameless.proofs.transport.a_right_unit_is_not_blamed.{first_there}
-pub use Rattle.osi_blameless.proofs.transport.a_called_end_selects_class_zero.{selecting_passes}
-pub use Rattle.osi_blameless.proofs.transport.all_are_judged_unless_one_broke.{AreJudged, still_judged}
-pub use Rattle.osi_blameless.proofs.transport.class_0_stays_selected.{zero_stays}
-pub use Rattle.osi_blameless.proofs.transport.each_connection_has_its_line.{AreGiven, Followed, IsAnswer, IsAsking, IsNoCc, IsOwned, Row, Tracked, all_so}
-pub use Rattle.osi_blameless.proofs.transport.each_connection_has_its_line.{asking, is_tracked, stray}
-pub use Rattle.osi_blameless.proofs.transport.each_connection_of_a_called_end.{Answering, AreAbove, AreStrays, Asked, Called, Stand, StrayIf, Untagged}
-pub use Rattle.osi_blameless.proofs.transport.each_connection_of_a_called_end.{answers as answering, comes, line_of, refuses, runs}
-pub use Rattle.osi_blameless.proofs.transport.how_a_calling_end_asks.{IsOver, one}
-pub use Rattle.osi_blameless.proofs.transport.how_requests_go_on.{Calling, answered, ended, known, quiet, refused, waits}
-pub use Rattle.osi_blameless.proofs.transport.left_selects_no_class.{left_class}
-pub use Rattle.osi_blameless.proofs.transport.names_stay_apart_though_one_is_lost.{AreNamedApart, OnlyOne, each_sound}
-pub use Rattle.osi_blameless.proofs.transport.no_request_is_blamed.{Holds, holds_first, holds_next}
-pub use Rattle.osi_blameless.proofs.transport.no_two_open_connections_have_one_peer.{both, left_open}
-pub use Rattle.osi_blameless.proofs.transport.one_request_waits.{begun_live, reached_class}
-pub use Rattle.osi_blameless.proofs.transport.references_of_requests_rise.{Rise, all_gives, closed_gives, ended_gives, not_less, rise_from, sent_gives}
+pub use Rattle.osi_blameless.proofs.transport.called.a_called_end_is_fair.{Stage, called_fair, lines, selected, selecting}
+pub use Rattle.osi_blameless.proofs.transport.called.a_called_end_is_fair_in_class_0.{called_fair_in_class_0}
+pub use Rattle.osi_blameless.proofs.transport.class_0.a_called_end_selects_class_zero.{Selecting}
+pub use Rattle.osi_blameless.proofs.transport.calling.a_calling_end_is_fair.{calling_fair, calling_fair_in_class_0}
+pub use Rattle.osi_blameless.proofs.transport.calling.a_calling_end_is_fair_in_class_2.{Joined as Follows, first_joined, next_joined}
+pub use Rattle.osi_blameless.proofs.transport.requests.a_connection_is_lost_in_class_2_alone.{IsOfTwo, firm_unless_two, still_two}
+pub use Rattle.osi_blameless.proofs.transport.calling.a_dr_for_what_is_gone.{before_going}
+pub use Rattle.osi_blameless.proofs.transport.class_0.a_dt_of_class_zero_passes.{only_first, unlike}
+pub use Rattle.osi_blameless.proofs.transport.names.a_reference_names_one_connection.{applied_found, applied_judged, fresh_apart, no_item, not_first, not_true}
+pub use Rattle.osi_blameless.proofs.transport.names.a_reference_names_one_connection.{passes_apart}
+pub use Rattle.osi_blameless.proofs.transport.requests.a_request_of_a_whole_end_is_new.{unit_gives}
+pub use Rattle.osi_blameless.proofs.transport.names.a_right_unit_is_not_blamed.{first_there}
+pub use Rattle.osi_blameless.proofs.transport.class_0.a_called_end_selects_class_zero.{selecting_passes}
+pub use Rattle.osi_blameless.proofs.transport.names.all_are_judged_unless_one_broke.{AreJudged, still_judged}
+pub use Rattle.osi_blameless.proofs.transport.requests.class_0_stays_selected.{zero_stays}
+pub use Rattle.osi_blameless.proofs.transport.connections.each_connection_has_its_line.{AreGiven, Followed, IsAnswer, IsAsking, IsNoCc, IsOwned, Row, Tracked, all_so}
+pub use Rattle.osi_blameless.proofs.transport.connections.each_connection_has_its_line.{asking, is_tracked, stray}
+pub use Rattle.osi_blameless.proofs.transport.called.each_connection_of_a_called_end.{Answering, AreAbove, AreStrays, Asked, Called, Stand, StrayIf, Untagged}
+pub use Rattle.osi_blameless.proofs.transport.called.each_connection_of_a_called_end.{answers as answering, comes, line_of, refuses, runs}
+pub use Rattle.osi_blameless.proofs.transport.requests.how_a_calling_end_asks.{IsOver, one}
+pub use Rattle.osi_blameless.proofs.transport.requests.how_requests_go_on.{Calling, answered, ended, known, quiet, refused, waits}
+pub use Rattle.osi_blameless.proofs.transport.requests.left_selects_no_class.{left_class}
+pub use Rattle.osi_blameless.proofs.transport.names.names_stay_apart_though_one_is_lost.{AreNamedApart, OnlyOne, each_sound}
+pub use Rattle.osi_blameless.proofs.transport.requests.no_request_is_blamed.{Holds, holds_first, holds_next}
+pub use Rattle.osi_blameless.proofs.transport.connections.no_two_open_connections_have_one_peer.{both, left_open}
+pub use Rattle.osi_blameless.proofs.transport.requests.one_request_waits.{begun_live, reached_class}
+pub use Rattle.osi_blameless.proofs.transport.requests.references_of_requests_rise.{Rise, all_gives, closed_gives, ended_gives, not_less, rise_from, sent_gives}
 pub use Rattle.osi_blameless.proofs.transport.small_facts_that_many_lemmas_use.{and_false, begins_judged, begun_left, begun_right, closing_same, differ}
 pub use Rattle.osi_blameless.proofs.transport.small_facts_that_many_lemmas_use.{first_is, is_false, judged_same, no_list, none_of, number_is, some_same}
 pub use Rattle.osi_blameless.proofs.transport.small_facts_that_many_lemmas_use.{unequal}
-pub use Rattle.osi_blameless.proofs.transport.the_end_is_judged_as_the_other_side_is.{side_zero}
-pub use Rattle.osi_blameless.proofs.transport.units_by_their_place.{Placed, at_first, at_join, first_at, values}
-pub use Rattle.osi_blameless.proofs.transport.what_a_carrier_puts.{alone, connected}
-pub use Rattle.osi_blameless.proofs.transport.what_a_link_does.{begun_by, gives_so, takes_so}
-pub use Rattle.osi_blameless.proofs.transport.what_an_end_does_in_class_zero.{IsInZero, anyhow, zero_puts}
-pub use Rattle.osi_blameless.proofs.transport.what_an_end_puts_in_class_zero.{PutsData}
-pub use Rattle.osi_blameless.proofs.transport.what_becomes_of_a_called_end.{IsCalled, closing_no_cc, confirms_no_cc, given_no_cc, none_by_call}
-pub use Rattle.osi_blameless.proofs.transport.what_becomes_of_a_connection.{comes_for}
-pub use Rattle.osi_blameless.proofs.transport.what_holds_of_one_item.{HoldsOfEach, after_add, after_map, after_set, each_add, each_map, each_set}
-pub use Rattle.osi_blameless.proofs.transport.what_holds_of_one_item.{first_true, none_true, one_added, one_changed, one_mapped, one_put}
-pub use Rattle.osi_blameless.proofs.transport.what_is_right_passes_each_test.{passes_each}
-pub use Rattle.osi_blameless.proofs.transport.what_keeps_names_apart.{AreApart as NamesApart, Sound}
-pub use Rattle.osi_blameless.proofs.transport.what_lasts_at_the_judge.{lasts_passing}
-pub use Rattle.osi_blameless.proofs.transport.what_stays_of_each_connection.{left_then, own_stays, right_passes}
-pub use Rattle.osi_blameless.proofs.transport.what_the_other_side_closes.{IsClear, IsFirm, IsOngoing, going_on, is_name}
-pub use Rattle.osi_blameless.proofs.transport.which_requests_are_put.{asked_among, call_asks, unit_asks}
-pub use Rattle.osi_blameless.proofs.transport.which_unit_of_the_other_side_passes.{IsCalm, IsIdle}
-pub use Rattle.osi_blameless.proofs.transport.which_units_are_for_a_connection.{IsDc, each_picked, first_kept, first_left, names_in as is_at, is_dc, keep}
-pub use Rattle.osi_blameless.proofs.transport.which_units_are_for_a_connection.{leads, names, picked, picked_first, picked_join, picked_other, picked_rest}
-pub use Rattle.osi_blameless.proofs.transport.which_units_are_for_a_connection.{those, those_join}
-pub use Rattle.osi_blameless.proofs.transport.while_no_class_is_selected.{GoesOn, Waits, after_change, calm_judge, done_takes, set_same, set_there}
+pub use Rattle.osi_blameless.proofs.transport.calling.the_end_is_judged_as_the_other_side_is.{side_zero}
+pub use Rattle.osi_blameless.proofs.transport.connections.units_by_their_place.{Placed, at_first, at_join, first_at, values}
+pub use Rattle.osi_blameless.proofs.transport.requests.what_a_carrier_puts.{alone, connected}
+pub use Rattle.osi_blameless.proofs.transport.lines.what_a_link_does.{begun_by, gives_so, takes_so}
+pub use Rattle.osi_blameless.proofs.transport.class_0.what_an_end_does_in_class_zero.{IsInZero, anyhow, zero_puts}
+pub use Rattle.osi_blameless.proofs.transport.class_0.what_an_end_puts_in_class_zero.{PutsData}
+pub use Rattle.osi_blameless.proofs.transport.called.what_becomes_of_a_called_end.{IsCalled, closing_no_cc, confirms_no_cc, given_no_cc, none_by_call}
+pub use Rattle.osi_blameless.proofs.transport.connections.what_becomes_of_a_connection.{comes_for}
+pub use Rattle.osi_blameless.proofs.transport.names.what_holds_of_one_item.{HoldsOfEach, after_add, after_map, after_set, each_add, each_map, each_set}
+pub use Rattle.osi_blameless.proofs.transport.names.what_holds_of_one_item.{first_true, none_true, one_added, one_changed, one_mapped, one_put}
+pub use Rattle.osi_blameless.proofs.transport.lines.what_is_right_passes_each_test.{passes_each}
+pub use Rattle.osi_blameless.proofs.transport.names.what_keeps_names_apart.{AreApart as NamesApart, Sound}
+pub use Rattle.osi_blameless.proofs.transport.requests.what_lasts_at_the_judge.{lasts_passing}
+pub use Rattle.osi_blameless.proofs.transport.connections.what_stays_of_each_connection.{left_then, own_stays, right_passes}
+pub use Rattle.osi_blameless.proofs.transport.connections.what_the_other_side_closes.{IsClear, IsFirm, IsOngoing, going_on, is_name}
+pub use Rattle.osi_blameless.proofs.transport.requests.which_requests_are_put.{asked_among, call_asks, unit_asks}
+pub use Rattle.osi_blameless.proofs.transport.connections.which_unit_of_the_other_side_passes.{IsCalm, IsIdle}
+pub use Rattle.osi_blameless.proofs.transport.connections.which_units_are_for_a_connection.{IsDc, each_picked, first_kept, first_left, names_in as is_at, is_dc, keep}
+pub use Rattle.osi_blameless.proofs.transport.connections.which_units_are_for_a_connection.{leads, names, picked, picked_first, picked_join, picked_other, picked_rest}
+pub use Rattle.osi_blameless.proofs.transport.connections.which_units_are_for_a_connection.{those, those_join}
+pub use Rattle.osi_blameless.proofs.transport.requests.while_no_class_is_selected.{GoesOn, Waits, after_change, calm_judge, done_takes, set_same, set_there}
 pub use Rattle.osi_blameless.specs.transport.Asking.{asked_in}
 pub use Rattle.osi_blameless.specs.transport.Lines.{Act, Acts, ActsAlong, Line, begins_elsewhere, ignores, moves, opened_line, units_put}
 pub use Rattle.osi_blameless.specs.transport.Naming.{HoldsOfOne, Passing, packet, passes, rubbish, unit}

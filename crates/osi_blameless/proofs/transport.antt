@@ -1,99 +1,20 @@
--- The map of these proofs, in reading order. `Vocabulary` has the names that come from elsewhere.
+-- No unit that an end puts breaks a rule of transport: the map of these proofs, in reading order. `Vocabulary` has the names that come
+-- from elsewhere.
 pub mod Vocabulary
 pub mod small_facts_that_many_lemmas_use
-pub mod what_is_right_passes_each_test
-pub mod what_was_right_stays_right
-pub mod what_a_link_does
-pub mod units_in_flight
-pub mod what_holds_of_a_line
-pub mod what_an_end_does_to_a_line
-pub mod what_begins_to_pass_is_right
-pub mod what_passes_of_an_end
-pub mod what_passes_of_the_other_side
-pub mod what_each_unit_of_the_other_side_does
-pub mod an_open_end_is_fair
-pub mod an_end_closes_last
-pub mod a_carrier_follows_lines
-pub mod how_a_connection_opens
-pub mod a_unit_is_an_act_of_its_line
-pub mod what_is_put_before_the_cc_passes
-pub mod calls_of_a_line_join
-pub mod what_holds_of_one_item
-pub mod when_a_connection_has_a_name
-pub mod what_keeps_names_apart
-pub mod a_reference_names_one_connection
-pub mod names_stay_apart_though_one_is_lost
-pub mod a_right_unit_is_not_blamed
-pub mod what_a_side_knows_stays
-pub mod all_are_judged_unless_one_broke
-pub mod what_belongs_to_no_open_connection
-pub mod which_answers_may_be_blamed
-pub mod references_of_requests_rise
-pub mod a_new_reference_is_not_in_use
-pub mod one_request_waits
-pub mod a_refused_request_waits_no_more
-pub mod what_a_carrier_puts
-pub mod while_no_class_is_selected
-pub mod an_end_has_broken_no_rule
-pub mod what_lasts_at_the_judge
-pub mod a_connection_is_lost_in_class_2_alone
-pub mod which_requests_are_put
-pub mod a_request_of_a_whole_end_is_new
-pub mod left_selects_no_class
-pub mod class_0_stays_selected
-pub mod how_a_calling_end_asks
-pub mod what_an_end_puts_in_class_zero
-pub mod what_an_end_does_in_class_zero
-pub mod a_dt_of_class_zero_passes
-pub mod an_end_goes_on_in_class_zero
-pub mod a_calling_end_takes_a_cc_of_class_zero
-pub mod how_requests_go_on
-pub mod no_request_is_blamed
-pub mod what_is_live_at_an_end
-pub mod which_unit_of_the_other_side_passes
-pub mod what_stays_of_each_connection
-pub mod what_the_other_side_closes
-pub mod what_a_calling_end_still_has
-pub mod which_units_are_for_a_connection
-pub mod what_a_line_keeps_though_it_is_lost
-pub mod a_line_since_its_connection_opened
-pub mod each_connection_has_its_line
-pub mod no_two_open_connections_have_one_peer
-pub mod a_unit_of_a_whole_end_passes
-pub mod a_unit_that_is_not_judged_passes
-pub mod a_dc_for_a_stray_dr_passes
-pub mod what_becomes_of_a_connection
-pub mod a_dr_for_what_is_gone
-pub mod what_has_come_with_one_unit_more
-pub mod a_unit_of_the_other_side_passes
-pub mod a_stray_dc_of_the_other_side_passes
-pub mod what_a_whole_end_takes
-pub mod a_dc_follows_a_dr
-pub mod what_a_unit_leaves_at_a_calling_end
-pub mod a_whole_end_takes_a_unit
-pub mod a_whole_end_makes_a_call
-pub mod the_end_is_judged_as_the_other_side_is
-pub mod a_calling_end_is_fair_in_class_2
-pub mod a_whole_end_ends
-pub mod a_calling_end_is_fair
-pub mod a_packet_is_events
-pub mod what_is_in_front_of_a_whole_end
-pub mod a_piece_is_events
-pub mod a_run_of_calls_is_events
-pub mod units_by_their_place
-pub mod each_connection_of_a_called_end
-pub mod how_a_unit_of_right_passes
-pub mod a_unit_of_a_called_end_passes
-pub mod what_a_called_end_does_to_its_lines
-pub mod what_a_called_end_leaves_alone
-pub mod a_called_end_answers_a_cr
-pub mod what_becomes_of_a_called_end
-pub mod a_called_end_takes_a_unit
-pub mod a_called_end_makes_a_call
-pub mod a_unit_comes_to_a_called_end
-pub mod what_comes_to_a_called_end
-pub mod a_dc_for_what_is_gone_passes
-pub mod a_called_end_is_fair
-pub mod a_called_end_selects_class_zero
-pub mod what_comes_to_an_end_of_class_zero
-pub mod a_called_end_is_fair_in_class_0
+-- One open connection: whatever may happen to its line, what the end puts is right.
+pub mod lines
+-- A reference names one connection, so what is right on its line is not blamed; and the answers without an open connection.
+pub mod names
+-- A calling end asks for connections with references that rise, and no CR is blamed.
+pub mod requests
+-- An end in class 0.
+pub mod class_0
+-- Each connection of a whole end has its line and its place, as units pass.
+pub mod connections
+-- A whole calling end: what passes of it is not blamed.
+pub mod calling
+-- What a carrier does with packets, pieces and calls is such events.
+pub mod pieces
+-- A whole called end: what passes of it is not blamed.
+pub mod called

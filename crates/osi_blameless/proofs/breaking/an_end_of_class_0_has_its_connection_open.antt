@@ -6,7 +6,7 @@ use Rattle.osi_blameless.proofs.Vocabulary.{Right, Direction, answered, known, q
 use Rattle.osi_blameless.proofs.Vocabulary.{arith, may_be_followed, ended, waits, IsZeroAt, calls_from, Disconnects}
 use Rattle.osi_blameless.specs.transport.Pieces.{units_in}
 use Rattle.osi_blameless.specs.transport.Wholes as wholes
-use Rattle.osi_blameless.proofs.transport.how_requests_go_on.{asks, zero}
+use Rattle.osi_blameless.proofs.transport.requests.how_requests_go_on.{asks, zero}
 use Rattle.osi_blameless.proofs.keeping.a_carrier_does_events.{none_of}
 use Rattle.osi_blameless.proofs.small_facts_that_many_lemmas_use.{none_some, over_none, zero_two}
 use Rattle.osi_blameless.proofs.keeping.steps_are_events.{IsFollowed}

@@ -20,9 +20,9 @@ use Rattle.osi_rules.specs.declared.directions.Direction.{Direction as Way}
 use Rattle.osi_rules.specs.declared.directions.Direction.TheVariants as way
 use Rattle.osi_blameless.specs.transport.Naming.{unit as passing}
 use Rattle.osi_blameless.specs.transport.Wholes as wholes
-use Rattle.osi_blameless.proofs.transport.a_calling_end_is_fair_in_class_2.{Joined as Follows}
-use Rattle.osi_blameless.proofs.transport.no_two_open_connections_have_one_peer.{differ}
-use Rattle.osi_blameless.proofs.transport.what_becomes_of_a_connection.{Told}
+use Rattle.osi_blameless.proofs.transport.calling.a_calling_end_is_fair_in_class_2.{Joined as Follows}
+use Rattle.osi_blameless.proofs.transport.connections.no_two_open_connections_have_one_peer.{differ}
+use Rattle.osi_blameless.proofs.transport.connections.what_becomes_of_a_connection.{Told}
 use Rattle.osi_blameless.proofs.keeping.a_carrier_does_events.{none_of}
 use Rattle.osi_blameless.proofs.keeping.steps_are_events.{IsFollowed}
 use Rattle.osi_blameless.proofs.in_class_2.no_unit_waits_for_the_reference_that_a_cc_gives.{one_plain}

@@ -10,7 +10,7 @@ use Rattle.osi_blameless.proofs.Vocabulary.{reference_of, taken, Course, HaveSam
 use Rattle.osi_side.specs.declared.directions.Direction.TheVariants as side
 use Rattle.osi_rules.specs.declared.directions.Direction.TheVariants.{Right}
 use Rattle.osi_rules.specs.declared.findings.Rule.TheVariants as rule
-use Rattle.osi_blameless.proofs.transport.class_0_stays_selected.{reached_class}
+use Rattle.osi_blameless.proofs.transport.requests.class_0_stays_selected.{reached_class}
 use Rattle.osi_judge.specs.Connections as joined
 use Rattle.osi_blameless.proofs.keeping.what_a_taker_passes_over.{IsMild}
 use Rattle.osi_blameless.proofs.shown.a_unit_is_joined_where_it_is_named.{joined_named}

@@ -13,7 +13,7 @@ use Rattle.osi_rules.specs.declared.directions.Direction.TheVariants.{Right}
 use Rattle.osi_rules.specs.declared.directions.Direction.TheVariants as way
 use Rattle.osi_side.specs.declared.directions.Direction.TheVariants as side
 use Rattle.osi_blameless.specs.transport.Wholes as wholes
-use Rattle.osi_blameless.proofs.transport.how_requests_go_on.{Stage, asks, zero}
+use Rattle.osi_blameless.proofs.transport.requests.how_requests_go_on.{Stage, asks, zero}
 use Rattle.osi_blameless.proofs.small_facts_that_many_lemmas_use.{early_lasts, given_so, none_some}
 use Rattle.osi_blameless.proofs.small_facts_that_many_lemmas_use as small
 use Rattle.osi_blameless.proofs.keeping.steps_are_events.{IsFollowed}

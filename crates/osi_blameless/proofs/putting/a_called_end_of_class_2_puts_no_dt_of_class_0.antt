@@ -10,10 +10,10 @@ use Rattle.osi_blameless.proofs.Vocabulary.{ignores, Line, moves, units_put, Who
 use Rattle.osi_class.specs.Link.{taken}
 use Rattle.osi_rules.specs.declared.directions.Direction.TheVariants.{Right}
 use Rattle.osi_blameless.specs.transport.Lines.{answers, begins_other, begins_own, closes, passes_other, passes_own}
-use Rattle.osi_blameless.proofs.transport.units_by_their_place.{units_at}
+use Rattle.osi_blameless.proofs.transport.connections.units_by_their_place.{units_at}
 use Rattle.osi_blameless.proofs.small_facts_that_many_lemmas_use.{all_join as all_of_both}
 use Rattle.osi_blameless.proofs.putting.what_a_turn_puts_goes_to_its_peer.{IsNotZero, one_of}
-use Rattle.osi_blameless.proofs.transport.each_connection_of_a_called_end.{past}
+use Rattle.osi_blameless.proofs.transport.called.each_connection_of_a_called_end.{past}
 
 -- ---- a line of class 2
 

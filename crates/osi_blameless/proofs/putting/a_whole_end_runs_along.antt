@@ -6,8 +6,8 @@ use Rattle.osi_blameless.proofs.Vocabulary.{subst, sym, true, false, ◌≡◌, 
 use Rattle.osi_blameless.proofs.Vocabulary.{selected, selecting, Selecting, Called, IsCalled, NamesApart, Stage, AreNamedApart}
 use Rattle.osi_rules.specs.declared.directions.Direction.TheVariants as way
 use Rattle.osi_blameless.specs.transport.Wholes as wholes
-use Rattle.osi_blameless.proofs.transport.a_called_end_is_fair as fair
-use Rattle.osi_blameless.proofs.transport.a_calling_end_is_fair_in_class_2.{all_joined}
+use Rattle.osi_blameless.proofs.transport.called.a_called_end_is_fair as fair
+use Rattle.osi_blameless.proofs.transport.calling.a_calling_end_is_fair_in_class_2.{all_joined}
 use Rattle.osi_blameless.proofs.keeping.steps_are_events.{IsFollowed}
 use Rattle.osi_blameless.proofs.shown.a_right_dt_has_one_place.{AreUsedApart, named_apart}
 use Rattle.osi_blameless.proofs.putting.ccs_among_units.{AnswersTwo, first_not_zero}

@@ -10,8 +10,8 @@ use Rattle.osi_blameless.proofs.Vocabulary.{first_at, is_at, Placed, values, kee
 use Rattle.osi_blameless.proofs.Vocabulary.{opened_line, units_put, Whole, HaveSamePlaces, arith, each_sound, differ}
 use Rattle.osi_side.specs.declared.directions.Direction.TheVariants as side
 use Rattle.osi_rules.specs.declared.directions.Direction.TheVariants.{Left, Right}
-use Rattle.osi_blameless.proofs.transport.each_connection_of_a_called_end.{past}
-use Rattle.osi_blameless.proofs.transport.units_by_their_place.{units_at}
+use Rattle.osi_blameless.proofs.transport.called.each_connection_of_a_called_end.{past}
+use Rattle.osi_blameless.proofs.transport.connections.units_by_their_place.{units_at}
 use Rattle.osi_blameless.proofs.small_facts_that_many_lemmas_use.{all_join as all_of_both}
 use Rattle.osi_blameless.proofs.putting.a_called_end_of_class_2_puts_no_dt_of_class_0.{StandsAt, called_put_two, place_parts, put_so}
 use Rattle.osi_blameless.proofs.shown.a_right_dt_has_one_place.{still_used}

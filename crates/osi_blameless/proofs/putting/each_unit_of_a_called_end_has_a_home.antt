@@ -10,8 +10,8 @@ use Rattle.osi_blameless.proofs.Vocabulary.{comes, refuses, runs, Untagged, Plac
 use Rattle.osi_blameless.proofs.Vocabulary.{HaveSamePlaces, named_by, arith, each_sound, AreApart, differ}
 use Rattle.osi_rules.specs.declared.directions.Direction.TheVariants as way
 use Rattle.osi_blameless.specs.transport.Wholes.{begin}
-use Rattle.osi_blameless.proofs.transport.each_connection_of_a_called_end.{Row, past}
-use Rattle.osi_blameless.proofs.transport.units_by_their_place.{units_at}
+use Rattle.osi_blameless.proofs.transport.called.each_connection_of_a_called_end.{Row, past}
+use Rattle.osi_blameless.proofs.transport.connections.units_by_their_place.{units_at}
 use Rattle.osi_blameless.specs.ends.Arriving.{is_open as opened}
 use Rattle.osi_blameless.proofs.small_facts_that_many_lemmas_use.{all_front, over_not, not_some}
 use Rattle.osi_blameless.proofs.keeping.steps_are_events.{IsFollowed}

@@ -10,8 +10,8 @@ use Rattle.osi_blameless.proofs.Vocabulary.{reference_of, user_of, Course, marke
 use Rattle.osi_blameless.proofs.Vocabulary.{unread_moment, way_of, comes_to, HaveSamePlaces, IsJoinedAt, IsOneOf}
 use Rattle.osi_rules.specs.declared.directions.Direction.{Direction as Way}
 use Rattle.osi_rules.specs.Traffic as traffic
-use Rattle.osi_blameless.proofs.transport.all_are_judged_unless_one_broke.{IsJudged}
-use Rattle.osi_blameless.proofs.transport.what_keeps_names_apart.{AreApart}
+use Rattle.osi_blameless.proofs.transport.names.all_are_judged_unless_one_broke.{IsJudged}
+use Rattle.osi_blameless.proofs.transport.names.what_keeps_names_apart.{AreApart}
 use Rattle.osi_judge.specs.States.{begin}
 use Rattle.osi_blameless.proofs.steps.what_passes_keeps_a_claim.{after_kept}
 use Rattle.osi_blameless.proofs.shown.a_unit_is_joined_where_it_is_named.{joined_named}

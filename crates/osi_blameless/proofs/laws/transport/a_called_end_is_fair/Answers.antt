@@ -1,5 +1,5 @@
-use Rattle.osi_blameless.proofs.transport.a_called_end_is_fair.{called_fair}
-use Rattle.osi_blameless.proofs.transport.a_called_end_is_fair_in_class_0.{called_fair_in_class_0}
+use Rattle.osi_blameless.proofs.transport.called.a_called_end_is_fair.{called_fair}
+use Rattle.osi_blameless.proofs.transport.called.a_called_end_is_fair_in_class_0.{called_fair_in_class_0}
 use Rattle.osi_blameless.proofs.laws.transport.a_called_end_is_fair.Goals as goal
 
 pub returns-clause-judged : goal.returns-clause-judged

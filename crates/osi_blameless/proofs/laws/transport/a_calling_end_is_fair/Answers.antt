@@ -1,4 +1,4 @@
-use Rattle.osi_blameless.proofs.transport.a_calling_end_is_fair.{calling_fair, calling_fair_in_class_0}
+use Rattle.osi_blameless.proofs.transport.calling.a_calling_end_is_fair.{calling_fair, calling_fair_in_class_0}
 use Rattle.osi_blameless.proofs.laws.transport.a_calling_end_is_fair.Goals as goal
 
 pub returns-clause-judged : goal.returns-clause-judged

@@ -1,5 +1,5 @@
-use Rattle.osi_blameless.proofs.transport.a_carrier_follows_lines.{follows_closed, follows_closed_one, follows_open, follows_sent}
-use Rattle.osi_blameless.proofs.transport.calls_of_a_line_join.{follows_then, follows_together}
+use Rattle.osi_blameless.proofs.transport.lines.a_carrier_follows_lines.{follows_closed, follows_closed_one, follows_open, follows_sent}
+use Rattle.osi_blameless.proofs.transport.lines.calls_of_a_line_join.{follows_then, follows_together}
 use Rattle.osi_blameless.proofs.laws.transport.a_carrier_follows_its_lines.Goals as goal
 
 pub returns-clause-open : goal.returns-clause-open

@@ -1,5 +1,5 @@
-use Rattle.osi_blameless.proofs.transport.all_are_judged_unless_one_broke.{place_is}
-use Rattle.osi_blameless.proofs.transport.what_a_side_knows_stays.{ended_stays, name_is_own, name_stays}
+use Rattle.osi_blameless.proofs.transport.names.all_are_judged_unless_one_broke.{place_is}
+use Rattle.osi_blameless.proofs.transport.names.what_a_side_knows_stays.{ended_stays, name_is_own, name_stays}
 use Rattle.osi_blameless.proofs.laws.transport.a_connection_keeps_its_place.Goals as goal
 
 pub returns-clause-stays : goal.returns-clause-stays

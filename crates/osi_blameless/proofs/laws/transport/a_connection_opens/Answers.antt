@@ -1,4 +1,4 @@
-use Rattle.osi_blameless.proofs.transport.how_a_connection_opens.{asked_so, called_opens, calling_opens, two_right, zero_right}
+use Rattle.osi_blameless.proofs.transport.lines.how_a_connection_opens.{asked_so, called_opens, calling_opens, two_right, zero_right}
 use Rattle.osi_blameless.proofs.laws.transport.a_connection_opens.Goals as goal
 
 pub returns-clause-two : goal.returns-clause-two

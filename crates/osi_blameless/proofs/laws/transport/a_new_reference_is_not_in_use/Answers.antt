@@ -1,4 +1,4 @@
-use Rattle.osi_blameless.proofs.transport.a_new_reference_is_not_in_use.{next_is_new, next_is_right}
+use Rattle.osi_blameless.proofs.transport.requests.a_new_reference_is_not_in_use.{next_is_new, next_is_right}
 use Rattle.osi_blameless.proofs.laws.transport.a_new_reference_is_not_in_use.Goals as goal
 
 pub returns-clause-unused : goal.returns-clause-unused

@@ -1,6 +1,6 @@
-use Rattle.osi_blameless.proofs.transport.a_packet_is_events.{becomes_by_call, becomes_by_fault, becomes_by_packet}
-use Rattle.osi_blameless.proofs.transport.a_piece_is_events.{fed_so}
-use Rattle.osi_blameless.proofs.transport.a_run_of_calls_is_events.{run_so}
+use Rattle.osi_blameless.proofs.transport.pieces.a_packet_is_events.{becomes_by_call, becomes_by_fault, becomes_by_packet}
+use Rattle.osi_blameless.proofs.transport.pieces.a_piece_is_events.{fed_so}
+use Rattle.osi_blameless.proofs.transport.pieces.a_run_of_calls_is_events.{run_so}
 use Rattle.osi_blameless.proofs.laws.transport.a_packet_is_events.Goals as goal
 
 pub returns-clause-packet : goal.returns-clause-packet

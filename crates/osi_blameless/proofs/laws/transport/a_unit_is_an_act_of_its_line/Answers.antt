@@ -1,4 +1,4 @@
-use Rattle.osi_blameless.proofs.transport.a_unit_is_an_act_of_its_line.{after_is, begun_at, found_is}
+use Rattle.osi_blameless.proofs.transport.lines.a_unit_is_an_act_of_its_line.{after_is, begun_at, found_is}
 use Rattle.osi_blameless.proofs.laws.transport.a_unit_is_an_act_of_its_line.Goals as goal
 
 pub returns-clause-found : goal.returns-clause-found

@@ -1,5 +1,5 @@
-use Rattle.osi_blameless.proofs.transport.a_refused_request_waits_no_more.{waits_no_more}
-use Rattle.osi_blameless.proofs.transport.one_request_waits.{one_waits}
+use Rattle.osi_blameless.proofs.transport.requests.a_refused_request_waits_no_more.{waits_no_more}
+use Rattle.osi_blameless.proofs.transport.requests.one_request_waits.{one_waits}
 use Rattle.osi_blameless.proofs.laws.transport.one_request_waits.Goals as goal
 
 pub returns-clause-one : goal.returns-clause-one

@@ -1,4 +1,4 @@
-use Rattle.osi_blameless.proofs.transport.what_was_right_stays_right.{known_stays, passed_stays}
+use Rattle.osi_blameless.proofs.transport.lines.what_was_right_stays_right.{known_stays, passed_stays}
 use Rattle.osi_blameless.proofs.laws.transport.what_was_right_stays_right.Goals as goal
 
 pub returns-clause-known : goal.returns-clause-known

@@ -1,0 +1,38 @@
+-- What follows the acts of a line twice, one after the other, follows them; so TSDUs that are sent together are acts too.
+-- For the law on carriers and their lines.
+use Rattle.osi_blameless.proofs.transport.Vocabulary.{arith, [], append_assoc, length, List, Option, refl, Some, ℕ, ◌++◌, ◌∙◌, ◌∷◌, ◌≡◌}
+use Rattle.osi_blameless.proofs.transport.Vocabulary.{◌≤◌, flat_map-append, append-nil, AllByRecursion, Value, longest_tsdu, Standing, with_tsdu, put_here}
+use Rattle.osi_blameless.proofs.transport.Vocabulary.{open_link, sent, sent_all, pumped, value_at, Follows, link_now, Line, put_sent, put_together, State}
+use Rattle.osi_blameless.proofs.transport.lines.a_carrier_follows_lines.{follows_sent, open_is}
+use Rattle.osi_blameless.proofs.transport.lines.what_is_put_before_the_cc_passes.{acts_join}
+
+-- ---- one after the other
+
+abbrev line_with : Line → Option Standing → List Value → List Value → Line
+line_with line link put coming = record line { link = link; put = put; coming = coming }
+
+pub follows_then : (r peer : ℕ) (a b us vs : List Value) (old mid new : State) → Follows r peer a us old mid →
+    Follows r peer b vs mid new → Follows r peer (a ++ b) (us ++ vs) old new
+follows_then r peer a b us vs old mid new f g = record {
+  acts = f.acts ++ g.acts;
+  outgoing = grind (arith, append_assoc, flat_map-append);
+  along = λ d line later is coming.
+      let next : Line = line_with line (link_now (value_at r mid.live)) (line.put ++ us) (b ++ later) in
+      let first = f.along d line (b ++ later) is (coming ∙ append_assoc a b later) in
+      grind (arith, acts_join, g.along d next later refl refl, append_assoc line.put us vs);
+}
+
+-- ---- TSDUs that are sent together
+
+-- the connection is still open, with this link
+pub still_open : (r peer : ℕ) (tsdu : List ℕ) (s : State) (link : Standing) → open_link r s ≡ Some (peer, link) →
+    open_link r (sent r tsdu s) ≡ Some (peer, pumped (with_tsdu link tsdu))
+still_open r peer tsdu s link e = grind (arith, open_is, put_here)
+
+pub follows_together : (r peer : ℕ) (tsdus : List (List ℕ)) (s : State) (link : Standing) → open_link r s ≡ Some (peer, link) →
+    AllByRecursion (λ (tsdu : List ℕ). length tsdu ≤ longest_tsdu) tsdus → Follows r peer [] (put_together r tsdus s) s (sent_all r tsdus s)
+follows_together r peer [] s link e short = grind (arith, append-nil)
+follows_together r peer (tsdu ∷ tsdus) s link e (one, more) =
+    follows_then r peer [] [] (put_sent tsdu (open_link r s)) (put_together r tsdus (sent r tsdu s)) s (sent r tsdu s)
+    (sent_all r tsdus (sent r tsdu s)) (follows_sent r peer tsdu s link e one)
+    (follows_together r peer tsdus (sent r tsdu s) (pumped (with_tsdu link tsdu)) (still_open r peer tsdu s link e) more)
