@@ -30,7 +30,6 @@ bench:
 	bench/run
 
 ledger: all lib
-	scripts/proving osi_bench_transport lib
 	scripts/proving osi_bench lib
 	bench/ledger
 
@@ -64,7 +63,7 @@ gateways: all lib
 	scripts/trials gateways
 
 trials: all lib
-	scripts/proving osi_trial lib
+	scripts/proving osi_bench lib
 	scripts/proving osi_runs run
 	scripts/trials hostile $(PART)
 

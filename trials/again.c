@@ -11,7 +11,7 @@
 
 #define LINE 200000
 
-/* crates/osi_trial: 0 the octets are refused, 1 they come out the same, 2 they don't, 3 out of memory. */
+/* crates/osi_bench: 0 the octets are refused, 1 they come out the same, 2 they don't, 3 out of memory. */
 uint32_t osi_trial_units(const uint8_t *packet, size_t length);
 uint32_t osi_trial_tsdu(const uint8_t *tsdu, size_t length);
 

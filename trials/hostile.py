@@ -55,7 +55,7 @@ WRONG_FUNCTIONS = ["held", "feed", "fetch", "kept", "data", "confirmed_below", "
 def readers():
     """The library that `again` reads with, and the toolchain's library of malloc: the library for C doesn't export its own."""
     doc = subprocess.run(["rt", "doc"], check=True, capture_output=True, text=True).stdout.strip()
-    return [f"{TOP}/crates/osi_trial/out/libosi_trial.a", f"{os.path.dirname(doc)}/c/liblibc_c.a"]
+    return [f"{TOP}/crates/osi_bench/out/libosi_bench.a", f"{os.path.dirname(doc)}/c/liblibc_c.a"]
 
 
 def build(*names, wrong=False):

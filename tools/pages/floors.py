@@ -28,11 +28,9 @@ GROUPS = [
                   ("osi_judge", "who broke the protocol first"), ("osi_blameless", "an end and a judge")]),
     ("Given away", [("osi_c", "an end for C"), ("osi_tool", "the program osi"), ("osi_listing", "listings of captures"),
                     ("osi_script", "scripts, line by line"), ("osi_transcript", "plays a script on two ends"), ("osi_report", "judges a capture as text"),
-                    ("osi_explain", "a run for what was sent"),
                     ("osi_witness", "a script of a capture")]),
     ("Checks the others", [("osi_runs", "stored runs"), ("osi_tests", "tests"),
-                           ("osi_example", "an example"), ("osi_bench", "for benchmarks"), ("osi_bench_transport", "for benchmarks"),
-                           ("osi_trial", "for trials")]),
+                           ("osi_example", "an example"), ("osi_bench", "benchmarks and trials")]),
 ]
 STYLE = """text { font: 13px sans-serif; fill: #222 } .name { font-weight: bold } .what { font-size: 11px; fill: #555 }
 .floor { fill: #e8f0fa; stroke: #4a78b0 } .beside { fill: #f6f6f0; stroke: #999 } .way { stroke: #b04a4a; stroke-width: 2; fill: none }

@@ -43,8 +43,7 @@ EXAMPLES = {
     "osi_script": [TEXT],
     "osi_transcript": [("osi_transcript::transcribe", "alloc: Global, script: &[u8]")],
     "osi_report": [("osi_report::judge_text", "alloc: Global"), ("osi_report::Hearing", "alloc: Global"), TEXT],
-    "osi_explain": [("osi_explain::Capture osi_script::Side", "alloc: Global, octets: &[u8]")],
-    "osi_witness": [("osi_witness::witness_of", "alloc: Global, text: &[u8]")],
+    "osi_witness": [("osi_witness::witness_of", "alloc: Global, text: &[u8]"), ("osi_witness::Capture osi_script::Side", "alloc: Global, octets: &[u8]")],
     "osi_tool": [TEXT],
 }
 ERRORS = ["osi_carrier::OpenError", "osi_carrier::SendError", "osi_class::LinkFault", "osi_listing::CaptureFault",

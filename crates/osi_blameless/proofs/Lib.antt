@@ -1,9 +1,10 @@
 -- The map of these proofs, in reading order: each folder has a map of its files. `Vocabulary` has the names that come from elsewhere.
 mod Vocabulary
-pub mod ends
-pub mod transport
-pub mod accord
 pub mod small_facts_that_many_lemmas_use
+-- What an end puts on the byte connection and takes from it, connection by connection.
+pub mod ends
+-- No unit that an end puts breaks a rule of transport, as long as the other side keeps them.
+pub mod transport
 -- A capture of an end is steps of the end and of the judge.
 pub mod steps
 -- No unit of an end breaks a rule of transport, whatever the other side breaks.
@@ -24,3 +25,5 @@ pub mod in_class_0
 pub mod breaking
 -- The induction over steps, and so nobody of an end is ever to blame.
 pub mod blaming
+-- Two sides that are told as kept are two sessions that make what passed.
+pub mod accord

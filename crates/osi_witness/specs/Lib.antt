@@ -1,1 +1,15 @@
+pub mod Captures
+pub mod Conversations
+pub mod Found
+pub mod Halts
+pub mod Lines
+pub mod Passed
+pub mod Places
+pub mod Requests
+pub mod Steps
+pub mod Streams
+pub mod Told
+pub mod Trails
+pub mod Units
+pub mod Whole
 pub mod Witnesses

@@ -1,6 +1,6 @@
 //! The two ends that play a script.
 
-use osi_explain::{Capture, Conversation};
+use crate::{Capture, Conversation};
 use osi_script::Classes;
 use osi_tpdu::{SizeCode, Window};
 

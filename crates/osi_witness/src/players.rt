@@ -2,8 +2,8 @@
 
 use crate::ends::Ends;
 use crate::wires::Wire;
+use crate::{Halt, other, push_line};
 use osi_carrier::{EndReason, Ref};
-use osi_explain::{Halt, other, push_line};
 use osi_pair::{Event, Pair, PairError};
 use osi_script::{Command, Side};
 use osi_session::Request;

@@ -1,11 +1,11 @@
 //! The runs of both sides of a connection as a part of a script.
 
 use crate::players::Player;
-use bitflags::Flags;
-use osi_explain::{
+use crate::{
     Asking, Conversation, Halt, Offer, Place, Said, Stop, Stream, acting_unit, asked_by,
     has_no_effect, hears, is_before, other, request_of, selected_by,
 };
+use bitflags::Flags;
 use osi_message::{Message, Place as Part};
 use osi_script::{Command, Side};
 use osi_session::Standing;

@@ -4,11 +4,11 @@ ghost use Rattle.std.specs.Prelude.{◌≡◌, ◌<◌, ◌≤◌, ◌⊎◌, []
 ghost use Rattle.osi_listing.specs.Capture.{IsNoCapture};
 ghost use Rattle.osi_witness.specs.Witnesses.{IsPlayed, Witnesses};
 
-use crate::captures::capture_of;
 use crate::ends::ends_of;
 use crate::players::{LONGEST, Player};
 use crate::telling::Telling;
-use osi_explain::{Capture, Conversation, Halt, Stop, is_before, push_comment};
+use crate::texts::capture_of;
+use crate::{Capture, Conversation, Halt, Stop, is_before, push_comment};
 use osi_listing::{CaptureFault, octets_of};
 use osi_script::Side;
 use osi_transcript::transcribe;

@@ -1,5 +1,0 @@
-use Rattle.osi_explain.specs.Whole.{AreUntold}
-use Rattle.osi_explain.proofs.captures.Capture.take.Given as goal
-
-abbrev pub invariant-units : goal.invariant-units
-invariant-units l = AreUntold l.fn.self.conversations.items → AreUntold l.self.conversations.items

@@ -1,5 +1,0 @@
-use Rattle.osi_explain.specs.Whole.{AreUntold}
-use Rattle.osi_explain.proofs.captures.Capture.take_packets.Given as goal
-
-abbrev pub invariant-packets : goal.invariant-packets
-invariant-packets l = AreUntold l.fn.self.conversations.items → AreUntold l.self.conversations.items

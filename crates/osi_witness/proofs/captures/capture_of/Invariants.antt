@@ -1,6 +1,0 @@
-use Rattle.std.proofs.Common.{length}
-use Rattle.osi_report.specs.Reading.{rows_left}
-use Rattle.osi_witness.proofs.captures.capture_of.Given as goal
-
-abbrev pub decreases-pieces : goal.decreases-pieces
-decreases-pieces l = length (rows_left l.pieces)
