@@ -1,5 +1,5 @@
 -- No unit of an end breaks a rule of transport, whatever the other side breaks.
--- steps are events of a whole end, of which `osi_fair` speaks
+-- steps are events of a whole end, of which `transport` speaks
 pub mod what_waits_changes_nothing
 pub mod a_carrier_does_events
 pub mod steps_are_events

@@ -1,4 +1,4 @@
--- No unit of a whole end is a break as it passes, as long as the other side is judged: what osi_fair says of it.
+-- No unit of a whole end is a break as it passes, as long as the other side is judged: what the proofs of transport say of it.
 -- For the laws that an end is blamed nowhere.
 use Rattle.osi_blameless.proofs.Vocabulary.{false, true, ◌≡◌, ◌⊎◌, ◌∷◌, List, Some, Local, Value, Direction, Left, Right, Finding, Broke}
 use Rattle.osi_blameless.proofs.Vocabulary.{Outside, Kept, NotJudged, TooMany, Zero, is_stopped, takes, Event, HappenAlong, Whole}
