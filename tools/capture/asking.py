@@ -122,14 +122,18 @@ def named(end):
 def found_by(name, port, numbers, hosts=()):
     """The streams with TPKT of a capture; only those with these numbers and of these hosts, if any are named."""
     found = found_in(name, port)
-    missing = set(numbers or ()) - {stream.number for stream in found}
-    if missing:
-        raise BadInput(f"{shown(name)}: stream {min(missing)} carries no TPKT")
-    wanted = [stream for stream in found if (not numbers or stream.number in numbers)
-              and (not hosts or any(end[0] in hosts for end in stream.ends))]
+    named_ones = [stream for stream in found if not numbers or stream.number in numbers]
+    wanted = [stream for stream in named_ones if not hosts or any(end[0] in hosts for end in stream.ends)]
+    if not named_ones:
+        raise BadInput(missing(name, min(numbers)))
     if not wanted:
         raise BadInput(f"{shown(name)}: no stream of {' or '.join(hosts)} carries TPKT")
     return wanted
+
+
+def missing(name, number):
+    """What is said of a stream that was asked for, and isn't among those with TPKT."""
+    return f"{shown(name)}: stream {number} carries no TPKT"
 
 
 def chosen(name, port, number):

@@ -480,9 +480,9 @@ class ByProgram(unittest.TestCase):
     def test_packets_are_found_by_their_place(self):
         found, octets = processes.Places(), CR + DT + b"garbage"
         for at in range(0, len(octets), 5):
-            found.take(streams.Piece(at, at / 10, at, octets[at:at + 5]))
-        self.assertEqual((found.of(0), found.of(len(CR))), ((14, 10, 1.0), (29, 25, 2.5)))
-        self.assertEqual((found.of(29), found.of(7)), ((30, 25, 2.5), None))
+            found.take(streams.Piece(at, at / 10, at, octets[at:at + 5]), at // 5)
+        self.assertEqual((found.of(0), found.of(len(CR))), ((14, 10, 1.0, 2), (29, 25, 2.5, 5)))
+        self.assertEqual((found.of(29), found.of(7)), ((30, 25, 2.5, 5), None))
 
 
 @unittest.skipUnless(watch.library(), "the package osi_session or its library is not there")

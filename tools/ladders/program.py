@@ -221,7 +221,7 @@ def judged_capture(options, progress):
     source, said = source_of(options.judge, options)
     judge = judged.runner(options.osi, progress.running)
     told = verdicts.read(read_text(options.verdicts)) if options.verdicts else None
-    if source.stream is not None and not told:
+    if not told:
         source, judge = reading.surely(source, judge, not options.ignore_checksums)
     pieces = source.pieces
     listings = source.listed(listings_of(pieces, options.osi, named_listings(options), progress))
