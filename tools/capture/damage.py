@@ -41,7 +41,7 @@ def joined(stream, segments):
     made = Stream(stream.number, stream.ends)
     made.path, made.until, made.is_asked = stream.path, stream.until, stream.is_asked
     for end, direction in made.directions.items():
-        direction.sums = stream.directions[end].sums
+        direction.sums, direction.is_patient = stream.directions[end].sums, True
     for segment in segments:
         if segment.stream == stream.number:
             made.take(segment)

@@ -73,8 +73,9 @@ class Direction:
         self.passed, self.starts, self.forgotten, self.doubt = [], [], 0, None
         # The frames of octets that may be those of keepalives, by their places; and if the last octet came alone, the signs of its segment.
         self.alone, self.signs = {}, None
-        # The checksums, as far as they are read; and what damaged frames have that wait for a right copy. At the end none will come.
-        self.sums, self.damaged, self.is_final = Sums(), [], False
+        # The checksums, as far as they are read; and what damaged frames have that wait for a right copy: until their octets are
+        # acknowledged, or if there is time to the end, when none will come.
+        self.sums, self.damaged, self.is_patient, self.is_final = Sums(), [], False, False
         # The frames with urgent data.
         self.urgent = set()
         # The frames and times at which it was ended or reset, and how many octets of a frame were captured, if not all.
@@ -169,7 +170,7 @@ class Direction:
             self.held += len(octets)
 
     def put_aside(self, segment):
-        """Keeps the octets of a damaged frame. They pass only if they are acknowledged, and no right copy of them came before."""
+        """Keeps the octets of a damaged frame. They pass only if no right copy of them comes."""
         self.is_here = True
         if self.next is None:
             self.next = segment.sequence
@@ -228,12 +229,12 @@ class Direction:
         return self.damaged_head() if self.damaged else None
 
     def damaged_head(self):
-        """The next octets, if only a damaged frame has them, though they are acknowledged or nothing more comes; or None."""
+        """The next octets, if only a damaged frame has them, and a right copy won't come; or None."""
         for chunk in [each for each in self.damaged if each.end <= self.count]:
             self.damaged.remove(chunk)
             self.held -= len(chunk.octets)
         chunk = self.damaged_next()
-        return chunk if chunk and (self.is_final or self.heard >= chunk.end) else None
+        return chunk if chunk and (self.is_final or self.heard >= chunk.end and not self.is_patient) else None
 
     def damaged_next(self):
         """The octets of a damaged frame that are the next ones, or None."""

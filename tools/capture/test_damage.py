@@ -257,6 +257,14 @@ class Copies(Ways):
         for parts in (((0, 20), (20, 101)), ((0, 60), (30, 101)), ((50, 101), (0, 50))):
             self.is_blamed(self.sent_again(parts), by_tshark=False)
 
+    def test_a_copy_that_is_captured_after_its_acknowledgement(self):
+        """As mirror ports do it, and captures of two places that are merged."""
+        made = self.sent_again()
+        for place in (10, 11, 12):
+            moved = made[:9] + made[10:place + 1] + [made[9]] + made[place + 1:]
+            found = self.of_file(pcap_of(moved))
+            self.assertEqual((found.status(), found.limit), (1, None))
+
     def test_a_copy_of_a_part(self):
         """The rest isn't surely what was sent."""
         self.is_not_blamed(self.sent_again(((0, 60),)), DAMAGED.format(9, "left"))
