@@ -7,7 +7,7 @@ import stat
 import sys
 import tempfile
 
-from . import frames, kinds, streams, tshark
+from . import damage, frames, kinds, streams, tshark
 from .middle import Middle
 from .tshark import BadInput
 
@@ -136,15 +136,17 @@ def missing(name, number):
     return f"{shown(name)}: stream {number} carries no TPKT"
 
 
-def chosen(name, port, number):
-    """The stream with a number, or if that is None the only one of which something can be read; from the middle if it began before."""
+def chosen(name, port, number, has_sums=True):
+    """The stream with a number, or if that is None the only one of which something can be read; from the middle if it began before. With
+    `has_sums` right copies of damaged frames count."""
     found = found_by(name, port, None if number is None else [number])
     whole = [stream for stream in found if number is not None or not is_foreign(stream)]
     if not whole:
         raise BadInput(f"{shown(name)}: stream {found[0].number}: {why_not(found[0])}")
     if len(whole) > 1:
         raise BadInput(f"{shown(name)}: name one of the streams {', '.join(str(it.number) for it in whole)} by --stream")
-    return viewed(whole[0])
+    whole[0].has_sums = has_sums
+    return viewed(damage.mended(whole[0]))
 
 
 def viewed(stream):

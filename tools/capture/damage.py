@@ -39,7 +39,7 @@ def rejoined(stream):
 def joined(stream, segments):
     """The stream of which checksums are known, from the segments of its file."""
     made = Stream(stream.number, stream.ends)
-    made.path, made.until, made.is_asked = stream.path, stream.until, stream.is_asked
+    made.path, made.until, made.is_asked, made.has_sums = stream.path, stream.until, stream.is_asked, stream.has_sums
     for end, direction in made.directions.items():
         direction.sums, direction.is_patient = stream.directions[end].sums, True
     for segment in segments:

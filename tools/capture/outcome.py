@@ -90,8 +90,8 @@ def of(pieces):
 
 
 def unfollowed(pieces, fields):
-    """Of a line of `osi judge` that says so only because it doesn't follow what X.225 allows: the place of the piece with which that begins,
-    and what it is; or None."""
+    """If a line of `osi judge` tells a break only because it doesn't follow what X.225 allows: the place of the piece with which that
+    begins, and what it is; else None."""
     said, follower = said_of(fields), Follower()
     for place, (side, piece) in enumerate(pieces if said in UNFOLLOWED else ()):
         follower.take(side, piece)

@@ -10,7 +10,8 @@ from unittest import mock
 
 from ladders import judged, reading, script, tapped
 
-from . import asking, damage, frames, judging, pcap, processes, program, reports, sums, test_honest, test_judging, test_unsure, tshark, watching
+from . import (asking, damage, frames, judging, pcap, processes, program, reports, sums, test_honest, test_judging, test_unsure, tshark,
+               watching)
 from .test_frames import AC, ACK, CC, CN, CR, DN, DT, IPV4, IPV6, SYN, Frames, Room, data, pcap_of
 from .test_unsure import blamed
 
@@ -279,7 +280,8 @@ class Copies(Ways):
         made = Frames().begin()
         made.frames.append(made.segment("left", CR))
         made.send("left", CR).send("right", CC).send("left", CN).send("right", AC).send("left", WRONG).put("right")
-        self.is_blamed([spoiled(right(frame), random.Random(11)) if place == 3 else right(frame) for place, frame in enumerate(made.frames)])
+        self.is_blamed([spoiled(right(frame), random.Random(11)) if place == 4 else right(frame) for place, frame in
+                        enumerate(made.frames, 1)])
 
     def test_who_keeps_the_protocol_is_judged_to_the_end(self):
         """Also if only the damaged copy is here."""

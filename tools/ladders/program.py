@@ -182,7 +182,7 @@ def named_listings(options):
 def source_of(name, options):
     """A capture, and the title in its file, if it has one; or None and a text that is no capture."""
     path = asking.local(name or "-")
-    source = reading.by_name(path, options.port, options.stream, options.upper)
+    source = reading.by_name(path, options.port, options.stream, options.upper, not options.ignore_checksums)
     if source is not None:
         return source, None
     if options.stream is not None:

@@ -51,12 +51,12 @@ def pieces_of(stream):
     return [tapped.Piece(side, piece.octets, piece.frame, piece.time) for side, piece in stream.by_side()]
 
 
-def by_name(name, port, stream, has_upper=False):
+def by_name(name, port, stream, has_upper=False, has_sums=True):
     """A capture of a network, or the files NAME.left, NAME.right and NAME.follow. None if the name is that of a text."""
     if name in (None, "-"):
         return None
     if is_network(name):
-        return of_network(asking.chosen(name, port, stream), has_upper)
+        return of_network(asking.chosen(name, port, stream, has_sums), has_upper)
     found = None if os.path.exists(name) else texts.read(name)
     if found and not found.is_ordered:
         raise BadInput(f"{name}: there is no {name}.follow, and the files don't say when octets passed (name them by --left and --right)")
@@ -81,7 +81,6 @@ def surely(source, judge, has_sums):
     doesn't follow."""
     if source.stream is not None:
         source.stream.has_sums = has_sums
-        source = source.of(damage.mended(source.stream))
     why = asking.why_not(source.stream or texts.Text([(each.frame, each.time, each.side, each.octets) for each in source.pieces]))
     if why:
         return source, lambda text: f"not judged: {why}\n"
