@@ -37,13 +37,13 @@ def distance(first, second):
 
 class Chunk:
     """Octets of a segment that have not passed: their place in the direction, and what the segment acknowledges. Of a segment of one
-    octet also its signs of being data."""
+    octet also its signs of being data; of a damaged frame since when its octets are known to be acknowledged."""
 
-    __slots__ = ("start", "octets", "acknowledged", "frame", "time", "signs")
+    __slots__ = ("start", "octets", "acknowledged", "frame", "time", "signs", "since")
 
     def __init__(self, start, segment, octets, signs):
         self.start, self.octets, self.acknowledged = start, octets, segment.acknowledged
-        self.frame, self.time, self.signs = segment.frame, segment.time, signs
+        self.frame, self.time, self.signs, self.since = segment.frame, segment.time, signs, None
 
     def __lt__(self, other):
         return (self.start, self.frame) < (other.start, other.frame)
@@ -73,9 +73,9 @@ class Direction:
         self.passed, self.starts, self.forgotten, self.doubt = [], [], 0, None
         # The frames of octets that may be those of keepalives, by their places; and if the last octet came alone, the signs of its segment.
         self.alone, self.signs = {}, None
-        # The checksums, as far as they are read; and what damaged frames have that wait for a right copy: until their octets are
-        # acknowledged, or if there is time to the end, when none will come.
-        self.sums, self.damaged, self.is_patient, self.is_final = Sums(), [], False, False
+        # The checksums, as far as they are read; and what damaged frames have that wait for a right copy: until a while after their octets
+        # were acknowledged, or if there is time to the end, when none will come. `now` is the time, if there are any.
+        self.sums, self.damaged, self.is_patient, self.is_final, self.now = Sums(), [], False, False, None
         # The frames with urgent data.
         self.urgent = set()
         # The frames and times at which it was ended or reset, and how many octets of a frame were captured, if not all.
@@ -234,7 +234,10 @@ class Direction:
             self.damaged.remove(chunk)
             self.held -= len(chunk.octets)
         chunk = self.damaged_next()
-        return chunk if chunk and (self.is_final or self.heard >= chunk.end and not self.is_patient) else None
+        if chunk and chunk.since is None and self.heard >= chunk.end:
+            chunk.since = self.now
+        is_late = chunk and not self.is_patient and chunk.since is not None and self.now - chunk.since > QUIET
+        return chunk if chunk and (self.is_final or is_late) else None
 
     def damaged_next(self):
         """The octets of a damaged frame that are the next ones, or None."""

@@ -204,6 +204,7 @@ class Stream:
         if segment.octets and not segment.is_reset:
             self.take_octets(segment, own, far)
         if own.waiting or far.waiting or own.damaged or far.damaged:
+            own.now = far.now = segment.time
             self.pass_on()
         if own.held > MOST_WAITING:
             self.stop()
