@@ -176,7 +176,7 @@ class Direction:
             self.next = segment.sequence
         chunk = Chunk(self.place(segment.sequence), segment, segment.octets, None)
         if chunk.end > self.count:
-            self.damaged.append(chunk)
+            heapq.heappush(self.damaged, chunk)
             self.held += len(chunk.octets)
 
     def waits(self):
@@ -230,9 +230,8 @@ class Direction:
 
     def damaged_head(self):
         """The next octets, if only a damaged frame has them, and a right copy won't come; or None."""
-        for chunk in [each for each in self.damaged if each.end <= self.count]:
-            self.damaged.remove(chunk)
-            self.held -= len(chunk.octets)
+        while self.damaged and self.damaged[0].end <= self.count:
+            self.held -= len(heapq.heappop(self.damaged).octets)
         chunk = self.damaged_next()
         if chunk and chunk.since is None and self.heard >= chunk.end:
             chunk.since = self.now
@@ -241,14 +240,15 @@ class Direction:
 
     def damaged_next(self):
         """The octets of a damaged frame that are the next ones, or None."""
-        return next((chunk for chunk in self.damaged if chunk.start <= self.count < chunk.end
-                     and (self.last is None or chunk.end <= self.last)), None)
+        chunk = self.damaged[0] if self.damaged else None
+        is_next = chunk and chunk.start <= self.count < chunk.end and (self.last is None or chunk.end <= self.last)
+        return chunk if is_next else None
 
     def let_pass(self):
         """The octets of the head that had not passed, as a piece; they have now."""
         chunk = self.head()
-        if chunk in self.damaged:
-            self.damaged.remove(chunk)
+        if self.damaged and chunk is self.damaged[0]:
+            heapq.heappop(self.damaged)
         else:
             heapq.heappop(self.waiting)
             self.compare(chunk.start, chunk.octets, chunk.frame)
