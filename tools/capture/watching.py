@@ -610,7 +610,7 @@ def add_words(made):
     source.add_argument("-r", "--file", help="a pcap or pcapng, or - for standard input")
     source.add_argument("named", metavar="FILE", nargs="?", help="the same")
     judging.add_streams(made)
-    made.add_argument("--json", action="store_true", help="an object for each line")
+    made.add_argument("--json", action="store_true", help="an object for each line (docs/judge.schema.json)")
     made.add_argument("--by", choices=("library", "program"), help="who judges (the library, if the package osi_session is there)")
     made.add_argument("--every", type=float, default=1.0, metavar="SECONDS", help="how often it is looked at what the programs say (1)")
     made.add_argument("--idle", type=float, default=IDLE, metavar="SECONDS",
