@@ -81,9 +81,10 @@ def annotate(asked):
     asked.files = [asked.file]
     progress, path = Progress(sys.stderr, "osi-capture"), local(asked.file)
     found = judging.streams_in(path, asked)
+    missing = judging.tell_missing(asked.file, found, asked)
     try:
         reports = [judging.told(stream, asked, listing.program(asked.osi), progress, asked.file) for stream in found]
     finally:
         progress.end()
     written(path, asked.output, [comment for report in reports for comment in comments_of(report)])
-    return judging.status_of_all([report.status if report.judged else None for report in reports])
+    return judging.status_of_all(missing + [report.status if report.judged else None for report in reports])

@@ -7,7 +7,7 @@ import stat
 import sys
 import tempfile
 
-from . import frames, kinds, streams, tshark
+from . import damage, frames, kinds, streams, tshark
 from .middle import Middle
 from .tshark import BadInput
 
@@ -122,25 +122,31 @@ def named(end):
 def found_by(name, port, numbers, hosts=()):
     """The streams with TPKT of a capture; only those with these numbers and of these hosts, if any are named."""
     found = found_in(name, port)
-    missing = set(numbers or ()) - {stream.number for stream in found}
-    if missing:
-        raise BadInput(f"{shown(name)}: stream {min(missing)} carries no TPKT")
-    wanted = [stream for stream in found if (not numbers or stream.number in numbers)
-              and (not hosts or any(end[0] in hosts for end in stream.ends))]
+    named_ones = [stream for stream in found if not numbers or stream.number in numbers]
+    wanted = [stream for stream in named_ones if not hosts or any(end[0] in hosts for end in stream.ends)]
+    if not named_ones:
+        raise BadInput(missing(name, min(numbers)))
     if not wanted:
         raise BadInput(f"{shown(name)}: no stream of {' or '.join(hosts)} carries TPKT")
     return wanted
 
 
-def chosen(name, port, number):
-    """The stream with a number, or if that is None the only one of which something can be read; from the middle if it began before."""
+def missing(name, number):
+    """What is said of a stream that was asked for, and isn't among those with TPKT."""
+    return f"{shown(name)}: stream {number} carries no TPKT"
+
+
+def chosen(name, port, number, has_sums=True):
+    """The stream with a number, or if that is None the only one of which something can be read; from the middle if it began before. With
+    `has_sums` right copies of damaged frames count."""
     found = found_by(name, port, None if number is None else [number])
     whole = [stream for stream in found if number is not None or not is_foreign(stream)]
     if not whole:
         raise BadInput(f"{shown(name)}: stream {found[0].number}: {why_not(found[0])}")
     if len(whole) > 1:
         raise BadInput(f"{shown(name)}: name one of the streams {', '.join(str(it.number) for it in whole)} by --stream")
-    return viewed(whole[0])
+    whole[0].has_sums = has_sums
+    return viewed(damage.mended(whole[0]))
 
 
 def viewed(stream):

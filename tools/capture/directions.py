@@ -15,6 +15,8 @@ QUIET = 1.0
 # Another segment of one octet is data if it has two of three signs: its sender pushed it (PSH), it came within that time after another
 # segment of the stream, and the octet before or after it came alone, too. If its octet had been acknowledged, it would need more.
 SIGNS, KNOWN = 2, -9
+# How many frames with urgent data are remembered of a direction.
+MOST_URGENT = 4_096
 # How far ahead of the octets that passed the number of an empty segment may be.
 NEAR = 16_777_216
 
@@ -35,13 +37,13 @@ def distance(first, second):
 
 class Chunk:
     """Octets of a segment that have not passed: their place in the direction, and what the segment acknowledges. Of a segment of one
-    octet also its signs of being data."""
+    octet also its signs of being data; of a damaged frame since when its octets are known to be acknowledged."""
 
-    __slots__ = ("start", "octets", "acknowledged", "frame", "time", "signs")
+    __slots__ = ("start", "octets", "acknowledged", "frame", "time", "signs", "since")
 
     def __init__(self, start, segment, octets, signs):
         self.start, self.octets, self.acknowledged = start, octets, segment.acknowledged
-        self.frame, self.time, self.signs = segment.frame, segment.time, signs
+        self.frame, self.time, self.signs, self.since = segment.frame, segment.time, signs, None
 
     def __lt__(self, other):
         return (self.start, self.frame) < (other.start, other.frame)
@@ -71,8 +73,11 @@ class Direction:
         self.passed, self.starts, self.forgotten, self.doubt = [], [], 0, None
         # The frames of octets that may be those of keepalives, by their places; and if the last octet came alone, the signs of its segment.
         self.alone, self.signs = {}, None
-        # The checksums, as far as they are read.
-        self.sums = Sums()
+        # The checksums, as far as they are read; and what damaged frames have that wait for a right copy: until a while after their octets
+        # were acknowledged, or if there is time to the end, when none will come. `now` is the time, if there are any.
+        self.sums, self.damaged, self.is_patient, self.is_final, self.now = Sums(), [], False, False, None
+        # The frames with urgent data.
+        self.urgent = set()
         # The frames and times at which it was ended or reset, and how many octets of a frame were captured, if not all.
         self.ended = self.reset = self.cut = None
 
@@ -105,8 +110,8 @@ class Direction:
         if segment.is_last:
             self.ended = self.ended or (segment.frame, segment.time)
             self.end_at(self.place(segment.sequence + segment.is_first + len(segment.octets) + segment.missing))
-        if segment.sum is not None:
-            self.sums.note(segment.frame, segment.sum, len(segment.octets))
+        if segment.is_urgent and segment.octets and len(self.urgent) < MOST_URGENT:
+            self.urgent.add(segment.frame)
         if segment.missing:
             self.cut = self.cut or segment.captured
             self.hear(segment.sequence + len(segment.octets) + segment.missing, segment.frame)
@@ -120,7 +125,7 @@ class Direction:
             for chunk in self.waiting:
                 chunk.octets = self.up_to_end(chunk.start, chunk.octets, chunk.frame)
             self.waiting = [chunk for chunk in self.waiting if chunk.octets]
-            self.held = sum(len(chunk.octets) for chunk in self.waiting)
+            self.held = sum(len(chunk.octets) for chunk in self.waiting + self.damaged)
             heapq.heapify(self.waiting)
 
     def up_to_end(self, place, octets, frame):
@@ -163,6 +168,20 @@ class Direction:
         if octets and place + len(octets) > self.count and not self.is_keepalive(place, segment):
             heapq.heappush(self.waiting, Chunk(place, segment, octets, self.signs_of(segment)))
             self.held += len(octets)
+
+    def put_aside(self, segment):
+        """Keeps the octets of a damaged frame. They pass only if no right copy of them comes."""
+        self.is_here = True
+        if self.next is None:
+            self.next = segment.sequence
+        chunk = Chunk(self.place(segment.sequence), segment, segment.octets, None)
+        if chunk.end > self.count:
+            heapq.heappush(self.damaged, chunk)
+            self.held += len(chunk.octets)
+
+    def waits(self):
+        """Whether octets wait, of which some may pass."""
+        return bool(self.waiting or self.damaged)
 
     def signs_of(self, segment):
         """Of a segment of one octet, how many signs of being data it has by itself; of any other one None."""
@@ -207,16 +226,34 @@ class Direction:
                 return chunk
             self.held -= len(heapq.heappop(self.waiting).octets)
             self.compare(chunk.start, chunk.octets, chunk.frame)
-        return None
+        return self.damaged_head() if self.damaged else None
+
+    def damaged_head(self):
+        """The next octets, if only a damaged frame has them, and a right copy won't come; or None."""
+        while self.damaged and self.damaged[0].end <= self.count:
+            self.held -= len(heapq.heappop(self.damaged).octets)
+        chunk = self.damaged_next()
+        if chunk and chunk.since is None and self.heard >= chunk.end:
+            chunk.since = self.now
+        is_late = chunk and not self.is_patient and chunk.since is not None and self.now - chunk.since > QUIET
+        return chunk if chunk and (self.is_final or is_late) else None
+
+    def damaged_next(self):
+        """The octets of a damaged frame that are the next ones, or None."""
+        chunk = self.damaged[0] if self.damaged else None
+        is_next = chunk and chunk.start <= self.count < chunk.end and (self.last is None or chunk.end <= self.last)
+        return chunk if is_next else None
 
     def let_pass(self):
         """The octets of the head that had not passed, as a piece; they have now."""
-        chunk = heapq.heappop(self.waiting)
+        chunk = self.head()
+        if self.damaged and chunk is self.damaged[0]:
+            heapq.heappop(self.damaged)
+        else:
+            heapq.heappop(self.waiting)
+            self.compare(chunk.start, chunk.octets, chunk.frame)
         self.held -= len(chunk.octets)
-        octets = chunk.octets
-        if chunk.start < self.count:
-            self.compare(chunk.start, octets, chunk.frame)
-            octets = octets[self.count - chunk.start:]
+        octets = chunk.octets[self.count - chunk.start:]
         piece = Piece(chunk.frame, chunk.time, self.count, octets)
         self.go_on(piece, chunk.signs)
         return piece

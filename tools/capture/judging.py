@@ -8,7 +8,8 @@ from ladders import drawing, judged, tapped, verdicts
 from ladders.program import Progress
 
 from . import damage, listing, middle, outcome, reports, streams, texts, tshark
-from .asking import PORT, Words, found_by, line_of, named, of_nothing, shown as name_shown, status_of, viewed, why_not, write_all, local
+from .asking import (PORT, Words, found_by, line_of, local, missing, named, of_nothing, shown as name_shown, status_of, viewed, why_not,
+                     write_all)
 from .streams import SIDES
 from .tshark import BadInput
 
@@ -79,7 +80,17 @@ def streams_in(path, asked):
     found = found_by(path, asked.port, asked.stream, asked.host)
     for stream in found:
         stream.has_sums = not asked.ignore_checksums
-    return found
+    return [damage.mended(stream) for stream in found]
+
+
+def tell_missing(name, found, asked):
+    """Says which of the streams that were asked for by their numbers aren't in a file; a status for each. (A text has no number.)"""
+    numbers = set(asked.stream or ()) - {stream.number for stream in found}
+    if any(isinstance(stream, texts.Text) for stream in found):
+        return []
+    for number in sorted(numbers):
+        print(f"{os.path.basename(sys.argv[0])}: {missing(name, number)}", file=sys.stderr)
+    return [None] * len(numbers)
 
 
 def name_of(stream):
@@ -114,16 +125,23 @@ class Judged:
     """A stream, and the verdict that `osi judge` prints of it. `limit` is why it isn't judged to its end, if it isn't."""
 
     def __init__(self, stream, judge):
-        self.stream = stream
-        self.parts = list(stream.by_side())
-        gap = stream.gap() if hasattr(stream, "gap") else None
-        self.limit = f"judged up to {gap}" if gap else None
-        self.gap = gap
-        self.verdict = verdicts.printed(judge(Parts(self.parts)))
+        self.take(stream, judge)
+        if self.verdict.first and isinstance(stream, streams.Stream):
+            again = damage.rejoined(self.stream)
+            if again is not self.stream:
+                self.take(again, judge)
         if self.verdict.first and isinstance(stream, streams.Stream):
             self.leave_doubtful(judge)
-        if self.verdict.first and isinstance(stream, streams.Stream) and outcome.is_second_connect(self.verdict.last):
-            self.leave_another(judge)
+        if self.verdict.first:
+            self.leave_unfollowed(judge)
+
+    def take(self, stream, judge):
+        """Takes a stream, and the verdict on it."""
+        self.stream = stream
+        self.parts = list(stream.by_side())
+        self.gap = stream.gap() if hasattr(stream, "gap") else None
+        self.limit = f"judged up to {self.gap}" if self.gap else None
+        self.verdict = verdicts.printed(judge(Parts(self.parts)))
 
     def leave_doubtful(self, judge):
         """Judges only what passed before the first frame that was damaged, or whose octet may be that of a keepalive, if there is one."""
@@ -134,9 +152,9 @@ class Judged:
         if self.gap.side not in {side for side, _ in self.parts}:
             raise BadInput(of_nothing(self.gap))
 
-    def leave_another(self, judge):
-        """Judges only what passed before another session on the same transport connection, if there is one."""
-        found = outcome.another(self.parts)
+    def leave_unfollowed(self, judge):
+        """Judges only what passed before what `osi judge` doesn't follow, though X.225 allows it."""
+        found = outcome.unfollowed(self.parts, self.verdict.last)
         if found:
             self.end_at(*found, judge)
 
@@ -242,6 +260,7 @@ class Report:
     def judge(self, osi, progress):
         """Judges the stream."""
         self.judged = Judged(self.stream, judged.runner(osi, progress.running))
+        self.stream = self.judged.stream
         self.status = self.judged.status()
 
     def draw(self, title, osi, progress):
@@ -297,7 +316,8 @@ def run(asked, progress):
     osi, statuses = listing.program(asked.osi), []
     for name in asked.files:
         try:
-            statuses += [one(stream, asked, osi, progress, name) for stream in streams_of(name, asked)]
+            found = streams_of(name, asked)
+            statuses += tell_missing(name, found, asked) + [one(stream, asked, osi, progress, name) for stream in found]
         except BadInput as error:
             if len(asked.files) == 1:
                 raise

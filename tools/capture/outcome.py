@@ -2,7 +2,7 @@
 from collections import deque
 
 from . import units
-from .streams import SIDES, Another
+from .streams import SIDES, Another, Collision
 
 # X.224 section 13.5.3, and X.225 section 8.3.5; docs/TROUBLESHOOTING.md says what to do.
 OF_TRANSPORT = {0: "no reason is given", 1: "congestion", 2: "nobody is attached to this address", 3: "the address is unknown",
@@ -15,6 +15,10 @@ OF_SESSION = {0: "by the called user", 1: "by the called user: congestion", 2: "
 OF_ERRORS = {0: "no reason is given", 1: "invalid parameter code", 2: "invalid TPDU type", 3: "invalid parameter value"}
 UNANSWERED = ", and there is no answer"
 USER, PROTOCOL_ERROR, NO_REASON, RESTRICTION = 2, 4, 8, 16
+
+
+# What `osi judge` says of the CN of another session on a transport connection, and of the answers to FNs of both sides.
+SECOND_CONNECT, SECOND_RELEASE = UNFOLLOWED = ("Connect", "BadState"), ("ReleaseAccept", "BadState")
 
 
 class Ended:
@@ -39,14 +43,17 @@ class Follower:
     def __init__(self):
         self.readers = {side: units.Reader() for side in SIDES}
         self.begun, self.found, self.is_open = [], deque(maxlen=self.MOST), False
-        # Whether a session has ended and its transport connection is kept for another one; and where that one begins: a side and a frame.
-        self.keeps, self.is_ended, self.again = False, False, None
+        # Whether a session has ended and its transport connection is kept for another one; the side that asks for the release.
+        self.keeps, self.is_ended, self.asking = False, False, None
+        # What `osi judge` doesn't follow, though X.225 allows it: where it begins, by what it says of the units after that.
+        self.unfollowed = {}
 
     def take(self, side, piece):
         """Takes octets that have passed."""
         for unit in self.readers[side].feed(piece.octets):
             self.is_open = self.is_open or unit.name == "CC"
             self.look_for_another(side, piece, unit)
+            self.look_for_collision(side, piece, unit)
             (self.begun if len(self.begun) < self.MOST else self.found).append(((piece.frame, piece.time), side, unit))
 
     def look_for_another(self, side, piece, unit):
@@ -56,8 +63,16 @@ class Follower:
         if unit.name in ("RF", "DN", "AA"):
             self.is_ended = True
         if unit.name == "CN":
-            self.again = self.again or (side, piece.frame) if self.is_ended and self.keeps else self.again
+            if self.is_ended and self.keeps:
+                self.unfollowed.setdefault(SECOND_CONNECT, Another(side, piece.frame, unit.start))
             self.is_ended = self.keeps = False
+
+    def look_for_collision(self, side, piece, unit):
+        """Notes where a side asks for the release, although the other one does (X.225, Vcoll of annex A)."""
+        if unit.name == "FN" and self.asking not in (None, side):
+            self.unfollowed.setdefault(SECOND_RELEASE, Collision(side, piece.frame, unit.start))
+        if unit.name in ("FN", "DN", "NF", "CN"):
+            self.asking = side if unit.name == "FN" else None
 
     def ended(self):
         """How the session or its transport ended; None if it didn't."""
@@ -74,19 +89,20 @@ def of(pieces):
     return follower.ended()
 
 
-def another(pieces):
-    """The place of the piece in which another session begins on the transport connection of one that has ended, and what it is; or None."""
-    follower = Follower()
-    for place, (side, piece) in enumerate(pieces):
+def unfollowed(pieces, fields):
+    """If a line of `osi judge` tells a break only because it doesn't follow what X.225 allows: the place of the piece with which that
+    begins, and what it is; else None."""
+    said, follower = said_of(fields), Follower()
+    for place, (side, piece) in enumerate(pieces if said in UNFOLLOWED else ()):
         follower.take(side, piece)
-        if follower.again:
-            return place, Another(*follower.again)
+        if said in follower.unfollowed:
+            return place, follower.unfollowed[said]
     return None
 
 
-def is_second_connect(fields):
-    """Whether a line of `osi judge` says that a side sent a CN to which the session isn't open."""
-    return (fields.get("what"), fields.get("rule")) == ("Connect", "BadState")
+def said_of(fields):
+    """What a line of `osi judge` says of a break."""
+    return fields.get("what"), fields.get("rule")
 
 
 def first(names, *wanted):

@@ -118,33 +118,34 @@ class Programs:
 
 
 class Places:
-    """When the last packets of a direction passed, by the octet at which each begins: its end, the frame and the time."""
+    """When the last packets of a direction passed, by the octet at which each begins: its end, the frame and the time, and how many pieces
+    of both directions had passed by then."""
 
     def __init__(self):
         self.begin, self.head, self.first, self.is_over, self.found = 0, b"", None, False, OrderedDict()
 
-    def take(self, piece):
-        """Takes the next octets."""
+    def take(self, piece, count=0):
+        """Takes the next octets, which are the last of so many pieces of both directions."""
         at, end = piece.start, piece.start + len(piece.octets)
         while at < end and not self.is_over:
             if len(self.head) < 4:
-                self.first = self.first if self.head else (self.begin + 1, piece.frame, piece.time)
+                self.first = self.first if self.head else (self.begin + 1, piece.frame, piece.time, count)
                 more = piece.octets[at - piece.start:at - piece.start + 4 - len(self.head)]
                 self.head, at = self.head + more, at + len(more)
                 self.is_over = len(self.head) == 4 and not is_packet(self.head)
             else:
                 at = min(end, self.begin + int.from_bytes(self.head[2:4], "big"))
-                self.pass_by(at, piece)
+                self.pass_by(at, piece, count)
 
-    def pass_by(self, at, piece):
+    def pass_by(self, at, piece, count):
         """Notes the packet, if it ends there."""
         if at < self.begin + int.from_bytes(self.head[2:4], "big"):
             return
-        self.found[self.begin] = at, piece.frame, piece.time
+        self.found[self.begin] = at, piece.frame, piece.time, count
         self.begin, self.head = at, b""
         if len(self.found) > MOST_PLACES:
             self.found.popitem(last=False)
 
     def of(self, begin):
-        """The end, the frame and the time of a packet, or of the octet at which none begins; None if it isn't known any more."""
+        """What is known of a packet, or of the octet at which none begins; None if it isn't known any more."""
         return self.found.get(begin) or (self.first if begin == self.begin else None)

@@ -1,4 +1,4 @@
-"""What `osi-capture judge --json` says of a stream, as an object of docs/judge.schema.json."""
+"""What `osi-capture judge --json` says of a stream and `osi-capture watch --json` of a line, as objects of docs/judge.schema.json."""
 from ladders import rules, verdicts
 
 from . import listing, texts
@@ -33,9 +33,30 @@ def break_of(judged, side):
     found = judged.verdict.break_of(side)
     if not found:
         return None
-    frame, time = judged.place(side) or (None, None)
-    return {"side": side, "octet": int(found["offset"]), "frame": frame, "time": None if time is None else round(time, 6),
-            "what": found["what"], "rule": found["rule"], "clause": rules.clause_of(found["what"], found["rule"])}
+    return told(found, side, *(judged.place(side) or (None, None)))
+
+
+def told(fields, side, frame, time):
+    """The break of a side that a line of `osi judge` tells."""
+    return {"side": side, "octet": int(fields["offset"]), "frame": frame, "time": None if time is None else round(time, 6),
+            "what": fields["what"], "rule": fields["rule"], "clause": rules.clause_of(fields["what"], fields["rule"])}
+
+
+class Line(str):
+    """A line of a watch; and the break that it is about, or None."""
+
+    found = None
+
+    def about(self, found):
+        """The line with its break, an object with a sentence."""
+        self.found = found
+        return self
+
+
+def of_line(watched, name, line):
+    """The object of a line of a watch on a stream."""
+    ends = {side: named(end) for side, end in watched.by_end().items()}
+    return {"stream": watched.number, "name": name, **ends, "line": line, "break": getattr(line, "found", None)}
 
 
 def first_of(judged):

@@ -74,6 +74,16 @@ class Alone(Gap):
         return f"frame {self.frame}, whose one octet may be that of a keepalive of {self.side}"
 
 
+class Urgent(Gap):
+    """Octets of a segment with urgent data, of which one may be no part of what is received (RFC 6093): their side, and the frame."""
+
+    def __init__(self, side, frame):
+        super().__init__(side, None, frame, None)
+
+    def __str__(self):
+        return f"frame {self.frame}, in which {self.side} sent urgent data of TCP"
+
+
 class After(Gap):
     """Octets after the end of a direction: its side, and the frame."""
 
@@ -87,11 +97,22 @@ class After(Gap):
 class Another(Gap):
     """A session on the transport connection of an earlier one, which X.225 allows and `osi judge` doesn't read: its side, and the frame."""
 
-    def __init__(self, side, frame):
+    said = "opens another session on the same transport connection"
+
+    def __init__(self, side, frame, octet):
         super().__init__(side, None, frame, None)
+        self.octet = octet
 
     def __str__(self):
-        return f"frame {self.frame}, with which {self.side} opens another session on the same transport connection"
+        place = f"octet {self.octet} of {self.side}" if self.frame is None else f"frame {self.frame}"
+        return f"{place}, with which {self.side} {self.said}"
+
+
+class Collision(Another):
+    """A release that a side asks for, although the other one does, which X.225 allows in duplex and `osi judge` doesn't follow: its side,
+    and the frame."""
+
+    said = "asks for the release (FN), as the other side does"
 
 
 class Order(Gap):
@@ -168,6 +189,11 @@ class Stream:
     def go_on(self, segment, own, far):
         """Takes a segment, now that it is known where both directions begin."""
         # What acknowledges octets before the first one is of another connection (RFC 5961 section 5).
+        if (segment.sum is not None or own.sums.hurt) and self.is_damaged(segment, own):
+            own.put_aside(segment)
+            if far.waits():
+                self.pass_on()
+            return
         if segment.acknowledged is not None and far.acknowledge(segment.acknowledged, segment.frame, segment.time) < 0 and far.has_first:
             return
         own.note(segment)
@@ -177,10 +203,18 @@ class Stream:
         # A reset may have a text, which is no part of what was sent (RFC 1122, 4.2.2.12).
         if segment.octets and not segment.is_reset:
             self.take_octets(segment, own, far)
-        if own.waiting or far.waiting:
+        if own.waiting or far.waiting or own.damaged or far.damaged:
+            own.now = far.now = segment.time
             self.pass_on()
         if own.held > MOST_WAITING:
             self.stop()
+
+    @staticmethod
+    def is_damaged(segment, own):
+        """Whether a segment with octets was damaged on its way. (One that ends the connection is taken as it is.)"""
+        if segment.sum is not None:
+            own.sums.note(segment.frame, segment.sum, len(segment.octets))
+        return segment.octets and own.sums.is_certain(segment.frame) and not (segment.is_first or segment.is_last or segment.is_reset)
 
     def look_again(self, segment, own):
         """Compares what is sent again with what passed, of a stream that is over."""
@@ -212,7 +246,7 @@ class Stream:
     def may_pass(self, end, far):
         """Lets the next octets of an end pass, if they are there and everything has passed that they acknowledge; whether they did."""
         direction = self.directions[end]
-        chunk = direction.head() if direction.waiting else None
+        chunk = direction.head() if direction.waits() else None
         if chunk is None or not self.directions[far].has_passed(chunk.acknowledged):
             return False
         self.note_piece(end, direction.let_pass())
@@ -229,8 +263,12 @@ class Stream:
         """After the last segment: if only one direction is here, it passes without the octets that it acknowledges."""
         if self.early is not None:
             self.settle()
+        for direction in self.directions.values():
+            direction.is_final = True
+        if not self.is_over:
+            self.pass_on()
         for end in self.ends if self.is_alone() else ():
-            while self.directions[end].waiting and self.directions[end].head():
+            while self.directions[end].head():
                 self.note_piece(end, self.directions[end].let_pass())
         self.stop()
 
@@ -292,7 +330,10 @@ class Stream:
             if self.directions[end].after:
                 found.append(After(side, self.directions[end].after))
             lost = self.lost(end) if self.directions[end].is_here else 0
-            if lost:
+            damaged = self.directions[end].damaged_next() if lost else None
+            if damaged:
+                found.append(Damage(side, damaged.frame, self.directions[end].sums))
+            elif lost:
                 found.append(Gap(side, lost, self.directions[end].first_after(), self.directions[end].cut))
         return min(found, key=lambda gap: gap.frame, default=None)
 
@@ -305,6 +346,8 @@ class Stream:
         side, direction = SIDES[source != self.left()], self.directions[source]
         if direction.sums.is_hurt(piece.frame):
             return Damage(side, piece.frame, direction.sums)
+        if piece.frame in direction.urgent:
+            return Urgent(side, piece.frame)
         return Alone(side, piece.frame) if piece.start in direction.alone else None
 
     def lost(self, end):

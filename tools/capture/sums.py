@@ -79,6 +79,14 @@ class Sums:
         """Whether a frame was damaged on its way."""
         return frame in self.hurt or self.later is not None and frame >= self.later
 
+    def is_certain(self, frame):
+        """Whether a frame was damaged, and others of its direction show that checksums are to be trusted."""
+        return self.right > 0 and self.is_hurt(frame)
+
+    def has_damage(self):
+        """Whether some frame was damaged, and others show that checksums are to be trusted."""
+        return self.right > 0 and bool(self.hurt)
+
     def are_all_wrong(self):
         """Whether none is right, and there are some."""
         return self.right == 0 and self.wrong >= FEW

@@ -5,8 +5,10 @@ import io
 import unittest
 from unittest import mock
 
-from . import annotating, asking, frames, streams, watching
-from .test_frames import AC, ACK, CC, CN, CR, DT, SYN, Frames, Room, packet, pcap_of, stream_of, whole
+from ladders import judged as judged_by_ladders
+
+from . import annotating, asking, frames, judging, outcome, streams, texts, units, watching
+from .test_frames import AC, ACK, CC, CN, CR, DN, DT, FN, PUSH, SYN, Frames, Room, packet, pcap_of, stream_of, whole
 from .test_honest import Judge as Strict
 from .test_passing import call, judged, needs_osi
 
@@ -103,14 +105,14 @@ class Again(unittest.TestCase):
 
     @needs_osi
     def test_it_is_judged_up_to_there(self):
-        for units in self.KEPT:
-            frames_made, number = self.made(*units)
+        for each in self.KEPT:
+            frames_made, number = self.made(*each)
             report = judged(frames_made)
             said = f"judged up to frame {number}, with which left opens another session on the same transport connection"
-            self.assertEqual((report.status, report.judged.limit), (3, said), units)
-        for units in self.ENDED:
-            report = judged(self.made(*units)[0])
-            self.assertEqual((report.status, report.judged.limit), (1, None), units)
+            self.assertEqual((report.status, report.judged.limit), (3, said), each)
+        for each in self.ENDED:
+            report = judged(self.made(*each)[0])
+            self.assertEqual((report.status, report.judged.limit), (1, None), each)
 
     def test_a_watch_says_so(self):
         told, later = (mock.Mock(kind=mock.Mock(), rule=mock.Mock(), connection=None) for _ in range(2))
@@ -118,8 +120,8 @@ class Again(unittest.TestCase):
         later.__str__ = lambda each: "right 1 broke packet 70 Accept BadState"
         for each in (told, later):
             each.kind.name, each.rule.name = "BROKE", "BAD_STATE"
-        for units in self.KEPT + self.ENDED:
-            frames_made, number = self.made(*units)
+        for ended in self.KEPT + self.ENDED:
+            frames_made, number = self.made(*ended)
             found = []
 
             def feed(_, side, octets, found=found):
@@ -128,9 +130,45 @@ class Again(unittest.TestCase):
             with mock.patch.object(Judge, "feed", feed):
                 out = watched(frames_made)
             said = f"both kept the protocol, judged up to frame {number}, with which left opens another session" \
-                if units in self.KEPT else f"frame {number}, [0-9.]+ seconds: left 1 broke"
+                if ended in self.KEPT else f"frame {number}, [0-9.]+ seconds: left 1 broke"
             self.assertRegex(out, said)
-            self.assertEqual("broke" in out, units not in self.KEPT)
+            self.assertEqual("broke" in out, ended not in self.KEPT)
+
+
+class BothRelease(Room):
+    """Both sides ask for the release before they know of each other, as X.225 allows in duplex; then each agrees."""
+
+    @staticmethod
+    def made():
+        """The frames, and the number of that with the second FN."""
+        made = Frames().open()
+        made.put("left", FN, PUSH | ACK).put("right", FN, PUSH | ACK, acknowledged=made.next["left"] - len(FN))
+        return made.send("left", DN).send("right", DN).put("left").frames, 9
+
+    @needs_osi
+    def test_nobody_is_blamed(self):
+        made, number = self.made()
+        report = judged(made)
+        said = f"judged up to frame {number}, with which right asks for the release (FN), as the other side does"
+        self.assertEqual((report.status, report.judged.limit), (3, said))
+
+    @needs_osi
+    def test_nor_in_a_text(self):
+        rows = ("left", CR), ("right", CC), ("left", CN), ("right", AC), ("left", FN), ("right", FN), ("left", DN), ("right", DN)
+        text = "".join("\t" * (side == "right") + octets.hex() + "\n" for side, octets in rows)
+        stream = texts.read(self.write(text.encode(), "run"))
+        found = judging.Judged(stream, judged_by_ladders.runner(None, lambda name: lambda seconds: None))
+        said = "judged up to octet 35 of right, with which right asks for the release (FN), as the other side does"
+        self.assertEqual((found.status(), found.limit), (3, said))
+
+    def test_one_that_is_answered_is_none(self):
+        """A session that goes on, or one after another."""
+        for asked in ((("left", "FN"), ("right", "NF"), ("right", "FN")), (("left", "FN"), ("left", "FN")),
+                      (("left", "FN"), ("right", "DN"), ("left", "CN"), ("right", "FN"))):
+            follower = outcome.Follower()
+            for side, name in asked:
+                follower.look_for_collision(side, mock.Mock(frame=1), units.Unit(name, 0, 1))
+            self.assertEqual(follower.unfollowed, {}, asked)
 
 
 class Silent(Room):

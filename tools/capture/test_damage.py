@@ -10,7 +10,8 @@ from unittest import mock
 
 from ladders import judged, reading, script, tapped
 
-from . import asking, frames, judging, pcap, processes, program, reports, sums, test_honest, test_judging, test_unsure, tshark, watching
+from . import (asking, damage, frames, judging, pcap, processes, program, reports, sums, test_honest, test_judging, test_unsure, tshark,
+               watching)
 from .test_frames import AC, ACK, CC, CN, CR, DN, DT, IPV4, IPV6, SYN, Frames, Room, data, pcap_of
 from .test_unsure import blamed
 
@@ -80,11 +81,8 @@ def tunnelled(frame):
     return head + b"\0\0" + kind + frame
 
 
-class Judged(Room):
+class Ways(Room):
     """What is said of frames by a judge that blames whoever sends the word `wrong`: of a file, of one that tshark reads, of a tap."""
-
-    OTHERS = {"left": bytes((10, 1, 2, 3)), "right": bytes((10, 9, 8, 7))}
-    OTHERS_6 = {side: bytes.fromhex("fd00") + bytes(13) + bytes([last]) for side, last in (("left", 77), ("right", 99))}
 
     @staticmethod
     def ways(made, by_tshark=True):
@@ -97,7 +95,7 @@ class Judged(Room):
         """The judgement of a file."""
         stream = asking.found_in(self.write(content), 102)[0]
         stream.has_sums = has_sums
-        return judging.Judged(stream, blamed)
+        return judging.Judged(damage.mended(stream), blamed)
 
     def of_tap(self, made, has_sums=True):
         """The same while it passes."""
@@ -122,6 +120,13 @@ class Judged(Room):
             self.assertIsNone(reports.first_of(found))
         line, status = self.of_tap(made)
         self.assertEqual((line, status), (f"both kept the protocol, {limit}", 3))
+
+
+class Judged(Ways):
+    """Checksums of all kinds."""
+
+    OTHERS = {"left": bytes((10, 1, 2, 3)), "right": bytes((10, 9, 8, 7))}
+    OTHERS_6 = {side: bytes.fromhex("fd00") + bytes(13) + bytes([last]) for side, last in (("left", 77), ("right", 99))}
 
     def test_right_checksums(self):
         self.is_blamed(talk())
@@ -225,6 +230,68 @@ class Judged(Room):
             own[hurt] = spoiled(own[hurt], chance)
             found = self.of_file(pcap_of(own))
             self.assertEqual((found.status(), found.gap and found.gap.frame), (3, hurt + 1), seed)
+
+
+class Copies(Ways):
+    """A damaged frame ends no judgement if a right copy of its octets came before they were acknowledged."""
+
+    @staticmethod
+    def sent_again(parts=((0, 101),), hurt=True, is_first=False):
+        """A connection in which frame 9 was damaged and its octets came again in these parts, before or after the damaged copy; then left
+        breaks the protocol."""
+        made = Frames().open().send("right", DT)
+        start = made.next["left"]
+        copies = [made.segment("left", LATER[first:last], ACK, start + first) for first, last in parts]
+        made.send("left", LATER)
+        place = len(made.frames) - 1 if is_first else len(made.frames)
+        made.frames[place:place] = copies
+        made.send("right", DT).send("left", WRONG).send("right", DT).put("left")
+        chance = random.Random(9)
+        damaged = len(made.frames) - 5 if is_first else 8
+        return [spoiled(right(frame), chance) if hurt and place == damaged else right(frame) for place, frame in enumerate(made.frames)]
+
+    def test_a_whole_copy(self):
+        self.is_blamed(self.sent_again())
+        self.is_blamed(self.sent_again(is_first=True))
+
+    def test_copies_with_other_boundaries(self):
+        for parts in (((0, 20), (20, 101)), ((0, 60), (30, 101)), ((50, 101), (0, 50))):
+            self.is_blamed(self.sent_again(parts), by_tshark=False)
+
+    def test_a_copy_that_is_captured_after_its_acknowledgement(self):
+        """As mirror ports do it, and captures of two places that are merged."""
+        made = self.sent_again()
+        for place in (10, 11, 12):
+            moved = made[:9] + made[10:place + 1] + [made[9]] + made[place + 1:]
+            found = self.of_file(pcap_of(moved))
+            self.assertEqual((found.status(), found.limit), (1, None))
+
+    def test_a_copy_of_a_part(self):
+        """The rest isn't surely what was sent."""
+        self.is_not_blamed(self.sent_again(((0, 60),)), DAMAGED.format(9, "left"))
+
+    def test_a_copy_that_is_damaged_too(self):
+        made = self.sent_again()
+        made[9] = spoiled(made[9], random.Random(10))
+        self.is_not_blamed(made, DAMAGED.format(9, "left"))
+
+    def test_the_first_octets(self):
+        """Nothing of a side would be known else."""
+        made = Frames().begin()
+        made.frames.append(made.segment("left", CR))
+        made.send("left", CR).send("right", CC).send("left", CN).send("right", AC).send("left", WRONG).put("right")
+        self.is_blamed([spoiled(right(frame), random.Random(11)) if place == 4 else right(frame) for place, frame in
+                        enumerate(made.frames, 1)])
+
+    def test_who_keeps_the_protocol_is_judged_to_the_end(self):
+        """Also if only the damaged copy is here."""
+        for parts in (((0, 101),), ()):
+            kept = self.sent_again(parts)[:-3]
+            self.assertEqual((self.of_file(pcap_of(kept)).status(), self.of_tap(kept)), (0, ("both kept the protocol", 0)))
+
+    def test_the_ladder_agrees(self):
+        source, judge = reading.surely(reading.by_name(self.write(pcap_of(self.sent_again())), 102, None), blamed, True)
+        self.assertEqual((judge(tapped.text_of(source.pieces)), source.notes), (blamed("77726f6e67"), []))
 
 
 class Changed(Room):

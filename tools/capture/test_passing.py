@@ -550,6 +550,14 @@ class Status(unittest.TestCase):
         self.assertEqual(call(frames, "judge", "--host", "192.0.2.1")[1].count("both kept"), 3)
         self.assertEqual(call(frames, "judge", "--host", "192.0.2.9")[0], 2)
 
+    @needs_osi
+    def test_a_stream_that_is_not_there_keeps_no_other_from_its_verdict(self):
+        for words, status, count in ((("--stream", "0", "--stream", "7"), 3, 1), (("--stream", "7"), 2, 0)):
+            found, out, err = call([whole()[0], whole()[0]], "judge", *words)
+            self.assertEqual((found, out.count("both kept"), err.count("run.pcap: stream 7 carries no TPKT\n")), (status, count, 1), err)
+        status, out, err = call([whole()[0]], "judge", "other.pcap", "--stream", "0", "--stream", "7")
+        self.assertEqual((status, out.count("both kept"), err.count("stream 7 carries no TPKT\n")), (3, 2, 2), err)
+
 
 if __name__ == "__main__":
     unittest.main()

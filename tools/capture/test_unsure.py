@@ -47,6 +47,21 @@ def flagged(frame, flags):
     return frame[:33] + bytes([flags]) + frame[34:]
 
 
+class Urgent(unittest.TestCase):
+    """An octet of urgent data may be none of what is received: nobody is blamed from such a segment on."""
+
+    def judged(self, *octets):
+        """What is said of frames, the eighth of which has urgent data."""
+        made = Frames().open().send("left", *octets).send("right", DT).frames
+        return judging.Judged(stream_of([flagged(frame, 0x38) if place == 8 else frame for place, frame in enumerate(made, 1)]), blamed)
+
+    def test_what_comes_after_it_blames_nobody(self):
+        wrong = data(b"\1\0\1\0wrong")
+        found = self.judged(DT, wrong)
+        self.assertEqual((found.status(), found.limit), (3, "judged up to frame 8, in which left sent urgent data of TCP"))
+        self.assertEqual((self.judged(DT, DT).status(), self.judged(DT, DT).limit), (0, None))
+
+
 class Keepalives(unittest.TestCase):
     """The capture lacks a segment of one octet, and what acknowledged it; a keepalive with another octet comes in its place."""
 

@@ -2,6 +2,7 @@
 import contextlib
 import gc
 import io
+import json
 import os
 import shutil
 import struct
@@ -15,8 +16,9 @@ from unittest import mock
 from ladders import script, tapped, test_judged, transcript
 
 from . import directions, frames, live, processes, program, streams, tshark, watching as watch
+from .test_damage import right, with_sum
 from .test_frames import ACK, CC, CR, DT, IPV4, PUSH, RESET, SYN, Frames, data, pcap_of
-from .test_judging import CURED, DISPUTES, ENDED, LAST
+from .test_judging import CURED, DISPUTES, ENDED, LAST, SCHEMA, wrongs
 
 # The package for Python over the library that `make lib` built, if it did.
 if os.path.exists(os.path.join(script.TOP, "build", "libosi-session.so")):
@@ -105,6 +107,20 @@ class Watching(unittest.TestCase):
         self.assertEqual(told.count("\n"), 1)
         self.assertIn("right aborted by its session layer, protocol error: AB 17=05 (frame 14, 1.625000 seconds)", self.ended[0])
         self.assertEqual((self.watching.status(), self.watching.watched, self.watching.ending), (1, {}, {}))
+
+    def test_json_has_the_break_as_judge_has_it(self):
+        self.watching.is_json = True
+        with contextlib.redirect_stdout(io.StringIO()) as out:
+            for row in Rows().of("restart"):
+                self.watching.take(row)
+            self.watching.look(is_end=True)
+        told, ended = map(json.loads, out.getvalue().splitlines())
+        for each in (told, ended):
+            self.assertEqual(wrongs(each, SCHEMA["$defs"]["watched"]), [])
+        found = told["break"]
+        self.assertEqual((found["side"], found["octet"], found["frame"], found["time"]), ("left", 143, 13, 1.5))
+        self.assertEqual((found["what"], found["rule"], found["clause"][:11]), ("Data", "TokenNotHeld", "X.225, 7.11"))
+        self.assertEqual((told["line"], ended["break"]), (f"frame 13, 1.500000 seconds: {found['sentence']}", None))
 
     def test_that_both_kept_the_protocol_is_told_when_tcp_has_closed_the_stream(self):
         rows = Rows()
@@ -429,6 +445,22 @@ class ByProgram(unittest.TestCase):
         self.assertRegex(out, rf"^stream 0 \S+ \S+: {said}\nstream 0 .*: ended: ")
         self.assertEqual((self.watching.status(), self.programs.running, self.watching.watched), (1, set(), {}))
 
+    def test_json_has_the_break_of_each_side(self):
+        self.watching.is_json = True
+        wrong = Frames().open().send("left", data(b"\1\0\1\0wrong")).put("right").send("right", data(b"\1\0\1\0wrong")).put("left")
+        told = [json.loads(row) for row in self.fed(wrong.frames, is_end=True).splitlines()]
+        self.assertEqual([wrongs(each, SCHEMA["$defs"]["watched"]) for each in told], [[]] * len(told))
+        self.assertEqual([(each["break"]["side"], each["break"]["octet"], each["break"]["frame"]) for each in told if each["break"]],
+                         [("left", 35, 8), ("right", 35, 10)])
+
+    def test_a_break_before_a_damaged_frame_stays_found(self):
+        """However late the program says it."""
+        self.reader = frames.Reader(True, 102, True)
+        list(self.reader.feed(pcap_of([])))
+        made = Frames().open().send("left", data(b"\1\0\1\0wrong")).put("right").send("left", DT).put("right")
+        out = self.fed([with_sum(frame, 99) if place == 9 else right(frame) for place, frame in enumerate(made.frames)], is_end=True)
+        self.assertIn("frame 8, 0.004000 seconds: left broke the protocol first", out)
+
     def test_both_kept_the_protocol_is_told_at_the_end(self):
         self.assertRegex(self.fed(Frames().open().talk(50).close().frames), r"^stream 0 \S+ \S+: both kept the protocol\n.*released")
         self.assertEqual((self.watching.status(), self.programs.running), (0, set()))
@@ -480,9 +512,9 @@ class ByProgram(unittest.TestCase):
     def test_packets_are_found_by_their_place(self):
         found, octets = processes.Places(), CR + DT + b"garbage"
         for at in range(0, len(octets), 5):
-            found.take(streams.Piece(at, at / 10, at, octets[at:at + 5]))
-        self.assertEqual((found.of(0), found.of(len(CR))), ((14, 10, 1.0), (29, 25, 2.5)))
-        self.assertEqual((found.of(29), found.of(7)), ((30, 25, 2.5), None))
+            found.take(streams.Piece(at, at / 10, at, octets[at:at + 5]), at // 5)
+        self.assertEqual((found.of(0), found.of(len(CR))), ((14, 10, 1.0, 2), (29, 25, 2.5, 5)))
+        self.assertEqual((found.of(29), found.of(7)), ((30, 25, 2.5, 5), None))
 
 
 @unittest.skipUnless(watch.library(), "the package osi_session or its library is not there")

@@ -23,7 +23,7 @@ WITHOUT_UPPER = ("-d", "tcp.port==1-65535,data", "-o", "tcp.desegment_tcp_stream
                  "-E", "occurrence=l")
 PLAIN = (*WITHOUT_UPPER, *(word for field in FIELDS for word in ("-e", field)))
 CUT_SHORT = "cut short in the middle of a packet"
-FIN, SYN, RESET, PUSH, ACK = 0x01, 0x02, 0x04, 0x08, 0x10
+FIN, SYN, RESET, PUSH, ACK, URGENT = 0x01, 0x02, 0x04, 0x08, 0x10, 0x20
 
 
 class Segment:
@@ -33,7 +33,7 @@ class Segment:
     checksums are read what its checksum says, and of a first segment how many octets of a segment its sender takes."""
 
     acknowledged, missing, captured, key, sum, most = None, 0, 0, None, None, 0
-    is_first = is_last = is_reset = is_answer = is_pushed = is_soon = is_multipath = False
+    is_first = is_last = is_reset = is_answer = is_pushed = is_soon = is_multipath = is_urgent = False
 
     def __init__(self, values):
         (frame, time, stream, source, source_6, source_port, target, target_6, target_port, sequence, number, flags, length, captured,
@@ -61,8 +61,9 @@ class Segment:
 
     def tell(self, flags, number):
         """Takes the flags, and what is acknowledged. What a reset acknowledges need not have been sent."""
-        if flags & (FIN | SYN | RESET):
+        if flags & (FIN | SYN | RESET | URGENT):
             self.is_first, self.is_last, self.is_reset = bool(flags & SYN), bool(flags & FIN), bool(flags & RESET)
+            self.is_urgent = bool(flags & URGENT)
             self.is_answer = flags & (SYN | ACK) == SYN | ACK
         self.acknowledged = int(number) if flags & (ACK | RESET) == ACK and number != "" else None
 

@@ -31,7 +31,7 @@ from collections import OrderedDict
 
 from ladders import script, transcript, verdicts
 
-from . import asking, judging, kinds, listing, live, outcome, processes, streams
+from . import asking, judging, kinds, listing, live, outcome, processes, reports, streams
 from .tshark import BadInput
 
 BINDINGS = os.path.join(script.TOP, "bindings", "python", "src")
@@ -143,8 +143,7 @@ class Watched:
         """The line of a verdict."""
         unjudged = found.verdict.last["why"]
         if found.verdict.first:
-            place = found.place()
-            return (f"frame {place[0]}, {place[1]:.6f} seconds: " if place else "") + found.sentence()
+            return reports.Line(at(*(found.place() or (None, None))) + found.sentence()).about(reports.first_of(found))
         said = f"not judged: {unjudged}" if unjudged else found.verdict.rows[-1]
         limit = found.limit or self.limit
         return f"{said}, {limit}" if limit else said
@@ -170,8 +169,8 @@ class Fed(Watched):
         # How many pieces were fed, and those that aren't surely what was sent, each with its number.
         self.fed, self.unsure = 0, []
         self.head, self.is_told = {side: [] for side in streams.SIDES}, False
-        # Whether another session was found on the transport connection of one that has ended.
-        self.has_another = False
+        # Whether something was found that the judge doesn't follow, though X.225 allows it.
+        self.has_unfollowed = False
 
     def look_for_limit(self):
         if self.stream.is_over and self.limit is None and self.stream.gap():
@@ -195,7 +194,7 @@ class Fed(Watched):
         """Remembers octets that aren't surely what was sent: if a break depends on them, it isn't told."""
         self.fed += 1
         direction = self.stream.directions[source]
-        if direction.sums.is_hurt(piece.frame) or piece.start in direction.alone:
+        if direction.sums.is_hurt(piece.frame) or piece.start in direction.alone or piece.frame in direction.urgent:
             self.unsure.append((self.fed, source, piece))
             if len(self.unsure) > MOST_UNSURE:
                 self.unsure = [each for each in self.unsure if self.stream.unsure(*each[1:])][:MOST_UNSURE]
@@ -259,19 +258,20 @@ class Fed(Watched):
             self.found = "not judged: the capture begins in the middle of a connection", None
         elif rule == "LIMIT":
             self.limit = self.limit or "not judged further: more passed than a judge of the library keeps"
-        if self.is_another(str(told).endswith("Connect BadState")):
+        if self.is_unfollowed(tuple(str(told).split()[-2:])):
             return
         line = None
         if kind in ("BROKE", "LEAVES"):
-            line = f"frame {piece.frame}, {piece.time - self.begin:.6f} seconds: {self.line_of(told)}"
+            line = self.line_on(verdicts.line_of(str(told))[1], self.line_of(told), piece.frame, piece.time)
         status = judging.BROKE if kind == "BROKE" else judging.PARTLY
         self.waiting.append((source, piece.start + len(piece.octets), status, piece.frame, line, self.fed))
 
-    def is_another(self, is_second_connect):
-        """Whether what was found is only of another session on the same transport connection; the stream is judged up to its beginning."""
-        if is_second_connect and self.follower.again and not self.has_another:
-            self.has_another, self.limit = True, self.limit or f"judged up to {streams.Another(*self.follower.again)}"
-        return self.has_another
+    def is_unfollowed(self, said):
+        """Whether what was found says only what the judge doesn't follow, though X.225 allows it; the stream is judged up to its
+        beginning."""
+        if said in self.follower.unfollowed and not self.has_unfollowed:
+            self.has_unfollowed, self.limit = True, self.limit or f"judged up to {self.follower.unfollowed[said]}"
+        return self.has_unfollowed
 
     def tell(self, is_end):
         """Tells what is found of octets that are acknowledged, or at the end of all; not of those that were sent again as others, nor what
@@ -289,6 +289,12 @@ class Fed(Watched):
             if doubt is None or frame < doubt.frame:
                 self.statuses.append((status, frame))
                 self.lines += [line] if line else []
+
+    def line_on(self, fields, sentence, frame, time):
+        """The line on a break that a line of `osi judge` tells, with when its packet passed if that is known."""
+        seconds = None if time is None else time - self.begin
+        found = {**reports.told(fields, fields["side"], None if time is None else frame, seconds), "sentence": sentence}
+        return reports.Line(at(frame, seconds) + sentence).about(found)
 
     def line_of(self, told):
         """What is said of a verdict: of the first one a sentence, of others the words of `osi judge`."""
@@ -375,7 +381,7 @@ class Piped(Fed):
     def feed(self, source, piece):
         """Writes octets that have passed to the program."""
         side = streams.SIDES[source != self.left]
-        self.places[side].take(piece)
+        self.places[side].take(piece, self.fed)
         if self.is_begun(source):
             self.process.write(source != self.left, piece.octets)
 
@@ -412,18 +418,23 @@ class Piped(Fed):
         if why:
             self.found = f"not judged: {why}", None
             return
-        if self.is_another(outcome.is_second_connect(fields)):
+        if self.is_unfollowed(outcome.said_of(fields)):
             return
         side = streams.SIDES[source != self.left]
-        end, frame, when = self.places[side].of(int(fields["offset"])) or (0, 0, None)
-        where = "" if when is None else f"frame {frame}, {when - self.begin:.6f} seconds: "
+        fields = {**fields, "side": side}
+        end, frame, when, fed = self.places[side].of(int(fields["offset"])) or (0, 0, None, self.fed)
         line = f"{verdicts.sentence(said)} {verdicts.reason(said, said.first)}" if said else row
         status = judging.BROKE if verdicts.is_broken(fields) else judging.PARTLY
-        self.waiting.append((source, end, status, frame, where + line, self.fed))
+        self.waiting.append((source, end, status, frame, self.line_on(fields, line, frame, when), fed))
 
     def close(self):
         """Ends the program."""
         self.programs.end(self.process)
+
+
+def at(frame, seconds):
+    """When something passed, in front of a line on it, if that is known."""
+    return "" if seconds is None else f"frame {frame}, {seconds:.6f} seconds: "
 
 
 def of_line(fields):
@@ -562,7 +573,7 @@ class Watching:
     def say(self, watched, line):
         """Prints a line on a stream."""
         name = judging.name_of(watched.stream)
-        print(json.dumps({"stream": watched.stream.number, "name": name, "line": line}) if self.is_json else f"{name}: {line}", flush=True)
+        print(json.dumps(reports.of_line(watched.stream, name, line)) if self.is_json else f"{name}: {line}", flush=True)
 
     def status(self):
         """The status of the program."""
@@ -599,7 +610,7 @@ def add_words(made):
     source.add_argument("-r", "--file", help="a pcap or pcapng, or - for standard input")
     source.add_argument("named", metavar="FILE", nargs="?", help="the same")
     judging.add_streams(made)
-    made.add_argument("--json", action="store_true", help="an object for each line")
+    made.add_argument("--json", action="store_true", help="an object for each line (docs/judge.schema.json)")
     made.add_argument("--by", choices=("library", "program"), help="who judges (the library, if the package osi_session is there)")
     made.add_argument("--every", type=float, default=1.0, metavar="SECONDS", help="how often it is looked at what the programs say (1)")
     made.add_argument("--idle", type=float, default=IDLE, metavar="SECONDS",

@@ -182,7 +182,7 @@ def named_listings(options):
 def source_of(name, options):
     """A capture, and the title in its file, if it has one; or None and a text that is no capture."""
     path = asking.local(name or "-")
-    source = reading.by_name(path, options.port, options.stream, options.upper)
+    source = reading.by_name(path, options.port, options.stream, options.upper, not options.ignore_checksums)
     if source is not None:
         return source, None
     if options.stream is not None:
@@ -221,7 +221,7 @@ def judged_capture(options, progress):
     source, said = source_of(options.judge, options)
     judge = judged.runner(options.osi, progress.running)
     told = verdicts.read(read_text(options.verdicts)) if options.verdicts else None
-    if source.stream is not None and not told:
+    if not told:
         source, judge = reading.surely(source, judge, not options.ignore_checksums)
     pieces = source.pieces
     listings = source.listed(listings_of(pieces, options.osi, named_listings(options), progress))

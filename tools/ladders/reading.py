@@ -35,6 +35,10 @@ class Source:
         """The part of a capture of a network before a piece, because of a gap."""
         return Source(self.pieces[:place], self.ends, [f"Judged up to {gap}."], self.upper, self.stream)
 
+    def of(self, stream):
+        """The source, if the stream was read anew: with its pieces and its notes."""
+        return self if stream is self.stream else of_network(asking.viewed(stream), upper=self.upper)
+
     def listed(self, listings):
         """The listings of both sides. In what begins in the middle, the rest of a TSDU is no fault."""
         if not self.is_middle:
@@ -47,47 +51,47 @@ def pieces_of(stream):
     return [tapped.Piece(side, piece.octets, piece.frame, piece.time) for side, piece in stream.by_side()]
 
 
-def by_name(name, port, stream, has_upper=False):
+def by_name(name, port, stream, has_upper=False, has_sums=True):
     """A capture of a network, or the files NAME.left, NAME.right and NAME.follow. None if the name is that of a text."""
     if name in (None, "-"):
         return None
     if is_network(name):
-        return of_network(asking.chosen(name, port, stream), has_upper)
+        return of_network(asking.chosen(name, port, stream, has_sums), has_upper)
     found = None if os.path.exists(name) else texts.read(name)
     if found and not found.is_ordered:
         raise BadInput(f"{name}: there is no {name}.follow, and the files don't say when octets passed (name them by --left and --right)")
     return found and Source(pieces_of(found))
 
 
-def of_network(view, has_upper):
-    """What a picture needs of a stream of a network."""
+def of_network(view, has_upper=False, upper=None):
+    """What a picture needs of a stream of a network; `upper` is what tshark calls the layers above, if that is known."""
     stream = getattr(view, "stream", view)
     notes = [f"The stream begins in the middle, at frame {view.frame}."] if isinstance(view, middle.Middle) else []
     notes += ["Only one direction is here."] if stream.is_alone() else []
     gap = stream.gap()
     notes += [f"Shown up to {gap}."] if gap else []
-    upper = tshark.upper(stream.path, stream.number) if has_upper else None
+    upper = tshark.upper(stream.path, stream.number) if has_upper else upper
     made = Source(pieces_of(view), {side: asking.named(end) for side, end in stream.by_end().items()}, notes, upper, stream)
     made.is_middle = isinstance(view, middle.Middle)
     return made
 
 
 def surely(source, judge, has_sums):
-    """What can be judged of a capture of a network, and who judges it: no side is blamed for what isn't surely what was sent."""
-    stream = source.stream
-    stream.has_sums = has_sums
-    why = asking.why_not(stream)
+    """What can be judged of a capture, and who judges it: no side is blamed for what isn't surely what was sent, nor for what `osi judge`
+    doesn't follow."""
+    if source.stream is not None:
+        source.stream.has_sums = has_sums
+    why = asking.why_not(source.stream or texts.Text([(each.frame, each.time, each.side, each.octets) for each in source.pieces]))
     if why:
         return source, lambda text: f"not judged: {why}\n"
-    unsure, another = damage.first_unsure(stream), outcome.another(stream.by_side())
-    if unsure and first_break(source, judge):
-        place, gap = unsure
-        if gap.side not in {piece.side for piece in source.pieces[:place]}:
-            return source, lambda text: f"not judged: {asking.of_nothing(gap)}\n"
-        source = source.up_to(place, gap)
-    if another and another[0] < len(source.pieces) and outcome.is_second_connect(first_break(source, judge)):
-        source = source.up_to(*another)
-    return source, judge
+    if source.stream is not None and first_break(source, judge):
+        source = source.of(damage.rejoined(source.stream))
+        unsure = damage.first_unsure(source.stream) if first_break(source, judge) else None
+        if unsure and unsure[1].side not in {piece.side for piece in source.pieces[:unsure[0]]}:
+            return source, lambda text: f"not judged: {asking.of_nothing(unsure[1])}\n"
+        source = source.up_to(*unsure) if unsure else source
+    found = outcome.unfollowed(((piece.side, piece) for piece in source.pieces), first_break(source, judge))
+    return (source.up_to(*found) if found else source), judge
 
 
 def first_break(source, judge):
