@@ -4,8 +4,8 @@
 //!   in flight. A `Step` is what happens to both, packet by packet.
 //! - A capture of an end is such steps, up to what the other side sends and nobody can read:
 //!   [`a_capture_of_an_end_is_steps`].
-//! - **The transport of an end is never blamed first.** Steps of a `Joint` are events of a whole end (`specs/transport/Wholes`), whose carrier
-//!   reports nothing and hands nothing over: what a turn does to the carrier of an end is units that arrive and calls. So as long
+//! - **The transport of an end is never blamed first.** Steps of a `Joint` are events of a whole end (`specs/transport/Wholes`), whose
+//!   carrier reports nothing and hands nothing over: what a turn does to the carrier of an end is units that arrive and calls. So as long
 //!   as nobody has broken a rule, both sides are judged, and no unit of the end is a break. What comes after the first break
 //!   doesn't change it: [`the_transport_of_an_end_is_never_blamed_first`].
 //! - **Nor is it blamed after the first break**, called or calling, in either class: what a break of the other side leaves to be judged

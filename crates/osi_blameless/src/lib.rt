@@ -5,7 +5,7 @@
 //! |---|---|
 //! | [`laws::ends`] | what an end puts on the byte connection and takes from it, connection by connection |
 //! | [`laws::transport`] | no unit that an end puts breaks a rule of transport, wherever the capture is taken |
-//! | [`laws`] | so a judge that sees the octets of an end blames neither its transport nor its sessions first, nor after a break of the other side |
+//! | [`laws`] | so a judge of its octets blames neither its transport nor its sessions first, nor after a break of the other side |
 //! | [`laws::bounded`] | nor does a judge with a bound for each connection |
 //! | [`laws::printed`] | nothing that `osi judge` prints blames an end |
 //! | [`laws::accord`] | two sides that are told as kept are two sessions that make what passed |

@@ -1,15 +1,15 @@
--- What X.225 allows and the profile leaves out: functional units that an AC selects together, version 1, and units that no
--- session sends.
+-- What X.225 allows and the profile leaves out: functional units that an AC selects together, version 1, a release that
+-- both sides ask for, and units that no session sends.
 use Rattle.std.specs.Prelude.{ℕ, ◌==◌, ◌||◌, Bool, true, false, not, ◌&&◌, nat_lt, List, [], ◌∷◌, get_or, Option, Some, None, Result, Ok}
 use Rattle.std.specs.Prelude.{Err}
 use Rattle.std.specs.List.{slice_get}
 use Rattle.std.specs.Int.RustNames.{bit_and}
 use Rattle.osi_spdu.specs.declared.faults.SpduFault.{SpduFault}
 use Rattle.osi_spdu.specs.declared.faults.SpduFault.TheVariants.{UnknownSi}
-use Rattle.osi_message.specs.Meanings.{Meaning, CN, AC}
+use Rattle.osi_message.specs.Meanings.{Meaning, CN, AC, FN, DN}
 use Rattle.osi_message.specs.Reading.{said_at}
 use Rattle.osi_message.specs.Words.{Words, as_message}
-use Rattle.osi_session.specs.Phases.{is_wait_cn}
+use Rattle.osi_session.specs.Phases.{is_releasing, is_wait_cn}
 use Rattle.osi_session.specs.Standing.{Seen}
 use Rattle.osi_session.specs.Units.{is_profile}
 use Rattle.osi_session.specs.declared.breaches.Breach.TheVariants.{Call, Outside}
@@ -71,6 +71,23 @@ abbrev pub answers_in_1 : (us : List (List ℕ)) (tsdu : List ℕ) (before : ℕ
 answers_in_1 us tsdu before s =
     is_wait_cn s.state.phase && (nat_lt 0 before && (first_is offers_1 (said_at (get_or us 0 [])) && first_is selects_1 (said_at tsdu)))
 
+-- ---- a release that both sides ask for
+
+abbrev pub is_finish : Meaning → Bool
+is_finish (FN octets) = true
+is_finish _ = false
+
+abbrev pub is_disconnect : Meaning → Bool
+is_disconnect (DN octets) = true
+is_disconnect _ = false
+
+-- A side that waits for the answer to its FN accepts the release of the other side, whose FN had passed and is the next TSDU that
+-- it takes.
+abbrev pub accepts_too : (us : List (List ℕ)) (tsdu : List ℕ) (before : ℕ) → Break → Bool
+accepts_too us tsdu before by =
+    is_releasing by.standing.state.phase
+    && (nat_lt by.taken before && (first_is is_finish (said_at (get_or us by.taken [])) && first_is is_disconnect (said_at tsdu)))
+
 -- ---- a TSDU that no session sends, and that is outside of the profile rather than a break
 
 -- a unit with this SI: PREPARE, or connect data that continues
@@ -78,12 +95,16 @@ abbrev pub is_left_out : Option ℕ → Bool
 is_left_out None = false
 is_left_out (Some si) = (si == 7) || ((si == 15) || (si == 16))
 
-abbrev pub leaves_by : (of_version_1 : Bool) → (tsdu : List ℕ) → Rule → Bool
-leaves_by of_version_1 tsdu (Breach Outside) = true
-leaves_by of_version_1 tsdu (Breach (Call BadState)) = of_version_1
-leaves_by of_version_1 tsdu (Fault (UnknownSi at)) = is_left_out (slice_get tsdu at)
-leaves_by of_version_1 tsdu rule = false
+-- what no session of this product sends in its state, and X.225 allows there
+abbrev pub is_allowed : (us : List (List ℕ)) (tsdu : List ℕ) (before : ℕ) → Break → Bool
+is_allowed us tsdu before by = answers_in_1 us tsdu before by.standing || accepts_too us tsdu before by
+
+abbrev pub leaves_by : (is_allowed : Bool) → (tsdu : List ℕ) → Rule → Bool
+leaves_by is_allowed tsdu (Breach Outside) = true
+leaves_by is_allowed tsdu (Breach (Call BadState)) = is_allowed
+leaves_by is_allowed tsdu (Fault (UnknownSi at)) = is_left_out (slice_get tsdu at)
+leaves_by is_allowed tsdu rule = false
 
 -- of a side that heard this, by a TSDU before which so many had passed
 unfoldable pub leaves : (us : List (List ℕ)) (tsdu : List ℕ) (before : ℕ) → Break → Bool
-leaves us tsdu before by = leaves_by (answers_in_1 us tsdu before by.standing) tsdu by.rule
+leaves us tsdu before by = leaves_by (is_allowed us tsdu before by) tsdu by.rule

@@ -8,7 +8,7 @@ ghost use Rattle.osi_message.specs.Words.{as_message};
 ghost use Rattle.osi_spdu.specs.Fields.{unit_bits};
 ghost use Rattle.osi_spdu.specs.Units.{said_by};
 ghost use Rattle.osi_side.specs.Profiles.{offered_in, accepted_in, in_first, is_outside, selects_outside, is_left_out, leaves};
-ghost use Rattle.osi_side.specs.Profiles.{offers_1, selects_1, first_is, answers_in_1};
+ghost use Rattle.osi_side.specs.Profiles.{offers_1, selects_1, first_is, answers_in_1, is_finish, is_disconnect, accepts_too, is_allowed};
 
 use crate::first_places::tsdu_at;
 use crate::heard::Heard;
@@ -172,6 +172,70 @@ fn answers_in_1(heard: &Heard, tsdu: &[u8], before: usize, standing: &Standing) 
     begins_with_selection_of_1(tsdu)
 }
 
+/// Whether a message is an FN.
+fn is_finish(message: &Message) -> bool
+    ensures { result ≡ is_finish (meant_by message.now) }
+{
+    matches!(message, Message::Finish { .. })
+}
+
+/// Whether a message is a DN.
+fn is_disconnect(message: &Message) -> bool
+    ensures { result ≡ is_disconnect (meant_by message.now) }
+{
+    matches!(message, Message::Disconnect { .. })
+}
+
+/// Whether the first unit of a TSDU is an FN.
+#[tactic(auto, using(crate::proofs::honest::a_selection_is_read::finish_word), unfolding(osi_message::specs::Reading::said_at))]
+fn begins_with_finish(tsdu: &[u8]) -> bool
+    ensures { result ≡ first_is is_finish (said_at tsdu.now) }
+{
+    let read = read_group(tsdu);
+    match &read {
+        Ok(group) => is_finish(&Message::of(group.first())),
+        Err(_) => false,
+    }
+}
+
+/// Whether the first unit of a TSDU is a DN.
+#[tactic(auto, using(crate::proofs::honest::a_selection_is_read::disconnect_word), unfolding(osi_message::specs::Reading::said_at))]
+fn begins_with_disconnect(tsdu: &[u8]) -> bool
+    ensures { result ≡ first_is is_disconnect (said_at tsdu.now) }
+{
+    let read = read_group(tsdu);
+    match &read {
+        Ok(group) => is_disconnect(&Message::of(group.first())),
+        Err(_) => false,
+    }
+}
+
+/// Whether a side that waits for the answer to its FN accepts the release of the other side, whose FN had passed and is the next
+/// TSDU that it takes.
+fn accepts_too(heard: &Heard, tsdu: &[u8], before: usize, by: &Break) -> bool
+    requires { before ≤ length heard.now }
+    ensures { result ≡ accepts_too heard.now tsdu.now before by.now }
+{
+    if !matches!(by.standing.phase(), Phase::Releasing) || by.taken >= before {
+        return false;
+    }
+    if !begins_with_finish(tsdu_at(heard, by.taken)) {
+        return false;
+    }
+    begins_with_disconnect(tsdu)
+}
+
+/// Whether no session of this product sends it in its state, and X.225 allows it there.
+fn is_allowed(heard: &Heard, tsdu: &[u8], before: usize, by: &Break) -> bool
+    requires { before ≤ length heard.now }
+    ensures { result ≡ is_allowed heard.now tsdu.now before by.now }
+{
+    if answers_in_1(heard, tsdu, before, &by.standing) {
+        return true;
+    }
+    accepts_too(heard, tsdu, before, by)
+}
+
 /// Whether something that no session sends is outside of the profile rather than a break, of a side that heard this; `before`
 /// TSDUs of the other side had passed before it.
 #[tactic(auto, unfolding(crate::specs::Profiles::leaves))]
@@ -181,12 +245,7 @@ pub(crate) fn leaves(heard: &Heard, tsdu: &[u8], before: usize, by: &Break) -> b
 {
     match by.rule {
         Rule::Breach(Breach::Outside) => true,
-        Rule::Breach(Breach::Call(CallError::BadState)) => answers_in_1(
-            heard,
-            tsdu,
-            before,
-            &by.standing,
-        ),
+        Rule::Breach(Breach::Call(CallError::BadState)) => is_allowed(heard, tsdu, before, by),
         Rule::Fault(SpduFault::UnknownSi(at)) => is_left_out(tsdu, at),
         _ => false,
     }

@@ -11,8 +11,8 @@
 //! - **What was right stays right** if more of the other side has passed: [`what_was_right_stays_right`]. `IsLater`
 //!   (`specs/transport/Later`) says what "more" is: later numbers, an AK that acknowledges DTs that were sent, an edge that has not moved
 //!   down.
-//! - **A `Line`** (`specs/transport/Lines`) is one open connection: the link of the end, the units that it has put and that have not passed,
-//!   what the judge knows, and the units that have passed and that the end has not taken. An `Act` is what may happen to it.
+//! - **A `Line`** (`specs/transport/Lines`) is one open connection: the link of the end, the units that it has put and that have
+//!   not passed, what the judge knows, and the units that have passed and that the end has not taken. An `Act` is what may happen to it.
 //!   Each unit of the end that passes is right, whatever the other side sends, as long as the connection is judged:
 //!   [`an_open_end_is_fair`].
 //! - **How a line begins**: the CC of a called end is right, and after a CC of class 2 the connection is open as a line begins, at
@@ -96,8 +96,8 @@ ghost use Rattle.osi_rules.specs.declared.directions.Direction.{Direction};
 ghost use Rattle.osi_rules.specs.declared.findings.Finding.{Finding};
 ghost use Rattle.osi_rules.specs.declared.halves.Half.{Half};
 ghost use Rattle.osi_blameless.specs.transport.Later.{IsLater, knows};
-ghost use Rattle.osi_blameless.specs.transport.Lines.{Act, Acts, ActsAlong, IsFair, IsOpened, IsRight, Line, PassesNone, after_finding, answering_line};
-ghost use Rattle.osi_blameless.specs.transport.Lines.{finding_of};
+ghost use Rattle.osi_blameless.specs.transport.Lines.{Act, Acts, ActsAlong, IsFair, IsOpened, IsRight, Line, PassesNone};
+ghost use Rattle.osi_blameless.specs.transport.Lines.{after_finding, answering_line, finding_of};
 ghost use Rattle.osi_blameless.specs.transport.Lines.{opened_half, opened_line, passes_own};
 ghost use Rattle.osi_blameless.specs.transport.Pieces.{IsFed};
 ghost use Rattle.osi_blameless.specs.transport.Wholes.{Becomes, Event, HappenAlong, MayCall, Whole, begin};

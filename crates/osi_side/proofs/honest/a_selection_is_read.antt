@@ -1,8 +1,8 @@
--- The functional units and the version of a CN and of an AC, read from a unit and from its word, which is a part only of a DT.
+-- What a unit is and what it says of functional units and of its version, read from a unit and from its word, which is a part only of a DT.
 -- For what a side selects that leaves the profile.
 use Rattle.std.proofs.Common.{arith}
 use Rattle.osi_side.proofs.Vocabulary.{◌≡◌, refl, Option, Contents, Place, as_message, accepted_in, offered_in}
-use Rattle.osi_side.specs.Profiles.{offers_1, selects_1}
+use Rattle.osi_side.specs.Profiles.{is_disconnect, is_finish, offers_1, selects_1}
 use Rattle.osi_message.specs.Reading.{meaning, place_of, word, word_at}
 
 offered_placed : (p : Option Place) (unit : Contents) → place_of unit ≡ p →
@@ -40,3 +40,19 @@ offers_word unit = offers_placed (place_of unit) unit refl
 pub selects_word : (unit : Contents) → selects_1 (as_message (word unit)) ≡ selects_1 (meaning unit)
 unfolding word
 selects_word unit = selects_placed (place_of unit) unit refl
+
+finish_placed : (p : Option Place) (unit : Contents) → place_of unit ≡ p → is_finish (as_message (word_at p unit)) ≡ is_finish (meaning unit)
+unfolding meaning
+finish_placed p unit e = grind arith
+
+pub finish_word : (unit : Contents) → is_finish (as_message (word unit)) ≡ is_finish (meaning unit)
+unfolding word
+finish_word unit = finish_placed (place_of unit) unit refl
+
+disconnect_placed : (p : Option Place) (unit : Contents) → place_of unit ≡ p → is_disconnect (as_message (word_at p unit)) ≡ is_disconnect (meaning unit)
+unfolding meaning
+disconnect_placed p unit e = grind arith
+
+pub disconnect_word : (unit : Contents) → is_disconnect (as_message (word unit)) ≡ is_disconnect (meaning unit)
+unfolding word
+disconnect_word unit = disconnect_placed (place_of unit) unit refl

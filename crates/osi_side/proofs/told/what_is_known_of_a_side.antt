@@ -8,7 +8,9 @@ use Rattle.osi_side.proofs.Vocabulary.{in_first, is_outside, selects_outside, Ob
 use Rattle.osi_side.proofs.Vocabulary.{IsKept, IsAstray, BrokeFor, LeftFor, CrowdedFor, AreAll, Keeps, ObservesBy, Observes, IsFound}
 use Rattle.osi_side.proofs.Vocabulary.{HasRoom, after_tsdu}
 use Rattle.osi_side.specs.declared.findings.Finding.TheVariants.{Left}
-use Rattle.osi_side.specs.Profiles.{leaves}
+use Rattle.osi_session.specs.Phases.{is_releasing}
+use Rattle.osi_side.specs.Profiles.{accepts_too, answers_in_1, first_is, is_disconnect, is_finish, leaves}
+use Rattle.std.proofs.lemmas.Bool.{ltb-true}
 use Rattle.osi_side.proofs.told.a_break_stays_the_break.{extends_front, breaks_heard}
 use Rattle.osi_side.proofs.kept.what_is_kept_follows_what_is_told.{take_front, take_whole, kept_more, kept_begins, few_begins, few_more}
 use Rattle.osi_side.proofs.kept.what_is_kept_follows_what_is_told.{crowd_more, few_members}
@@ -29,12 +31,27 @@ stands_heard w x told i t k =
     }
 
 -- what the other side says later does not change whether a TSDU leaves the profile
+in_1_heard : (us : List (List ℕ)) (x tsdu : List ℕ) (before : ℕ) (s : Seen) → before ≤ length us
+    → answers_in_1 (us ++ x ∷ []) tsdu before s ≡ answers_in_1 us tsdu before s
+in_1_heard us x tsdu zero s l = refl
+in_1_heard [] x tsdu (suc n) s l = absurd (omega arith)
+in_1_heard (u ∷ us) x tsdu (suc n) s l = refl
+
+too_heard : (us : List (List ℕ)) (x tsdu : List ℕ) (before : ℕ) (by : Break) → before ≤ length us
+    → accepts_too (us ++ x ∷ []) tsdu before by ≡ accepts_too us tsdu before by
+too_heard us x tsdu before by l = at (nat_lt by.taken before) refl
+  where
+    asked : Bool → List ℕ → Bool
+    asked n fn = is_releasing by.standing.state.phase && (n && (first_is is_finish (said_at fn) && first_is is_disconnect (said_at tsdu)))
+
+    at : (n : Bool) → nat_lt by.taken before ≡ n → asked n (get_or (us ++ x ∷ []) by.taken []) ≡ asked n (get_or us by.taken [])
+    at false e = refl
+    at true e = ap (asked true) (extends_front (us ++ x ∷ []) us x (λ i m. refl) by.taken (omega (arith, ltb-true by.taken before e)))
+
 leaves_heard : (us : List (List ℕ)) (x tsdu : List ℕ) (before : ℕ) (by : Break) → before ≤ length us
     → leaves (us ++ x ∷ []) tsdu before by ≡ leaves us tsdu before by
 unfolding leaves
-leaves_heard us x tsdu zero by l = refl
-leaves_heard [] x tsdu (suc n) by l = absurd (omega arith)
-leaves_heard (u ∷ us) x tsdu (suc n) by l = refl
+leaves_heard us x tsdu before by l = grind (arith, in_1_heard us x tsdu before by.standing l, too_heard us x tsdu before by l)
 
 broke_heard : (w : Observed) (x : List ℕ) (told : List Told) (i : ℕ) → BrokeBy w told i
     → BrokeBy (record w { heard = w.heard ++ x ∷ [] }) told i
