@@ -105,8 +105,10 @@ pub use Rattle.osi_side.specs.Sides.{begin_of}
 pub use Rattle.osi_side.specs.declared.directions.Direction.{Direction}
 pub use Rattle.osi_side.specs.declared.directions.Direction.TheVariants.{Left, Right}
 pub use Rattle.osi_blameless.proofs.ends.courses.an_end_is_sound_between_turns.{IsSane, fresh_sane, leads_to, turn_sane}
-pub use Rattle.osi_blameless.proofs.ends.courses.an_end_takes_packets_up_to_its_last.{Stopped, TakesFirst, none_held, prefix_or, stopped_there}
-pub use Rattle.osi_blameless.proofs.ends.courses.how_long_a_connection_is_open.{BeforeOpen, HasNoDr, Life, Stage as Time, WhenPast, WhileOpen, amid}
+pub use Rattle.osi_blameless.proofs.ends.courses.an_end_takes_packets_up_to_its_last.{Stopped, TakesFirst, none_held, prefix_or}
+pub use Rattle.osi_blameless.proofs.ends.courses.an_end_takes_packets_up_to_its_last.{stopped_there}
+pub use Rattle.osi_blameless.proofs.ends.courses.how_long_a_connection_is_open.{BeforeOpen, HasNoDr, Life, Stage as Time, WhenPast}
+pub use Rattle.osi_blameless.proofs.ends.courses.how_long_a_connection_is_open.{WhileOpen, amid}
 pub use Rattle.osi_blameless.proofs.ends.courses.how_long_a_connection_is_open.{early, is_dr, opens_by, past, stage_at, stage_by, stage_is}
 pub use Rattle.osi_blameless.proofs.ends.courses.how_long_a_connection_is_open.{stage_over, stage_there, stays}
 pub use Rattle.osi_blameless.proofs.ends.courses.the_first_cc_opens_a_connection.{Awaiting, FirstOf, HasNoCc, asked_so, awaits, goes}
@@ -121,8 +123,10 @@ pub use Rattle.osi_blameless.proofs.ends.ends.an_end_that_is_over_does_nothing.{
 pub use Rattle.osi_blameless.proofs.ends.ends.the_cn_of_a_request_fits.{can_begin}
 pub use Rattle.osi_blameless.proofs.ends.ends.what_a_session_answers_fits.{all_proper}
 pub use Rattle.osi_blameless.proofs.ends.ends.what_a_session_sends_fits.{AllProper}
-pub use Rattle.osi_blameless.proofs.ends.ends.what_class_0_does_not_take_ends_the_end.{AreHard, IsHard, IsHardPacket, IsLast, IsZeroAt, hard_ends}
-pub use Rattle.osi_blameless.proofs.ends.reading.two_readings_of_a_stream_agree.{GoesBeyond, first, packets_on, packets_then, front_of as part_of}
+pub use Rattle.osi_blameless.proofs.ends.ends.what_class_0_does_not_take_ends_the_end.{AreHard, IsHard, IsHardPacket, IsLast, IsZeroAt}
+pub use Rattle.osi_blameless.proofs.ends.ends.what_class_0_does_not_take_ends_the_end.{hard_ends}
+pub use Rattle.osi_blameless.proofs.ends.reading.two_readings_of_a_stream_agree.{GoesBeyond, first, packets_on, packets_then}
+pub use Rattle.osi_blameless.proofs.ends.reading.two_readings_of_a_stream_agree.{front_of as part_of}
 pub use Rattle.osi_blameless.proofs.ends.reading.two_readings_of_a_stream_agree.{second, two_readings}
 pub use Rattle.osi_blameless.proofs.ends.reading.what_is_written_is_read_again.{CanBeWritten, packets_joined, read_again}
 pub use Rattle.osi_blameless.proofs.ends.sessions.a_history_is_a_run.{history_runs}
@@ -171,16 +175,19 @@ pub use Rattle.osi_blameless.proofs.transport.calling.a_calling_end_is_fair_in_c
 pub use Rattle.osi_blameless.proofs.transport.requests.a_connection_is_lost_in_class_2_alone.{IsOfTwo, firm_unless_two, still_two}
 pub use Rattle.osi_blameless.proofs.transport.calling.a_dr_for_what_is_gone.{before_going}
 pub use Rattle.osi_blameless.proofs.transport.class_0.a_dt_of_class_zero_passes.{only_first, unlike}
-pub use Rattle.osi_blameless.proofs.transport.names.a_reference_names_one_connection.{applied_found, applied_judged, fresh_apart, no_item, not_first, not_true}
+pub use Rattle.osi_blameless.proofs.transport.names.a_reference_names_one_connection.{applied_found, applied_judged, fresh_apart, no_item}
+pub use Rattle.osi_blameless.proofs.transport.names.a_reference_names_one_connection.{not_first, not_true}
 pub use Rattle.osi_blameless.proofs.transport.names.a_reference_names_one_connection.{passes_apart}
 pub use Rattle.osi_blameless.proofs.transport.requests.a_request_of_a_whole_end_is_new.{unit_gives}
 pub use Rattle.osi_blameless.proofs.transport.names.a_right_unit_is_not_blamed.{first_there}
 pub use Rattle.osi_blameless.proofs.transport.class_0.a_called_end_selects_class_zero.{selecting_passes}
 pub use Rattle.osi_blameless.proofs.transport.names.all_are_judged_unless_one_broke.{AreJudged, still_judged}
 pub use Rattle.osi_blameless.proofs.transport.requests.class_0_stays_selected.{zero_stays}
-pub use Rattle.osi_blameless.proofs.transport.connections.each_connection_has_its_line.{AreGiven, Followed, IsAnswer, IsAsking, IsNoCc, IsOwned, Row, Tracked, all_so}
+pub use Rattle.osi_blameless.proofs.transport.connections.each_connection_has_its_line.{AreGiven, Followed, IsAnswer, IsAsking, IsNoCc}
+pub use Rattle.osi_blameless.proofs.transport.connections.each_connection_has_its_line.{IsOwned, Row, Tracked, all_so}
 pub use Rattle.osi_blameless.proofs.transport.connections.each_connection_has_its_line.{asking, is_tracked, stray}
-pub use Rattle.osi_blameless.proofs.transport.called.each_connection_of_a_called_end.{Answering, AreAbove, AreStrays, Asked, Called, Stand, StrayIf, Untagged}
+pub use Rattle.osi_blameless.proofs.transport.called.each_connection_of_a_called_end.{Answering, AreAbove, AreStrays, Asked, Called, Stand}
+pub use Rattle.osi_blameless.proofs.transport.called.each_connection_of_a_called_end.{StrayIf, Untagged}
 pub use Rattle.osi_blameless.proofs.transport.called.each_connection_of_a_called_end.{answers as answering, comes, line_of, refuses, runs}
 pub use Rattle.osi_blameless.proofs.transport.requests.how_a_calling_end_asks.{IsOver, one}
 pub use Rattle.osi_blameless.proofs.transport.requests.how_requests_go_on.{Calling, answered, ended, known, quiet, refused, waits}
@@ -189,9 +196,12 @@ pub use Rattle.osi_blameless.proofs.transport.names.names_stay_apart_though_one_
 pub use Rattle.osi_blameless.proofs.transport.requests.no_request_is_blamed.{Holds, holds_first, holds_next}
 pub use Rattle.osi_blameless.proofs.transport.connections.no_two_open_connections_have_one_peer.{both, left_open}
 pub use Rattle.osi_blameless.proofs.transport.requests.one_request_waits.{begun_live, reached_class}
-pub use Rattle.osi_blameless.proofs.transport.requests.references_of_requests_rise.{Rise, all_gives, closed_gives, ended_gives, not_less, rise_from, sent_gives}
-pub use Rattle.osi_blameless.proofs.transport.small_facts_that_many_lemmas_use.{and_false, begins_judged, begun_left, begun_right, closing_same, differ}
-pub use Rattle.osi_blameless.proofs.transport.small_facts_that_many_lemmas_use.{first_is, is_false, judged_same, no_list, none_of, number_is, some_same}
+pub use Rattle.osi_blameless.proofs.transport.requests.references_of_requests_rise.{Rise, all_gives, closed_gives, ended_gives, not_less}
+pub use Rattle.osi_blameless.proofs.transport.requests.references_of_requests_rise.{rise_from, sent_gives}
+pub use Rattle.osi_blameless.proofs.transport.small_facts_that_many_lemmas_use.{and_false, begins_judged, begun_left, begun_right}
+pub use Rattle.osi_blameless.proofs.transport.small_facts_that_many_lemmas_use.{closing_same, differ}
+pub use Rattle.osi_blameless.proofs.transport.small_facts_that_many_lemmas_use.{first_is, is_false, judged_same, no_list, none_of}
+pub use Rattle.osi_blameless.proofs.transport.small_facts_that_many_lemmas_use.{number_is, some_same}
 pub use Rattle.osi_blameless.proofs.transport.small_facts_that_many_lemmas_use.{unequal}
 pub use Rattle.osi_blameless.proofs.transport.calling.the_end_is_judged_as_the_other_side_is.{side_zero}
 pub use Rattle.osi_blameless.proofs.transport.connections.units_by_their_place.{Placed, at_first, at_join, first_at, values}
@@ -199,10 +209,13 @@ pub use Rattle.osi_blameless.proofs.transport.requests.what_a_carrier_puts.{alon
 pub use Rattle.osi_blameless.proofs.transport.lines.what_a_link_does.{begun_by, gives_so, takes_so}
 pub use Rattle.osi_blameless.proofs.transport.class_0.what_an_end_does_in_class_zero.{IsInZero, anyhow, zero_puts}
 pub use Rattle.osi_blameless.proofs.transport.class_0.what_an_end_puts_in_class_zero.{PutsData}
-pub use Rattle.osi_blameless.proofs.transport.called.what_becomes_of_a_called_end.{IsCalled, closing_no_cc, confirms_no_cc, given_no_cc, none_by_call}
+pub use Rattle.osi_blameless.proofs.transport.called.what_becomes_of_a_called_end.{IsCalled, closing_no_cc, confirms_no_cc, given_no_cc}
+pub use Rattle.osi_blameless.proofs.transport.called.what_becomes_of_a_called_end.{none_by_call}
 pub use Rattle.osi_blameless.proofs.transport.connections.what_becomes_of_a_connection.{comes_for}
-pub use Rattle.osi_blameless.proofs.transport.names.what_holds_of_one_item.{HoldsOfEach, after_add, after_map, after_set, each_add, each_map, each_set}
-pub use Rattle.osi_blameless.proofs.transport.names.what_holds_of_one_item.{first_true, none_true, one_added, one_changed, one_mapped, one_put}
+pub use Rattle.osi_blameless.proofs.transport.names.what_holds_of_one_item.{HoldsOfEach, after_add, after_map, after_set, each_add}
+pub use Rattle.osi_blameless.proofs.transport.names.what_holds_of_one_item.{each_map, each_set}
+pub use Rattle.osi_blameless.proofs.transport.names.what_holds_of_one_item.{first_true, none_true, one_added, one_changed, one_mapped}
+pub use Rattle.osi_blameless.proofs.transport.names.what_holds_of_one_item.{one_put}
 pub use Rattle.osi_blameless.proofs.transport.lines.what_is_right_passes_each_test.{passes_each}
 pub use Rattle.osi_blameless.proofs.transport.names.what_keeps_names_apart.{AreApart as NamesApart, Sound}
 pub use Rattle.osi_blameless.proofs.transport.requests.what_lasts_at_the_judge.{lasts_passing}
@@ -210,10 +223,13 @@ pub use Rattle.osi_blameless.proofs.transport.connections.what_stays_of_each_con
 pub use Rattle.osi_blameless.proofs.transport.connections.what_the_other_side_closes.{IsClear, IsFirm, IsOngoing, going_on, is_name}
 pub use Rattle.osi_blameless.proofs.transport.requests.which_requests_are_put.{asked_among, call_asks, unit_asks}
 pub use Rattle.osi_blameless.proofs.transport.connections.which_unit_of_the_other_side_passes.{IsCalm, IsIdle}
-pub use Rattle.osi_blameless.proofs.transport.connections.which_units_are_for_a_connection.{IsDc, each_picked, first_kept, first_left, names_in as is_at, is_dc, keep}
-pub use Rattle.osi_blameless.proofs.transport.connections.which_units_are_for_a_connection.{leads, names, picked, picked_first, picked_join, picked_other, picked_rest}
+pub use Rattle.osi_blameless.proofs.transport.connections.which_units_are_for_a_connection.{IsDc, each_picked, first_kept, first_left}
+pub use Rattle.osi_blameless.proofs.transport.connections.which_units_are_for_a_connection.{names_in as is_at, is_dc, keep}
+pub use Rattle.osi_blameless.proofs.transport.connections.which_units_are_for_a_connection.{leads, names, picked, picked_first, picked_join}
+pub use Rattle.osi_blameless.proofs.transport.connections.which_units_are_for_a_connection.{picked_other, picked_rest}
 pub use Rattle.osi_blameless.proofs.transport.connections.which_units_are_for_a_connection.{those, those_join}
-pub use Rattle.osi_blameless.proofs.transport.requests.while_no_class_is_selected.{GoesOn, Waits, after_change, calm_judge, done_takes, set_same, set_there}
+pub use Rattle.osi_blameless.proofs.transport.requests.while_no_class_is_selected.{GoesOn, Waits, after_change, calm_judge, done_takes}
+pub use Rattle.osi_blameless.proofs.transport.requests.while_no_class_is_selected.{set_same, set_there}
 pub use Rattle.osi_blameless.specs.transport.Asking.{asked_in}
 pub use Rattle.osi_blameless.specs.transport.Lines.{Act, Acts, ActsAlong, Line, begins_elsewhere, ignores, moves, opened_line, units_put}
 pub use Rattle.osi_blameless.specs.transport.Naming.{HoldsOfOne, Passing, packet, passes, rubbish, unit}

@@ -3,7 +3,8 @@
 use Rattle.osi_blameless.proofs.Vocabulary.{AllByRecursion, Bool, CanBeWritten, Carrier, Class, Connection, EndReason, Fits}
 use Rattle.osi_blameless.proofs.Vocabulary.{HasFieldsInRange, List, None, Option, Some, Time as Stage, Two, Value, Zero, [], amid, ap}
 use Rattle.osi_blameless.proofs.Vocabulary.{early, false, has_given, stage_at, stage_over, is_some, le-leb, lt-ltb, nat_le, past, refl, sym}
-use Rattle.osi_blameless.proofs.Vocabulary.{true, ℕ, ◌&&◌, ◌++◌, ◌<◌, ◌||◌, ◌∙◌, ◌∷◌, ◌≡◌, ◌≤◌, arith, units_in, units_of, units_read, flat_map-append}
+use Rattle.osi_blameless.proofs.Vocabulary.{true, ℕ, ◌&&◌, ◌++◌, ◌<◌, ◌||◌, ◌∙◌, ◌∷◌, ◌≡◌, ◌≤◌, arith, units_in, units_of, units_read}
+use Rattle.osi_blameless.proofs.Vocabulary.{flat_map-append}
 use Rattle.osi_blameless.specs.transport.Pieces as pieces
 
 pub all_front : {X : Type 0} (P : X → Type 0) (xs ys : List X) → AllByRecursion P (xs ++ ys) → AllByRecursion P xs

@@ -1,5 +1,6 @@
 -- A run that is told of a side explains what this side sent.
-use Rattle.std.proofs.Common.{◌≡◌, ℕ, zero, suc, ◌+◌, ◌≤◌, ◌<◌, List, [], ◌∷◌, length, get_or, map, drop, ◌-◌, Bool, true, MatchBool, Option, Some, None, IfSome, IfNone, refl, ap, ◌∙◌, subst, sym, arith, inl, inr}
+use Rattle.std.proofs.Common.{◌≡◌, ℕ, zero, suc, ◌+◌, ◌≤◌, ◌<◌, List, [], ◌∷◌, length, get_or, map, drop, ◌-◌, Bool, true, MatchBool}
+use Rattle.std.proofs.Common.{Option, Some, None, IfSome, IfNone, refl, ap, ◌∙◌, subst, sym, arith, inl, inr}
 use Rattle.std.proofs.Math.Seq.{drop-length}
 use Rattle.std.proofs.lemmas.List.{drop_more}
 use Rattle.osi_message.specs.Meanings.{Meaning}

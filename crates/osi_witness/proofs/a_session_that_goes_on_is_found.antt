@@ -1,5 +1,6 @@
 -- A session that goes on to a unit is found, and how it does: for the functions of `trails` that look for it.
-use Rattle.std.proofs.Common.{◌≡◌, ◌≢◌, MatchBool, ◌∙◌, ◌≤◌, ◌<◌, ◌+◌, ◌-◌, ◌∷◌, ◌⊎◌, ◌↔◌, inl, inr, ap, sym, subst, arith, ℕ, zero, suc, Bool, true, false}
+use Rattle.std.proofs.Common.{◌≡◌, ◌≢◌, MatchBool, ◌∙◌, ◌≤◌, ◌<◌, ◌+◌, ◌-◌, ◌∷◌, ◌⊎◌, ◌↔◌, inl, inr, ap, sym, subst, arith, ℕ, zero, suc}
+use Rattle.std.proofs.Common.{Bool, true, false}
 use Rattle.std.proofs.Common.{List, [], length, take, get_or, Option, Some, None, IfNone, IfOk, IfSome, Result, Ok, Err}
 use Rattle.std.proofs.Math.Numerals.{add-one}
 use Rattle.std.proofs.lemmas.Bool.{false≢true}

@@ -1,6 +1,7 @@
 -- Each session that is kept after a unit comes from one that was kept before it: for the walk back from the last unit.
 use Rattle.std.proofs.Common.{◌≡◌, ◌≢◌, ◌∙◌, ◌≤◌, ◌+◌, ◌-◌, ◌++◌, ◌∷◌, ◌&&◌, ◌⊎◌, inl, inr, refl, ap, sym, subst, arith, ℕ, zero, suc, Bool}
-use Rattle.std.proofs.Common.{nat_lt, true, false, if◌then◌else◌, List, [], length, get_or, replicate, Option, Some, None, option_map, Result, Ok, Err}
+use Rattle.std.proofs.Common.{nat_lt, true, false, if◌then◌else◌, List, [], length, get_or, replicate, Option, Some, None, option_map}
+use Rattle.std.proofs.Common.{Result, Ok, Err}
 use Rattle.std.proofs.lemmas.Bool.{MatchBool-at_true, and_parts, eqb-true, false≢true}
 use Rattle.std.proofs.lemmas.List.{length-replicate}
 use Rattle.std.specs.List.{fold, flat_map}
@@ -23,7 +24,8 @@ use Rattle.osi_side.specs.declared.members.Member.{Member}
 use Rattle.osi_side.specs.Explaining.{Remark}
 use Rattle.osi_side.specs.Kept.{Halt, Way, added, after_word, anew, answering, asks, both_of, first_sender, follows, if_answer, is_covered}
 use Rattle.osi_side.specs.Kept.{an_abort, asked_by, is_between, quiet_after, restart_at}
-use Rattle.osi_side.specs.Kept.{is_still, joined, latest, listed, member, or_else, passed, places_of, quietly, remain, restarters, same_count, senders, sends}
+use Rattle.osi_side.specs.Kept.{is_still, joined, latest, listed, member, or_else, passed, places_of, quietly, remain, restarters}
+use Rattle.osi_side.specs.Kept.{same_count, senders, sends}
 use Rattle.osi_side.specs.Kept.{same_seen, unless, waited, waits, way_to, askers}
 use Rattle.osi_side.specs.Nearest.{becomes, count_at, next_of, quiet_by, reached}
 use Rattle.osi_side.specs.Onward.{IsAmong}

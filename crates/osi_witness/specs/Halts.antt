@@ -1,7 +1,8 @@
 -- The words of a script for why it goes no further.
 use Rattle.std.specs.Prelude.{ℕ, Bool, true, false, List, codes}
 use Rattle.osi_witness.specs.declared.halts.Halt.{Halt}
-use Rattle.osi_witness.specs.declared.halts.Halt.TheVariants.{NoSession, TooMany, NoCall, Transport, TransportOfClass2, TooLong, OutOfMemory}
+use Rattle.osi_witness.specs.declared.halts.Halt.TheVariants.{NoSession, TooMany, NoCall, Transport, TransportOfClass2, TooLong}
+use Rattle.osi_witness.specs.declared.halts.Halt.TheVariants.{OutOfMemory}
 
 abbrev pub halt_words : Halt → List ℕ
 halt_words NoSession = codes "no session sends this here"

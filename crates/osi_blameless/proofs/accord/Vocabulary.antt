@@ -66,12 +66,15 @@ pub use Rattle.osi_judge.specs.Lines.{Spoken, before, begun_octets, heard, silen
 pub use Rattle.osi_judge.specs.States.{begin_within}
 pub use Rattle.osi_judge.specs.declared.connections.Connection.{Connection}
 pub use Rattle.osi_judge.specs.declared.rooms.Room.{Room}
-pub use Rattle.osi_blameless.specs.accord.Accords.{Accords, AreInOrder, Sending, Turn, end_of, octets_told, own, sending, sending_of, told_by}
+pub use Rattle.osi_blameless.specs.accord.Accords.{Accords, AreInOrder, Sending, Turn, end_of, octets_told, own, sending, sending_of}
+pub use Rattle.osi_blameless.specs.accord.Accords.{told_by}
 pub use Rattle.osi_blameless.specs.accord.Accords.{tsdus_by, turn, words_in}
 pub use Rattle.osi_blameless.specs.accord.Liberties.{IsCall, as_called, has_size_of, has_sizes_of, is_called}
-pub use Rattle.osi_blameless.specs.accord.Machines.{AreWritten, IsByCall, IsCoreCall, IsMessage, Plays, TakesNoLiberty, Utterance, connect_of}
+pub use Rattle.osi_blameless.specs.accord.Machines.{AreWritten, IsByCall, IsCoreCall, IsMessage, Plays, TakesNoLiberty, Utterance}
+pub use Rattle.osi_blameless.specs.accord.Machines.{connect_of}
 pub use Rattle.osi_blameless.specs.accord.Machines.{is_connect, sent_at, side_at, utters}
-pub use Rattle.osi_blameless.specs.accord.Pairs.{Pair, Party, channel_of, has_taken, pair_of, party_of, session_of, with_channel, with_session}
+pub use Rattle.osi_blameless.specs.accord.Pairs.{Pair, Party, channel_of, has_taken, pair_of, party_of, session_of, with_channel}
+pub use Rattle.osi_blameless.specs.accord.Pairs.{with_session}
 pub use Rattle.osi_blameless.specs.accord.Judges.{AreTold, BeginWith, IsAccord, IsFoundOn, IsToldOn, connection_in}
 pub use Rattle.osi_blameless.specs.accord.Wholes.{CallsAndAnswers, IsAnyCall, IsByAnyCall, PlaysWhole, end_if, its_own, start_0, uttered_at}
 pub use Rattle.osi_blameless.specs.accord.Wholes.{uttered_by, uttered_in}

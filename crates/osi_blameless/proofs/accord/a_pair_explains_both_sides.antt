@@ -1,8 +1,10 @@
 -- In a run of two sessions each side is explained, apart from the other, by what had passed before its TSDUs.
 -- For the law that two explained sides are a pair, and only they.
 use Rattle.osi_blameless.proofs.accord.Vocabulary.{[], ap, arith, get_or, length, List, map, refl, subst, ℕ, ◌++◌, ◌+◌, ◌∙◌, ◌∷◌, ◌≡◌}
-use Rattle.osi_blameless.proofs.accord.Vocabulary.{get_or-append_seam, flat_map, Seen, Takes, Explains, IsExplained, Remark, remarks, Direction, Left}
-use Rattle.osi_blameless.proofs.accord.Vocabulary.{Right, Accords, Sending, sending, sending_of, told_by, tsdus_by, Turn, turn, Pair, pair_of}
+use Rattle.osi_blameless.proofs.accord.Vocabulary.{get_or-append_seam, flat_map, Seen, Takes, Explains, IsExplained, Remark, remarks}
+use Rattle.osi_blameless.proofs.accord.Vocabulary.{Direction, Left}
+use Rattle.osi_blameless.proofs.accord.Vocabulary.{Right, Accords, Sending, sending, sending_of, told_by, tsdus_by, Turn, turn, Pair}
+use Rattle.osi_blameless.proofs.accord.Vocabulary.{pair_of}
 use Rattle.osi_side.specs.Explaining as explained
 use Rattle.osi_blameless.specs.accord.Accords as accord
 use Rattle.osi_blameless.proofs.accord.two_runs_are_one.{one_more, remarks_are, said_as, taken_one}

@@ -1,18 +1,26 @@
 -- A run of two sessions that send what calls and answers send is one of the machine of whole connections, in class 0.
 -- For the law of that name.
-use Rattle.osi_blameless.proofs.accord.Vocabulary.{[], ap, append-nil, false, inl, inr, length, List, map, None, Option, refl, Some, subst, sym, true}
-use Rattle.osi_blameless.proofs.accord.Vocabulary.{ℕ, ◌++◌, ◌∙◌, ◌∷◌, ◌≡◌, flat_map-append, append_assoc, AllByRecursion, GT, Meaning, IsSendable}
-use Rattle.osi_blameless.proofs.accord.Vocabulary.{no_token, says, Word, written, has_no_effect, awaiting, answers_word, CanSay, Count, listens, Seen}
-use Rattle.osi_blameless.proofs.accord.Vocabulary.{seen_called, seen_calling, Takes, CanBeOffered, Offer, offer_sent, offering, connects, Entry}
-use Rattle.osi_blameless.proofs.accord.Vocabulary.{HasNumber, said_in, units_in, refusal, run, step, Tables, linked, replied, unit, other, Direction}
-use Rattle.osi_blameless.proofs.accord.Vocabulary.{Left, Right, Accords, end_of, Sending, sending, AreWritten, connect_of, is_connect, IsByCall}
-use Rattle.osi_blameless.proofs.accord.Vocabulary.{IsMessage, side_at, TakesNoLiberty, Utterance, utters, channel_of, has_taken, Pair, pair_of}
+use Rattle.osi_blameless.proofs.accord.Vocabulary.{[], ap, append-nil, false, inl, inr, length, List, map, None, Option, refl, Some, subst}
+use Rattle.osi_blameless.proofs.accord.Vocabulary.{sym, true}
+use Rattle.osi_blameless.proofs.accord.Vocabulary.{ℕ, ◌++◌, ◌∙◌, ◌∷◌, ◌≡◌, flat_map-append, append_assoc, AllByRecursion, GT, Meaning}
+use Rattle.osi_blameless.proofs.accord.Vocabulary.{IsSendable}
+use Rattle.osi_blameless.proofs.accord.Vocabulary.{no_token, says, Word, written, has_no_effect, awaiting, answers_word, CanSay, Count}
+use Rattle.osi_blameless.proofs.accord.Vocabulary.{listens, Seen}
+use Rattle.osi_blameless.proofs.accord.Vocabulary.{seen_called, seen_calling, Takes, CanBeOffered, Offer, offer_sent, offering, connects}
+use Rattle.osi_blameless.proofs.accord.Vocabulary.{Entry}
+use Rattle.osi_blameless.proofs.accord.Vocabulary.{HasNumber, said_in, units_in, refusal, run, step, Tables, linked, replied, unit, other}
+use Rattle.osi_blameless.proofs.accord.Vocabulary.{Direction}
+use Rattle.osi_blameless.proofs.accord.Vocabulary.{Left, Right, Accords, end_of, Sending, sending, AreWritten, connect_of, is_connect}
+use Rattle.osi_blameless.proofs.accord.Vocabulary.{IsByCall}
+use Rattle.osi_blameless.proofs.accord.Vocabulary.{IsMessage, side_at, TakesNoLiberty, Utterance, utters, channel_of, has_taken, Pair}
+use Rattle.osi_blameless.proofs.accord.Vocabulary.{pair_of}
 use Rattle.osi_blameless.proofs.accord.Vocabulary.{session_of, with_channel, with_session, CallsAndAnswers, IsAnyCall, IsByAnyCall, its_own}
 use Rattle.osi_blameless.proofs.accord.Vocabulary.{PlaysWhole, start_0, uttered_at, uttered_by, uttered_in, arith, Step}
 use Rattle.osi_session.specs.Moves.{react}
 use Rattle.osi_machine.specs.Sayings.{said_at}
 use Rattle.osi_blameless.specs.accord.Accords as accord
-use Rattle.osi_blameless.proofs.accord.messages_of_a_run.{AsMessages, IsRest, message_first, same_said, says_nothing, IsDue, same_pair, first_word}
+use Rattle.osi_blameless.proofs.accord.messages_of_a_run.{AsMessages, IsRest, message_first, same_said, says_nothing, IsDue, same_pair}
+use Rattle.osi_blameless.proofs.accord.messages_of_a_run.{first_word}
 use Rattle.osi_blameless.proofs.accord.messages_of_a_run.{effect_of}
 use Rattle.osi_blameless.proofs.accord.how_a_run_begins.{asking, connected}
 use Rattle.osi_blameless.proofs.accord.a_step_of_one_connection.{facing, seat, tables, taking_at}

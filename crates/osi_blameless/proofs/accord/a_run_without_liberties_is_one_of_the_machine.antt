@@ -1,17 +1,25 @@
 -- A run of two sessions in which no liberty is taken is a run of the machine of two sides that exchange whole messages.
 -- For the law of that name.
-use Rattle.osi_blameless.proofs.accord.Vocabulary.{[], ap, append-nil, false, inl, inr, length, List, map, None, Ok, Option, refl, Some, subst, sym}
-use Rattle.osi_blameless.proofs.accord.Vocabulary.{true, ℕ, ◌++◌, ◌∙◌, ◌∷◌, ◌≡◌, AllByRecursion, GT, Meaning, IsSendable, no_token, says, Word}
-use Rattle.osi_blameless.proofs.accord.Vocabulary.{written, allowed, Call, HasSerial, has_no_effect, respond_unit, after_count, CanSay, Count, Seen}
-use Rattle.osi_blameless.proofs.accord.Vocabulary.{seen_called, seen_calling, Takes, call_at, called, Core, core_start, core_step, Offer, offer_sent}
-use Rattle.osi_blameless.proofs.accord.Vocabulary.{stays_in_core, take_at, taking, turned, other, Direction, Left, Right, Accords, end_of, Sending}
-use Rattle.osi_blameless.proofs.accord.Vocabulary.{sending, AreWritten, connect_of, is_connect, IsByCall, IsCoreCall, IsMessage, Plays, sent_at}
-use Rattle.osi_blameless.proofs.accord.Vocabulary.{side_at, TakesNoLiberty, Utterance, utters, channel_of, has_taken, Pair, pair_of, session_of}
+use Rattle.osi_blameless.proofs.accord.Vocabulary.{[], ap, append-nil, false, inl, inr, length, List, map, None, Ok, Option, refl, Some}
+use Rattle.osi_blameless.proofs.accord.Vocabulary.{subst, sym}
+use Rattle.osi_blameless.proofs.accord.Vocabulary.{true, ℕ, ◌++◌, ◌∙◌, ◌∷◌, ◌≡◌, AllByRecursion, GT, Meaning, IsSendable, no_token, says}
+use Rattle.osi_blameless.proofs.accord.Vocabulary.{Word}
+use Rattle.osi_blameless.proofs.accord.Vocabulary.{written, allowed, Call, HasSerial, has_no_effect, respond_unit, after_count, CanSay}
+use Rattle.osi_blameless.proofs.accord.Vocabulary.{Count, Seen}
+use Rattle.osi_blameless.proofs.accord.Vocabulary.{seen_called, seen_calling, Takes, call_at, called, Core, core_start, core_step, Offer}
+use Rattle.osi_blameless.proofs.accord.Vocabulary.{offer_sent}
+use Rattle.osi_blameless.proofs.accord.Vocabulary.{stays_in_core, take_at, taking, turned, other, Direction, Left, Right, Accords, end_of}
+use Rattle.osi_blameless.proofs.accord.Vocabulary.{Sending}
+use Rattle.osi_blameless.proofs.accord.Vocabulary.{sending, AreWritten, connect_of, is_connect, IsByCall, IsCoreCall, IsMessage, Plays}
+use Rattle.osi_blameless.proofs.accord.Vocabulary.{sent_at}
+use Rattle.osi_blameless.proofs.accord.Vocabulary.{side_at, TakesNoLiberty, Utterance, utters, channel_of, has_taken, Pair, pair_of}
+use Rattle.osi_blameless.proofs.accord.Vocabulary.{session_of}
 use Rattle.osi_blameless.proofs.accord.Vocabulary.{with_channel, with_session, arith}
 use Rattle.osi_session.specs.Allowed.{Step}
 use Rattle.osi_machine.specs.Core as machine
 use Rattle.osi_blameless.specs.accord.Accords as accord
-use Rattle.osi_blameless.proofs.accord.messages_of_a_run.{AsMessages, IsTaken, is_taken, IsRest, message_first, same_said, says_nothing, all_and_one}
+use Rattle.osi_blameless.proofs.accord.messages_of_a_run.{AsMessages, IsTaken, is_taken, IsRest, message_first, same_said, says_nothing}
+use Rattle.osi_blameless.proofs.accord.messages_of_a_run.{all_and_one}
 use Rattle.osi_blameless.proofs.accord.messages_of_a_run.{written_more, kept_none, comes, IsDue, same_pair, first_word, effect_of}
 use Rattle.osi_blameless.proofs.accord.how_a_run_begins.{connected}
 

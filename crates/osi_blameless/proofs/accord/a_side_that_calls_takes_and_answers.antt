@@ -1,15 +1,22 @@
 -- What the tables of whole connections and a pair of sessions have in common, and that a call and a delivery keep it.
 -- For the law that a run of calls and answers is one of the machine of whole connections.
-use Rattle.osi_blameless.proofs.accord.Vocabulary.{[], ap, append-nil, Bool, false, if◌then◌else◌, length, List, map, None, not, Ok, Option, refl}
-use Rattle.osi_blameless.proofs.accord.Vocabulary.{Some, subst, sym, take, true, ℕ, ◌++◌, ◌||◌, ◌∙◌, ◌∷◌, ◌≡◌, take-append_seam, append_assoc}
-use Rattle.osi_blameless.proofs.accord.Vocabulary.{AllByRecursion, Meaning, IsSendable, said_of, written, unit_silent, enacts, allowed, drops_parts}
+use Rattle.osi_blameless.proofs.accord.Vocabulary.{[], ap, append-nil, Bool, false, if◌then◌else◌, length, List, map, None, not, Ok, Option}
+use Rattle.osi_blameless.proofs.accord.Vocabulary.{refl}
+use Rattle.osi_blameless.proofs.accord.Vocabulary.{Some, subst, sym, take, true, ℕ, ◌++◌, ◌||◌, ◌∙◌, ◌∷◌, ◌≡◌, take-append_seam}
+use Rattle.osi_blameless.proofs.accord.Vocabulary.{append_assoc}
+use Rattle.osi_blameless.proofs.accord.Vocabulary.{AllByRecursion, Meaning, IsSendable, said_of, written, unit_silent, enacts, allowed}
+use Rattle.osi_blameless.proofs.accord.Vocabulary.{drops_parts}
 use Rattle.osi_blameless.proofs.accord.Vocabulary.{in_state, is_wait_transport, enacted, Outcome, respond, respond_unit, Verdict, verdict}
-use Rattle.osi_blameless.proofs.accord.Vocabulary.{after_count, Count, goes, listens, Seen, Takes, without_tokens, Ended, State, calls, closed_here}
-use Rattle.osi_blameless.proofs.accord.Vocabulary.{Ending, Entry, HasNumber, is_given, one_or_none, Seat, step, Tables, gone, linked, Message}
-use Rattle.osi_blameless.proofs.accord.Vocabulary.{replied, Transport, unit, other, Direction, Left, Right, side_at, utters, channel_of, has_taken}
+use Rattle.osi_blameless.proofs.accord.Vocabulary.{after_count, Count, goes, listens, Seen, Takes, without_tokens, Ended, State, calls}
+use Rattle.osi_blameless.proofs.accord.Vocabulary.{closed_here}
+use Rattle.osi_blameless.proofs.accord.Vocabulary.{Ending, Entry, HasNumber, is_given, one_or_none, Seat, step, Tables, gone, linked}
+use Rattle.osi_blameless.proofs.accord.Vocabulary.{Message}
+use Rattle.osi_blameless.proofs.accord.Vocabulary.{replied, Transport, unit, other, Direction, Left, Right, side_at, utters, channel_of}
+use Rattle.osi_blameless.proofs.accord.Vocabulary.{has_taken}
 use Rattle.osi_blameless.proofs.accord.Vocabulary.{Pair, session_of, end_if, IsAnyCall, uttered_at, arith, Step}
 use Rattle.osi_blameless.proofs.accord.messages_of_a_run.{AsMessages, IsTaken, is_taken, all_and_one, written_more, kept_none, comes}
-use Rattle.osi_blameless.proofs.accord.a_step_of_one_connection.{call_leaves, call_utters, called_seat, close_leaves, coming, delivery_leaves}
+use Rattle.osi_blameless.proofs.accord.a_step_of_one_connection.{call_leaves, call_utters, called_seat, close_leaves, coming}
+use Rattle.osi_blameless.proofs.accord.a_step_of_one_connection.{delivery_leaves}
 use Rattle.osi_blameless.proofs.accord.a_step_of_one_connection.{delivery_utters, seat, tables, taking_at}
 
 -- ---- a side of the tables, and a side of the pair

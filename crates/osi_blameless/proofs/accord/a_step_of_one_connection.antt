@@ -1,9 +1,13 @@
 -- What a call and a delivery leave of the tables of one connection of class 0, of which nothing is lost.
 -- For the law that a run of calls and answers is one of the machine of whole connections.
-use Rattle.osi_blameless.proofs.accord.Vocabulary.{[], append-nil, false, length, List, map, None, Ok, Option, Some, take, true, ℕ, ◌++◌, ◌∷◌, ◌≡◌}
-use Rattle.osi_blameless.proofs.accord.Vocabulary.{Meaning, said_of, allowed, Call, in_state, Standing, Outcome, respond, without_tokens, Ended}
-use Rattle.osi_blameless.proofs.accord.Vocabulary.{State, calls, closed_here, delivers, Ending, Entry, is_given, one_or_none, Line, Seat, step}
-use Rattle.osi_blameless.proofs.accord.Vocabulary.{Tables, accepts, class_0, gone, linked, Message, replied, Transport, unit, other, Direction, Left}
+use Rattle.osi_blameless.proofs.accord.Vocabulary.{[], append-nil, false, length, List, map, None, Ok, Option, Some, take, true, ℕ, ◌++◌}
+use Rattle.osi_blameless.proofs.accord.Vocabulary.{◌∷◌, ◌≡◌}
+use Rattle.osi_blameless.proofs.accord.Vocabulary.{Meaning, said_of, allowed, Call, in_state, Standing, Outcome, respond, without_tokens}
+use Rattle.osi_blameless.proofs.accord.Vocabulary.{Ended}
+use Rattle.osi_blameless.proofs.accord.Vocabulary.{State, calls, closed_here, delivers, Ending, Entry, is_given, one_or_none, Line, Seat}
+use Rattle.osi_blameless.proofs.accord.Vocabulary.{step}
+use Rattle.osi_blameless.proofs.accord.Vocabulary.{Tables, accepts, class_0, gone, linked, Message, replied, Transport, unit, other}
+use Rattle.osi_blameless.proofs.accord.Vocabulary.{Direction, Left}
 use Rattle.osi_blameless.proofs.accord.Vocabulary.{Right, side_at, utters, uttered_at, arith, Step}
 use Rattle.osi_session.specs.Moves.{react}
 

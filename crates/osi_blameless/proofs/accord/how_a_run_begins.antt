@@ -1,8 +1,11 @@
 -- A run whose first TSDU is the CN of a caller goes on from where this CN is in flight.
 -- For the laws that a run of two sessions is one of the machine.
-use Rattle.osi_blameless.proofs.accord.Vocabulary.{[], ap, length, List, Option, refl, Some, subst, ℕ, ◌++◌, ◌∙◌, ◌∷◌, ◌≡◌, IsSendable, says, Word}
-use Rattle.osi_blameless.proofs.accord.Vocabulary.{written, begins, CanSay, Seen, seen_called, seen_calling, Offer, offer_sent, offering, other}
-use Rattle.osi_blameless.proofs.accord.Vocabulary.{Direction, Left, Accords, end_of, Sending, sending, words_in, connect_of, channel_of, Pair}
+use Rattle.osi_blameless.proofs.accord.Vocabulary.{[], ap, length, List, Option, refl, Some, subst, ℕ, ◌++◌, ◌∙◌, ◌∷◌, ◌≡◌, IsSendable}
+use Rattle.osi_blameless.proofs.accord.Vocabulary.{says, Word}
+use Rattle.osi_blameless.proofs.accord.Vocabulary.{written, begins, CanSay, Seen, seen_called, seen_calling, Offer, offer_sent, offering}
+use Rattle.osi_blameless.proofs.accord.Vocabulary.{other}
+use Rattle.osi_blameless.proofs.accord.Vocabulary.{Direction, Left, Accords, end_of, Sending, sending, words_in, connect_of, channel_of}
+use Rattle.osi_blameless.proofs.accord.Vocabulary.{Pair}
 use Rattle.osi_blameless.proofs.accord.Vocabulary.{pair_of, party_of, session_of, with_channel, with_session, arith}
 use Rattle.osi_session.specs.Joining.{acting_words}
 use Rattle.osi_session.specs.Standing.{said}

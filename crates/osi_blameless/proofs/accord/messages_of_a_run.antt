@@ -1,9 +1,13 @@
 -- What is known of the messages of two sides: how they are read, their words, and which of them are still to be sent.
 -- For the laws that a run of two sessions is one of the machine.
-use Rattle.osi_blameless.proofs.accord.Vocabulary.{[], ap, Bool, false, if◌then◌else◌, List, map, None, Ok, Option, refl, Some, sym, true, ℕ, ◌++◌}
-use Rattle.osi_blameless.proofs.accord.Vocabulary.{◌∙◌, ◌∷◌, ◌≡◌, ◌⊎◌, AllByRecursion, GT, Meaning, Said, said_at, IsSendable, said_of, words_of}
-use Rattle.osi_blameless.proofs.accord.Vocabulary.{no_token, says, Word, is_second, written, respond_came, respond_tsdu, has_no_effect, respond}
-use Rattle.osi_blameless.proofs.accord.Vocabulary.{respond_unit, CanSay, Count, counted, said_within, Seen, Takes, State, Direction, Sending, sending}
+use Rattle.osi_blameless.proofs.accord.Vocabulary.{[], ap, Bool, false, if◌then◌else◌, List, map, None, Ok, Option, refl, Some, sym, true}
+use Rattle.osi_blameless.proofs.accord.Vocabulary.{ℕ, ◌++◌}
+use Rattle.osi_blameless.proofs.accord.Vocabulary.{◌∙◌, ◌∷◌, ◌≡◌, ◌⊎◌, AllByRecursion, GT, Meaning, Said, said_at, IsSendable, said_of}
+use Rattle.osi_blameless.proofs.accord.Vocabulary.{words_of}
+use Rattle.osi_blameless.proofs.accord.Vocabulary.{no_token, says, Word, is_second, written, respond_came, respond_tsdu, has_no_effect}
+use Rattle.osi_blameless.proofs.accord.Vocabulary.{respond}
+use Rattle.osi_blameless.proofs.accord.Vocabulary.{respond_unit, CanSay, Count, counted, said_within, Seen, Takes, State, Direction}
+use Rattle.osi_blameless.proofs.accord.Vocabulary.{Sending, sending}
 use Rattle.osi_blameless.proofs.accord.Vocabulary.{words_in, AreWritten, Utterance, Pair, session_of, with_session, arith}
 use Rattle.osi_session.specs.Standing.{said}
 use Rattle.osi_session.specs.Joining.{acting_words, heard}

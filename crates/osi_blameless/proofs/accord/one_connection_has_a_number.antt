@@ -1,9 +1,12 @@
 -- One connection has a number, and what both sides said on it goes on as more passes.
 -- For the law that two kept sides are a pair.
 use Rattle.osi_blameless.proofs.accord.Vocabulary.{[], ap, append-nil, append_assoc, arith, Bool, cond, false, filter, filter-append, find}
-use Rattle.osi_blameless.proofs.accord.Vocabulary.{length-append, length-map, length-set, List, map, None, Option, refl, set, slice_get, Some, subst}
-use Rattle.osi_blameless.proofs.accord.Vocabulary.{suc, sym, true, zero, ℕ, ◌++◌, ◌+◌, ◌-◌, ◌<◌, ◌^◌, ◌∙◌, ◌∷◌, ◌≡◌, ◌≤◌, eqb-true, Direction}
-use Rattle.osi_blameless.proofs.accord.Vocabulary.{all_begin, asked, changed, count, has_number, IsClaim, Joined, source_of, meant, none, numbered}
+use Rattle.osi_blameless.proofs.accord.Vocabulary.{length-append, length-map, length-set, List, map, None, Option, refl, set, slice_get}
+use Rattle.osi_blameless.proofs.accord.Vocabulary.{Some, subst}
+use Rattle.osi_blameless.proofs.accord.Vocabulary.{suc, sym, true, zero, ℕ, ◌++◌, ◌+◌, ◌-◌, ◌<◌, ◌^◌, ◌∙◌, ◌∷◌, ◌≡◌, ◌≤◌, eqb-true}
+use Rattle.osi_blameless.proofs.accord.Vocabulary.{Direction}
+use Rattle.osi_blameless.proofs.accord.Vocabulary.{all_begin, asked, changed, count, has_number, IsClaim, Joined, source_of, meant, none}
+use Rattle.osi_blameless.proofs.accord.Vocabulary.{numbered}
 use Rattle.osi_blameless.proofs.accord.Vocabulary.{offset_of, packet_begins, placed, Sessions, silent, taken, taken_at, Value, Turn, Room}
 use Rattle.osi_blameless.proofs.accord.what_both_sides_said_has_an_order.{begins_on, GoesOn, IsOrder, meant_on}
 use Rattle.osi_rules.specs.declared.findings.Meaning.{Meaning}

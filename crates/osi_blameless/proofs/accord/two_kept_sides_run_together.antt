@@ -1,9 +1,13 @@
 -- Two sides of a connection that kept the protocol run together; and where two sessions make a connection, neither is blamed.
 -- For the law that two kept sides are a pair.
-use Rattle.osi_blameless.proofs.accord.Vocabulary.{[], ap, arith, List, map, None, Option, refl, Some, subst, sym, take-append-drop, ℕ, ◌+◌, ◌-◌, ◌<◌}
-use Rattle.osi_blameless.proofs.accord.Vocabulary.{◌^◌, ◌∙◌, ◌∷◌, ◌≡◌, seen_called, seen_calling, front_told, Told, Capture, IsExplained, Direction}
-use Rattle.osi_blameless.proofs.accord.Vocabulary.{Left, Right, Broke, Kept, begin_within, Connection, found_at, heard, HoldsJoined, Joined, line_in}
-use Rattle.osi_blameless.proofs.accord.Vocabulary.{Room, Spoken, told, told_of, connection_in, IsAccord, IsFoundOn, IsToldOn, AreTold, octets_told}
+use Rattle.osi_blameless.proofs.accord.Vocabulary.{[], ap, arith, List, map, None, Option, refl, Some, subst, sym, take-append-drop, ℕ, ◌+◌}
+use Rattle.osi_blameless.proofs.accord.Vocabulary.{◌-◌, ◌<◌}
+use Rattle.osi_blameless.proofs.accord.Vocabulary.{◌^◌, ◌∙◌, ◌∷◌, ◌≡◌, seen_called, seen_calling, front_told, Told, Capture, IsExplained}
+use Rattle.osi_blameless.proofs.accord.Vocabulary.{Direction}
+use Rattle.osi_blameless.proofs.accord.Vocabulary.{Left, Right, Broke, Kept, begin_within, Connection, found_at, heard, HoldsJoined, Joined}
+use Rattle.osi_blameless.proofs.accord.Vocabulary.{line_in}
+use Rattle.osi_blameless.proofs.accord.Vocabulary.{Room, Spoken, told, told_of, connection_in, IsAccord, IsFoundOn, IsToldOn, AreTold}
+use Rattle.osi_blameless.proofs.accord.Vocabulary.{octets_told}
 use Rattle.osi_blameless.proofs.accord.Vocabulary.{told_by, Turn, tsdus_by}
 use Rattle.osi_side.specs.declared.findings.Finding.{Finding}
 use Rattle.osi_side.specs.declared.findings.Finding.TheVariants as finding

@@ -1,9 +1,13 @@
 -- Two sides that are explained apart from each other run together, in the order in which their TSDUs passed.
 -- For the law that two explained sides are a pair.
-use Rattle.osi_blameless.proofs.accord.Vocabulary.{[], ap, arith, get_or, length, length-append, List, map, None, Option, refl, Some, subst, sym}
-use Rattle.osi_blameless.proofs.accord.Vocabulary.{true, ℕ, ◌++◌, ◌+◌, ◌<◌, ◌∙◌, ◌∷◌, ◌≡◌, ◌≤◌, get_or-append_seam, Meaning, Word, Words, after_count}
-use Rattle.osi_blameless.proofs.accord.Vocabulary.{answers_word, CanSay, Count, listens, Seen, Takes, Explains, IsExplained, Remark, remark, remarks}
-use Rattle.osi_blameless.proofs.accord.Vocabulary.{remarks_of, Told, Direction, Left, Right, Accords, AreInOrder, Sending, sending, sending_of}
+use Rattle.osi_blameless.proofs.accord.Vocabulary.{[], ap, arith, get_or, length, length-append, List, map, None, Option, refl, Some, subst}
+use Rattle.osi_blameless.proofs.accord.Vocabulary.{sym}
+use Rattle.osi_blameless.proofs.accord.Vocabulary.{true, ℕ, ◌++◌, ◌+◌, ◌<◌, ◌∙◌, ◌∷◌, ◌≡◌, ◌≤◌, get_or-append_seam, Meaning, Word, Words}
+use Rattle.osi_blameless.proofs.accord.Vocabulary.{after_count}
+use Rattle.osi_blameless.proofs.accord.Vocabulary.{answers_word, CanSay, Count, listens, Seen, Takes, Explains, IsExplained, Remark, remark}
+use Rattle.osi_blameless.proofs.accord.Vocabulary.{remarks}
+use Rattle.osi_blameless.proofs.accord.Vocabulary.{remarks_of, Told, Direction, Left, Right, Accords, AreInOrder, Sending, sending}
+use Rattle.osi_blameless.proofs.accord.Vocabulary.{sending_of}
 use Rattle.osi_blameless.proofs.accord.Vocabulary.{told_by, tsdus_by, Turn, turn, words_in, Pair, pair_of, Party}
 use Rattle.osi_side.specs.Explaining as explained
 use Rattle.osi_blameless.specs.accord.Accords as accord

@@ -1,10 +1,15 @@
 -- An AC that a side may send is what a call of Accept sends, if its functional units and sizes are those of such a call.
 -- For the law that what may be said is called.
-use Rattle.osi_blameless.proofs.accord.Vocabulary.{arith, Bool, if◌then◌else◌, length, List, nat_le, None, Ok, Option, refl, Some, subst, sym, true}
-use Rattle.osi_blameless.proofs.accord.Vocabulary.{unwrap_or, ℕ, ◌&&◌, ◌∙◌, ◌≡◌, and_parts, are_sizes, TsduMaximumSize, TokenSetting, Wish, AC}
-use Rattle.osi_blameless.proofs.accord.Vocabulary.{Meaning, over_calls, after, Answer, base_for, may_call, most_of, octets_of, opened_with, sends}
-use Rattle.osi_blameless.proofs.accord.Vocabulary.{Accept, Call, is_answering, allows, of_answerer, settled, stated_side, answered, fits_limit}
-use Rattle.osi_blameless.proofs.accord.Vocabulary.{smaller, accepting_in, fits_user_data, said_message, functional_units, has_data, is_profile}
+use Rattle.osi_blameless.proofs.accord.Vocabulary.{arith, Bool, if◌then◌else◌, length, List, nat_le, None, Ok, Option, refl, Some, subst}
+use Rattle.osi_blameless.proofs.accord.Vocabulary.{sym, true}
+use Rattle.osi_blameless.proofs.accord.Vocabulary.{unwrap_or, ℕ, ◌&&◌, ◌∙◌, ◌≡◌, and_parts, are_sizes, TsduMaximumSize, TokenSetting, Wish}
+use Rattle.osi_blameless.proofs.accord.Vocabulary.{AC}
+use Rattle.osi_blameless.proofs.accord.Vocabulary.{Meaning, over_calls, after, Answer, base_for, may_call, most_of, octets_of, opened_with}
+use Rattle.osi_blameless.proofs.accord.Vocabulary.{sends}
+use Rattle.osi_blameless.proofs.accord.Vocabulary.{Accept, Call, is_answering, allows, of_answerer, settled, stated_side, answered}
+use Rattle.osi_blameless.proofs.accord.Vocabulary.{fits_limit}
+use Rattle.osi_blameless.proofs.accord.Vocabulary.{smaller, accepting_in, fits_user_data, said_message, functional_units, has_data}
+use Rattle.osi_blameless.proofs.accord.Vocabulary.{is_profile}
 use Rattle.osi_blameless.proofs.accord.Vocabulary.{FunctionalUnits, Sides, State, as_called, has_size_of, has_sizes_of, is_called}
 use Rattle.osi_session.specs.Units.{units_within, both_units}
 use Rattle.osi_session.specs.Sizes.{answered_sizes, smaller_sizes}

@@ -1,9 +1,11 @@
 -- The TSDUs of both sides of a connection have an order in which each stands after those of the other side that had passed before it;
 -- and it goes on as more passes. For the law that two kept sides are a pair.
-use Rattle.osi_blameless.proofs.accord.Vocabulary.{[], ap, append-nil, arith, Bool, false, length, length-append, length-map, List, map-append}
+use Rattle.osi_blameless.proofs.accord.Vocabulary.{[], ap, append-nil, arith, Bool, false, length, length-append, length-map, List}
+use Rattle.osi_blameless.proofs.accord.Vocabulary.{map-append}
 use Rattle.osi_blameless.proofs.accord.Vocabulary.{true, ℕ, ◌++◌, ◌+◌, ◌∙◌, ◌∷◌, ◌≡◌, ◌≤◌, flat_map-append, Direction}
 use Rattle.osi_blameless.proofs.accord.Vocabulary.{Left, Right, Value, adds_all, adds_if, before, begun_octets, Joined, meant}
-use Rattle.osi_blameless.proofs.accord.Vocabulary.{packet_begins, Spoken, told, told_of, Told, AreInOrder, AreTold, own, Turn, told_by, turn}
+use Rattle.osi_blameless.proofs.accord.Vocabulary.{packet_begins, Spoken, told, told_of, Told, AreInOrder, AreTold, own, Turn, told_by}
+use Rattle.osi_blameless.proofs.accord.Vocabulary.{turn}
 use Rattle.osi_rules.specs.declared.findings.Meaning.{Meaning}
 
 -- ---- one TSDU more

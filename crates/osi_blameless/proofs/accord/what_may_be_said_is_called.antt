@@ -1,11 +1,15 @@
 -- What a side may send is what a call sends, but for the liberties that it may take. For the law of that name.
-use Rattle.osi_blameless.proofs.accord.Vocabulary.{ap, arith, Bool, false, if◌then◌else◌, length, List, nat_le, None, not, Ok, Option, option_map}
-use Rattle.osi_blameless.proofs.accord.Vocabulary.{refl, Some, subst, sym, true, ℕ, ◌&&◌, ◌+◌, ◌-◌, ◌==◌, ◌||◌, ◌∙◌, ◌≡◌, and_parts, eqb-true, AA, AB}
+use Rattle.osi_blameless.proofs.accord.Vocabulary.{ap, arith, Bool, false, if◌then◌else◌, length, List, nat_le, None, not, Ok, Option}
+use Rattle.osi_blameless.proofs.accord.Vocabulary.{option_map}
+use Rattle.osi_blameless.proofs.accord.Vocabulary.{refl, Some, subst, sym, true, ℕ, ◌&&◌, ◌+◌, ◌-◌, ◌==◌, ◌||◌, ◌∙◌, ◌≡◌, and_parts}
+use Rattle.osi_blameless.proofs.accord.Vocabulary.{eqb-true, AA, AB}
 use Rattle.osi_blameless.proofs.accord.Vocabulary.{AC, CN, DN, DT, FN, GT, MAA, MAP, Meaning, MIA, MIP, NF, PT, RA, RF, RS, says, written}
-use Rattle.osi_blameless.proofs.accord.Vocabulary.{first_error_ok, after, Answer, may_call, most_of, needs, octets_of, sends, Abort, Call, Data, Give}
+use Rattle.osi_blameless.proofs.accord.Vocabulary.{first_error_ok, after, Answer, may_call, most_of, needs, octets_of, sends, Abort, Call}
+use Rattle.osi_blameless.proofs.accord.Vocabulary.{Data, Give}
 use Rattle.osi_blameless.proofs.accord.Vocabulary.{Major, Minor, MinorConfirm, Please, refusal_octets, refusal_with, Release, ReleaseAccept}
 use Rattle.osi_blameless.proofs.accord.Vocabulary.{ReleaseRefuse, RestartConfirm, has_no_effect, answers_wishes, setting_of, settle, stated}
-use Rattle.osi_blameless.proofs.accord.Vocabulary.{fits_limit, calling, CanSay, finishing, goes, is_in_size, left_by, said_message, said_within, Seen}
+use Rattle.osi_blameless.proofs.accord.Vocabulary.{fits_limit, calling, CanSay, finishing, goes, is_in_size, left_by, said_message}
+use Rattle.osi_blameless.proofs.accord.Vocabulary.{said_within, Seen}
 use Rattle.osi_blameless.proofs.accord.Vocabulary.{where_is, State, as_called, is_called, IsCall}
 use Rattle.osi_session.specs.Standing.{said}
 use Rattle.osi_session.specs.Allowed.{met, Step}

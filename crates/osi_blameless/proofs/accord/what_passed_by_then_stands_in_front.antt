@@ -1,8 +1,11 @@
 -- The TSDUs of a connection have one order in which they passed: what had passed by some octet of the capture stands in front.
 -- For the law that two kept sides are a pair.
-use Rattle.osi_blameless.proofs.accord.Vocabulary.{[], ap, append-nil, append_assoc, arith, false, inl, inr, leb, leb_tells, length, length-append}
-use Rattle.osi_blameless.proofs.accord.Vocabulary.{List, refl, Some, subst, suc, sym, take, take-append-le, true, zero, ℕ, ◌++◌, ◌-◌, ◌<◌, ◌^◌, ◌∙◌}
-use Rattle.osi_blameless.proofs.accord.Vocabulary.{◌∷◌, ◌≡◌, ◌≤◌, ◌⊎◌, Capture, Passed, after_kept, after_more, begin_within, Joined, Room, AreTold}
+use Rattle.osi_blameless.proofs.accord.Vocabulary.{[], ap, append-nil, append_assoc, arith, false, inl, inr, leb, leb_tells, length}
+use Rattle.osi_blameless.proofs.accord.Vocabulary.{length-append}
+use Rattle.osi_blameless.proofs.accord.Vocabulary.{List, refl, Some, subst, suc, sym, take, take-append-le, true, zero, ℕ, ◌++◌, ◌-◌, ◌<◌}
+use Rattle.osi_blameless.proofs.accord.Vocabulary.{◌^◌, ◌∙◌}
+use Rattle.osi_blameless.proofs.accord.Vocabulary.{◌∷◌, ◌≡◌, ◌≤◌, ◌⊎◌, Capture, Passed, after_kept, after_more, begin_within, Joined, Room}
+use Rattle.osi_blameless.proofs.accord.Vocabulary.{AreTold}
 use Rattle.osi_blameless.proofs.accord.Vocabulary.{BeginWith, connection_in, Turn}
 use Rattle.osi_judge.specs.States.{State, after}
 use Rattle.osi_blameless.proofs.accord.one_connection_has_a_number.{Later, Tells, later_claim, nothing_told, same_later, told_of_one}

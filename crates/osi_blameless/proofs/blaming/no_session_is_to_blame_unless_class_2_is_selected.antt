@@ -16,8 +16,10 @@ use Rattle.osi_blameless.specs.Spoilt.{GoesOn}
 use Rattle.osi_blameless.proofs.keeping.a_break_ends_no_judging_or_all.{loose_so, nothing_ends, reach_so}
 use Rattle.osi_blameless.proofs.steps.all_is_judged_or_nothing.{IsOver}
 use Rattle.osi_blameless.proofs.keeping.an_end_that_is_judged_alone_stays_so.{later_kept, later_too}
-use Rattle.osi_blameless.proofs.keeping.in_class_0_one_side_alone_is_judged.{AfterUnread, IsLoose, all_over, alone as is_alone_then, loose_claim}
-use Rattle.osi_blameless.proofs.keeping.in_class_0_one_side_alone_is_judged.{refused_over_so as unread_ends, unit_alone, unread_alone, unread_is}
+use Rattle.osi_blameless.proofs.keeping.in_class_0_one_side_alone_is_judged.{AfterUnread, IsLoose, all_over, alone as is_alone_then}
+use Rattle.osi_blameless.proofs.keeping.in_class_0_one_side_alone_is_judged.{loose_claim}
+use Rattle.osi_blameless.proofs.keeping.in_class_0_one_side_alone_is_judged.{refused_over_so as unread_ends, unit_alone, unread_alone}
+use Rattle.osi_blameless.proofs.keeping.in_class_0_one_side_alone_is_judged.{unread_is}
 use Rattle.osi_blameless.proofs.keeping.steps_are_events.{IsFollowed}
 use Rattle.osi_blameless.proofs.keeping.what_a_taker_passes_over.{IsMild, Sort, is_hard as is_broken, is_mild, is_shut, mild_reach, sort_of}
 use Rattle.osi_blameless.proofs.steps.what_passes_keeps_a_claim.{step_kept, units_kept}

@@ -10,7 +10,8 @@ use Rattle.osi_carrier.specs.State.{Outcome, State}
 use Rattle.osi_rules.specs.declared.directions.Direction.{Direction}
 use Rattle.osi_blameless.specs.transport.Pieces.{units_in}
 use Rattle.osi_blameless.specs.ends.Doing as doing
-use Rattle.osi_blameless.proofs.keeping.what_waits_changes_nothing.{IsApart, bare, call_apart, done_alike, put_alike, together_alike, unit_apart}
+use Rattle.osi_blameless.proofs.keeping.what_waits_changes_nothing.{IsApart, bare, call_apart, done_alike, put_alike, together_alike}
+use Rattle.osi_blameless.proofs.keeping.what_waits_changes_nothing.{unit_apart}
 
 -- ---- a carrier that has ended does nothing
 

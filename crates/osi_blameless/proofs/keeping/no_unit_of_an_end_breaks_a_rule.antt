@@ -15,11 +15,13 @@ use Rattle.osi_blameless.specs.transport.Naming.{unit as unit_passing}
 use Rattle.osi_blameless.specs.transport.Wholes as wholes
 use Rattle.osi_judge.specs.Courses.{fresh}
 use Rattle.osi_blameless.specs.Spoilt.{GoesOn}
-use Rattle.osi_blameless.proofs.keeping.a_break_ends_no_judging_or_all.{IsGoing, IsLeft, all_ends, begins_going, left_claim, known_too, mild_reach}
+use Rattle.osi_blameless.proofs.keeping.a_break_ends_no_judging_or_all.{IsGoing, IsLeft, all_ends, begins_going, left_claim, known_too}
+use Rattle.osi_blameless.proofs.keeping.a_break_ends_no_judging_or_all.{mild_reach}
 use Rattle.osi_blameless.proofs.keeping.a_break_ends_no_judging_or_all.{nothing_goes, part_goes, side_known, other_unbroken, own_unbroken}
 use Rattle.osi_blameless.proofs.keeping.a_break_ends_no_judging_or_all.{unread_unbroken}
 use Rattle.osi_blameless.proofs.keeping.an_end_that_is_judged_alone_stays_so.{along_kept, along_too, own_alone}
-use Rattle.osi_blameless.proofs.keeping.in_class_0_one_side_alone_is_judged.{AfterUnread, IsAlone, all_over, alone_begins, alone_own, unit_alone}
+use Rattle.osi_blameless.proofs.keeping.in_class_0_one_side_alone_is_judged.{AfterUnread, IsAlone, all_over, alone_begins, alone_own}
+use Rattle.osi_blameless.proofs.keeping.in_class_0_one_side_alone_is_judged.{unit_alone}
 use Rattle.osi_blameless.proofs.keeping.in_class_0_one_side_alone_is_judged.{unread_alone}
 use Rattle.osi_blameless.proofs.keeping.later_steps_are_events.{later_followed, spoilt_followed}
 use Rattle.osi_blameless.proofs.keeping.steps_are_events.{IsFollowed, begin_followed}

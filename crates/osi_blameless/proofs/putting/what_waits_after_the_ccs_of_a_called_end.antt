@@ -19,7 +19,8 @@ use Rattle.osi_blameless.proofs.putting.each_cc_of_a_called_end_opens_another_co
 use Rattle.osi_blameless.proofs.putting.each_unit_of_a_called_end_has_a_home.{OpensByNoCc}
 use Rattle.osi_blameless.proofs.putting.each_unit_of_a_turn_has_one_connection.{HasHome, IsFor}
 use Rattle.osi_blameless.proofs.putting.ccs_among_units.{HasCc, has_back, has_front}
-use Rattle.osi_blameless.proofs.putting.what_a_turn_puts_goes_to_its_peer.{GoesTo, IsNotZero, Lived, by_units, came, for_so, goes_to, turn_puts}
+use Rattle.osi_blameless.proofs.putting.what_a_turn_puts_goes_to_its_peer.{GoesTo, IsNotZero, Lived, by_units, came, for_so, goes_to}
+use Rattle.osi_blameless.proofs.putting.what_a_turn_puts_goes_to_its_peer.{turn_puts}
 use Rattle.osi_blameless.proofs.putting.what_a_turn_puts_goes_to_its_peer.{linked_so, none_for, none_shut, one_of, whole_lasts}
 use Rattle.osi_blameless.proofs.putting.what_a_turn_puts_waits.{Agree, marks_wait}
 use Rattle.osi_blameless.proofs.standing.what_stands_of_a_connection.{is_for, waiting_for}

@@ -17,9 +17,11 @@ use Rattle.osi_blameless.specs.Joint.Step.{turns, begins_own, passes_own, begins
 use Rattle.osi_blameless.specs.transport.Pieces.{units_in}
 use Rattle.osi_blameless.specs.Spoilt.{GoesOn}
 use Rattle.osi_blameless.proofs.small_facts_that_many_lemmas_use.{can_more}
-use Rattle.osi_blameless.proofs.steps.how_an_end_stands_to_what_has_passed.{OtherStands, OwnStands, begun_now, first_put, has_begun, one_octet}
+use Rattle.osi_blameless.proofs.steps.how_an_end_stands_to_what_has_passed.{OtherStands, OwnStands, begun_now, first_put, has_begun}
+use Rattle.osi_blameless.proofs.steps.how_an_end_stands_to_what_has_passed.{one_octet}
 use Rattle.osi_blameless.proofs.steps.how_an_end_stands_to_what_has_passed.{rest_of, some_octets, uses}
-use Rattle.osi_blameless.proofs.steps.what_follows_what_cannot_be_read.{LaterComes, OtherEnds, OtherReads, StandsLater, later_octet, later_steps}
+use Rattle.osi_blameless.proofs.steps.what_follows_what_cannot_be_read.{LaterComes, OtherEnds, OtherReads, StandsLater, later_octet}
+use Rattle.osi_blameless.proofs.steps.what_follows_what_cannot_be_read.{later_steps}
 use Rattle.osi_blameless.proofs.steps.what_follows_what_cannot_be_read.{other_moved as other_moved_later}
 use Rattle.osi_blameless.proofs.keeping.what_is_halted_stays_halted.{unread_halts}
 use Rattle.osi_blameless.proofs.steps.turns_are_taken_late.{Follows, all_passed, other_passes, own_passes, seen_follows, turn_taken}

@@ -13,7 +13,8 @@ use Rattle.osi_judge.specs.Streams.{ended}
 use Rattle.osi_judge.specs.States.{State}
 use Rattle.osi_blameless.specs.Joint.Step.{turns, begins_own, passes_own, begins_other, passes_other}
 use Rattle.osi_blameless.proofs.small_facts_that_many_lemmas_use.{can_more}
-use Rattle.osi_blameless.proofs.steps.how_an_end_stands_to_what_has_passed.{OtherRest, OtherStands, OwnStands, begun_now, first_put, has_begun}
+use Rattle.osi_blameless.proofs.steps.how_an_end_stands_to_what_has_passed.{OtherRest, OtherStands, OwnStands, begun_now, first_put}
+use Rattle.osi_blameless.proofs.steps.how_an_end_stands_to_what_has_passed.{has_begun}
 use Rattle.osi_blameless.proofs.steps.how_an_end_stands_to_what_has_passed.{one_octet, rest_of, some_octets, uses}
 use Rattle.osi_blameless.proofs.steps.what_the_turns_among_steps_do.{takes_turn}
 use Rattle.osi_blameless.proofs.steps.turns_are_taken_late.{Follows, all_passed, other_passes, own_passes, turn_taken}

@@ -4,7 +4,8 @@
 use Rattle.osi_blameless.proofs.Vocabulary.{[], ap, Bool, List, None, Option, refl, Some, sym, ℕ, ◌++◌, ◌∙◌, ◌∷◌, ◌≡◌, ◌≢◌, ◌⊎◌, ArePackets}
 use Rattle.osi_blameless.proofs.Vocabulary.{Holding, Capture, Direction, EndReason, all_did, Continues, Deeds, no_deeds, Takes}
 use Rattle.osi_blameless.proofs.Vocabulary.{FirstOf, Life, stage_at, ◌<◌}
-use Rattle.osi_blameless.proofs.Vocabulary.{Value, units_in, all_units, Turn, comes_to, begins_other, begins_own, Joint, passes_other, passes_own, Step}
+use Rattle.osi_blameless.proofs.Vocabulary.{Value, units_in, all_units, Turn, comes_to, begins_other, begins_own, Joint, passes_other}
+use Rattle.osi_blameless.proofs.Vocabulary.{passes_own, Step}
 use Rattle.osi_blameless.proofs.Vocabulary.{Steps, StepsAlong, TakesTurn, turns, ComesBySteps, TurnsBad, begin}
 use Rattle.osi_blameless.specs.transport.Pieces as pieces
 use Rattle.osi_blameless.specs.Spoilt.{GoesOn}

@@ -104,10 +104,13 @@ pub use Rattle.osi_blameless.specs.transport.Asking.{all_asked, all_written, ask
 pub use Rattle.osi_blameless.specs.transport.Calls.{AreFedFrom, IsRun, MadeAlong, MayMake}
 pub use Rattle.osi_blameless.specs.transport.Following.{Follows, IsAtPlace, JustCloses, link_now}
 pub use Rattle.osi_blameless.specs.transport.Later.{IsLater, knows}
-pub use Rattle.osi_blameless.specs.transport.Lines.{Act, Acts, ActsAlong, HandsInShort, IsFair, IsOpened, IsRight, IsRightNow, Line, PassesNone}
-pub use Rattle.osi_blameless.specs.transport.Lines.{after_finding, answering_line, answers, begins_elsewhere, closes as closes_with, finding_of, ignores}
+pub use Rattle.osi_blameless.specs.transport.Lines.{Act, Acts, ActsAlong, HandsInShort, IsFair, IsOpened, IsRight, IsRightNow, Line}
+pub use Rattle.osi_blameless.specs.transport.Lines.{PassesNone}
+pub use Rattle.osi_blameless.specs.transport.Lines.{after_finding, answering_line, answers, begins_elsewhere, closes as closes_with}
+pub use Rattle.osi_blameless.specs.transport.Lines.{finding_of, ignores}
 pub use Rattle.osi_blameless.specs.transport.Lines.{moves, opened_half, opened_line, passes_other, passes_own, units_put, units_taken}
 pub use Rattle.osi_blameless.specs.transport.Naming.{HoldsOfOne, Passing, all_passed, packet, passes, rubbish, unit}
 pub use Rattle.osi_blameless.specs.transport.Pieces.{IsFed, units_by, units_in}
-pub use Rattle.osi_blameless.specs.transport.Wholes.{Becomes, Event, HappenAlong, Happens, MayCall, Whole, arrives, begin, begins_other, begins_own, calls}
+pub use Rattle.osi_blameless.specs.transport.Wholes.{Becomes, Event, HappenAlong, Happens, MayCall, Whole, arrives, begin, begins_other}
+pub use Rattle.osi_blameless.specs.transport.Wholes.{begins_own, calls}
 pub use Rattle.osi_blameless.specs.transport.Wholes.{passes_rubbish}

@@ -1,9 +1,13 @@
 -- Small facts that lemmas of several files use: of truth values, lists and numbers, and of one step of a connection.
 -- For all proofs of this crate.
-use Rattle.osi_blameless.proofs.transport.Vocabulary.{[], AllByRecursion, ap, arith, begins, Bool, closing_phase, confirm, Connect, Connection, Direction}
-use Rattle.osi_blameless.proofs.transport.Vocabulary.{EndReason, eqb-true, false, Finding, Half, half_after, if◌then◌else◌, is_closing, is_open, is_silent}
-use Rattle.osi_blameless.proofs.transport.Vocabulary.{is_some, List, list_any, None, not, NotJudged, Option, packet_begins, Phase, refl, set, sized}
-use Rattle.osi_blameless.proofs.transport.Vocabulary.{slice_get, Some, suc, Traffic, true, Value, zero, ℕ, ◌&&◌, ◌++◌, ◌==◌, ◌||◌, ◌∙◌, ◌∷◌, ◌≡◌}
+use Rattle.osi_blameless.proofs.transport.Vocabulary.{[], AllByRecursion, ap, arith, begins, Bool, closing_phase, confirm, Connect}
+use Rattle.osi_blameless.proofs.transport.Vocabulary.{Connection, Direction}
+use Rattle.osi_blameless.proofs.transport.Vocabulary.{EndReason, eqb-true, false, Finding, Half, half_after, if◌then◌else◌, is_closing}
+use Rattle.osi_blameless.proofs.transport.Vocabulary.{is_open, is_silent}
+use Rattle.osi_blameless.proofs.transport.Vocabulary.{is_some, List, list_any, None, not, NotJudged, Option, packet_begins, Phase, refl}
+use Rattle.osi_blameless.proofs.transport.Vocabulary.{set, sized}
+use Rattle.osi_blameless.proofs.transport.Vocabulary.{slice_get, Some, suc, Traffic, true, Value, zero, ℕ, ◌&&◌, ◌++◌, ◌==◌, ◌||◌, ◌∙◌, ◌∷◌}
+use Rattle.osi_blameless.proofs.transport.Vocabulary.{◌≡◌}
 
 pub all_add : {X : Type 0} (P : X → Type 0) (vs : List X) (v : X) → AllByRecursion P vs → P v → AllByRecursion P (vs ++ v ∷ [])
 all_add P [] v a p = (p, tt)

@@ -1,12 +1,17 @@
 -- What becomes of a connection while no unit arrives: its session sends, and its link gives units for the peer; or its session closes it;
 -- or it stays as it is.
 -- For the course of a connection.
-use Rattle.osi_blameless.proofs.ends.Vocabulary.{[], ap, arith, Bool, false, inl, inr, is_some, List, map, None, Option, refl, Some, subst, sym}
-use Rattle.osi_blameless.proofs.ends.Vocabulary.{true, ℕ, ◌<◌, ◌==◌, ◌∙◌, ◌∷◌, ◌≡◌, eq-eqb, eqb-true, map-append, all_given, Given, Standing}
-use Rattle.osi_blameless.proofs.ends.Vocabulary.{unit_of, with_tsdu, Class, Zero, push_other, put_other, beyond, push_here, put_here, closed_with}
-use Rattle.osi_blameless.proofs.ends.Vocabulary.{closes, open_link, send_all_error, sent, sent_all, sent_on, Happening, IsOrderly, pumped, put}
+use Rattle.osi_blameless.proofs.ends.Vocabulary.{[], ap, arith, Bool, false, inl, inr, is_some, List, map, None, Option, refl, Some, subst}
+use Rattle.osi_blameless.proofs.ends.Vocabulary.{sym}
+use Rattle.osi_blameless.proofs.ends.Vocabulary.{true, ℕ, ◌<◌, ◌==◌, ◌∙◌, ◌∷◌, ◌≡◌, eq-eqb, eqb-true, map-append, all_given, Given}
+use Rattle.osi_blameless.proofs.ends.Vocabulary.{Standing}
+use Rattle.osi_blameless.proofs.ends.Vocabulary.{unit_of, with_tsdu, Class, Zero, push_other, put_other, beyond, push_here, put_here}
+use Rattle.osi_blameless.proofs.ends.Vocabulary.{closed_with}
+use Rattle.osi_blameless.proofs.ends.Vocabulary.{closes, open_link, send_all_error, sent, sent_all, sent_on, Happening, IsOrderly, pumped}
+use Rattle.osi_blameless.proofs.ends.Vocabulary.{put}
 use Rattle.osi_blameless.proofs.ends.Vocabulary.{Rows, value_at, closing, Connection, linked, State as Carrier, SendError, Input, Listener}
-use Rattle.osi_blameless.proofs.ends.Vocabulary.{connects, has_given, hears, opens_line as opens, carrier_by, to_session, End, Line, answers_by}
+use Rattle.osi_blameless.proofs.ends.Vocabulary.{connects, has_given, hears, opens_line as opens, carrier_by, to_session, End, Line}
+use Rattle.osi_blameless.proofs.ends.Vocabulary.{answers_by}
 use Rattle.osi_blameless.proofs.ends.Vocabulary.{sent_unless, Request as Connect, GivesTo, Marked, put_sent, put_together}
 use Rattle.osi_blameless.proofs.ends.courses.how_long_a_connection_is_open.{Life, Rests, Stage, life_open, life_rests, stage_at, stage_by}
 use Rattle.osi_blameless.proofs.ends.courses.how_long_a_connection_is_open.{stage_there}

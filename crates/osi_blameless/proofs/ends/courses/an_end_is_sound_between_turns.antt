@@ -1,8 +1,11 @@
 -- Between two turns an end is sound and holds no more than a part of a packet; and where its packets lead, a turn leads that uses no more.
 -- For what an end does with the packets before a break of the other side.
-use Rattle.osi_blameless.proofs.ends.Vocabulary.{[], ap, Bool, false, is_some, List, None, Option, refl, Some, subst, sym, true, ℕ, ◌++◌, ◌∷◌, ◌≡◌}
-use Rattle.osi_blameless.proofs.ends.Vocabulary.{ArePackets, packets, Local, EndReason, lasting_of, or_second, TakesPackets, Calls, Call, carrying}
-use Rattle.osi_blameless.proofs.ends.Vocabulary.{feeding, telling, End, Holding, waits, Continues, Deeds, units_in, all_units, IsFresh, Act, Acts}
+use Rattle.osi_blameless.proofs.ends.Vocabulary.{[], ap, Bool, false, is_some, List, None, Option, refl, Some, subst, sym, true, ℕ, ◌++◌}
+use Rattle.osi_blameless.proofs.ends.Vocabulary.{◌∷◌, ◌≡◌}
+use Rattle.osi_blameless.proofs.ends.Vocabulary.{ArePackets, packets, Local, EndReason, lasting_of, or_second, TakesPackets, Calls, Call}
+use Rattle.osi_blameless.proofs.ends.Vocabulary.{carrying}
+use Rattle.osi_blameless.proofs.ends.Vocabulary.{feeding, telling, End, Holding, waits, Continues, Deeds, units_in, all_units, IsFresh, Act}
+use Rattle.osi_blameless.proofs.ends.Vocabulary.{Acts}
 use Rattle.osi_blameless.proofs.ends.Vocabulary.{Takes, Turn, arith, empty_partial, IsPartial, stops}
 use Rattle.osi_blameless.proofs.ends.reading.how_much_of_a_piece_is_used.{all_octets}
 use Rattle.osi_blameless.proofs.ends.courses.an_end_takes_packets_up_to_its_last.{dry_to}

@@ -1,16 +1,23 @@
 -- A turn of an end that uses a packet with which the end is over: it puts what the packets before it say, and nothing more. So another turn
 -- that uses only packets before that one puts the same. For what an end does with the packets before a break of the other side.
-use Rattle.osi_blameless.proofs.ends.Vocabulary.{[], ap, append_assoc, arith, Bool, drop, false, if◌then◌else◌, inl, inr, is_some, IsSome, length}
-use Rattle.osi_blameless.proofs.ends.Vocabulary.{List, None, Option, refl, Some, subst, sym, take, true, ℕ, ◌++◌, ◌+◌, ◌-◌, ◌∙◌, ◌∷◌, ◌≡◌, ◌⊎◌}
-use Rattle.osi_blameless.proofs.ends.Vocabulary.{append-nil, length-append, take_all, take-append-drop, end_no_packet, one_packet, ArePackets}
+use Rattle.osi_blameless.proofs.ends.Vocabulary.{[], ap, append_assoc, arith, Bool, drop, false, if◌then◌else◌, inl, inr, is_some, IsSome}
+use Rattle.osi_blameless.proofs.ends.Vocabulary.{length}
+use Rattle.osi_blameless.proofs.ends.Vocabulary.{List, None, Option, refl, Some, subst, sym, take, true, ℕ, ◌++◌, ◌+◌, ◌-◌, ◌∙◌, ◌∷◌, ◌≡◌}
+use Rattle.osi_blameless.proofs.ends.Vocabulary.{◌⊎◌}
+use Rattle.osi_blameless.proofs.ends.Vocabulary.{append-nil, length-append, take_all, take-append-drop, end_no_packet, one_packet}
+use Rattle.osi_blameless.proofs.ends.Vocabulary.{ArePackets}
 use Rattle.osi_blameless.proofs.ends.Vocabulary.{Ending, EndsAt, offset_of, Faulty, Rest, Fed, EndReason, NoMemory, quiet_stops, none_ended}
-use Rattle.osi_blameless.proofs.ends.Vocabulary.{found_how, Feeds, FindsNoMemory, Goes as GoesThrough, Refuses, RunsDry, StopsBehind, TakesPackets}
-use Rattle.osi_blameless.proofs.ends.Vocabulary.{uses_all, uses_within, ends, after_packet, Starves, carrying, feeding, telling, End, Holding}
-use Rattle.osi_blameless.proofs.ends.Vocabulary.{waits, lasting_of, Act, Acts, carried_by, Takes, Turn, used_by, serving, using, empty_partial}
+use Rattle.osi_blameless.proofs.ends.Vocabulary.{found_how, Feeds, FindsNoMemory, Goes as GoesThrough, Refuses, RunsDry, StopsBehind}
+use Rattle.osi_blameless.proofs.ends.Vocabulary.{TakesPackets}
+use Rattle.osi_blameless.proofs.ends.Vocabulary.{uses_all, uses_within, ends, after_packet, Starves, carrying, feeding, telling, End}
+use Rattle.osi_blameless.proofs.ends.Vocabulary.{Holding}
+use Rattle.osi_blameless.proofs.ends.Vocabulary.{waits, lasting_of, Act, Acts, carried_by, Takes, Turn, used_by, serving, using}
+use Rattle.osi_blameless.proofs.ends.Vocabulary.{empty_partial}
 use Rattle.osi_blameless.proofs.ends.Vocabulary.{Held, IsPartial, stops}
 use Rattle.osi_blameless.proofs.ends.ends.an_end_that_is_over_does_nothing.{never_lasts, over_takes}
 use Rattle.osi_blameless.proofs.ends.ends.what_class_0_does_not_take_ends_the_end.{IsLast}
-use Rattle.osi_blameless.proofs.ends.reading.two_readings_of_a_stream_agree.{GoesBeyond, first, packets_on, packets_then, second, two_readings}
+use Rattle.osi_blameless.proofs.ends.reading.two_readings_of_a_stream_agree.{GoesBeyond, first, packets_on, packets_then, second}
+use Rattle.osi_blameless.proofs.ends.reading.two_readings_of_a_stream_agree.{two_readings}
 
 -- ---- packets
 

@@ -1,10 +1,14 @@
 -- The units that arrive and those that are put, one step after the other, for one connection: it is not open yet, then its link takes
 -- those that are for it and gives units for the peer, and then it takes and gives no more.
 -- For the course of a connection.
-use Rattle.osi_blameless.proofs.ends.Vocabulary.{[], ap, append_assoc, Bool, false, inl, inr, is_some, IsSome, List, None, Option, refl, Some}
-use Rattle.osi_blameless.proofs.ends.Vocabulary.{subst, sym, true, ℕ, ◌++◌, ◌<◌, ◌==◌, ◌∙◌, ◌∷◌, ◌≡◌, ◌⊎◌, append-nil, Standing, AllByRecursion}
-use Rattle.osi_blameless.proofs.ends.Vocabulary.{disconnect, Value, open_link, value_at, asked, closing, Connection, linked, State as Carrier}
-use Rattle.osi_blameless.proofs.ends.Vocabulary.{has_given, Answers, AreApart, GivesTo, is_for, Lives, Opens, TakesAll, is_shut, Marked, arith}
+use Rattle.osi_blameless.proofs.ends.Vocabulary.{[], ap, append_assoc, Bool, false, inl, inr, is_some, IsSome, List, None, Option, refl}
+use Rattle.osi_blameless.proofs.ends.Vocabulary.{Some}
+use Rattle.osi_blameless.proofs.ends.Vocabulary.{subst, sym, true, ℕ, ◌++◌, ◌<◌, ◌==◌, ◌∙◌, ◌∷◌, ◌≡◌, ◌⊎◌, append-nil, Standing}
+use Rattle.osi_blameless.proofs.ends.Vocabulary.{AllByRecursion}
+use Rattle.osi_blameless.proofs.ends.Vocabulary.{disconnect, Value, open_link, value_at, asked, closing, Connection, linked}
+use Rattle.osi_blameless.proofs.ends.Vocabulary.{State as Carrier}
+use Rattle.osi_blameless.proofs.ends.Vocabulary.{has_given, Answers, AreApart, GivesTo, is_for, Lives, Opens, TakesAll, is_shut, Marked}
+use Rattle.osi_blameless.proofs.ends.Vocabulary.{arith}
 use Rattle.osi_blameless.specs.ends.Arriving.Begins.{is_open, opens}
 use Rattle.osi_blameless.proofs.ends.courses.units_of_each_connection.{all_of_both, none_mark}
 

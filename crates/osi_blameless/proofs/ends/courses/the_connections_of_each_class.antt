@@ -1,14 +1,20 @@
 -- Which connections a carrier has: before a class is selected at most one, which was requested; in class 0 at most one, whose link is
 -- of class 0.
 -- For the units that arrive for a connection.
-use Rattle.osi_blameless.proofs.ends.Vocabulary.{[], ap, Bool, Err, false, if◌then◌else◌, is_some, List, None, not, Ok, Option, refl, Result, Some}
-use Rattle.osi_blameless.proofs.ends.Vocabulary.{subst, sym, true, ℕ, ◌++◌, ◌+◌, ◌∙◌, ◌∷◌, ◌≡◌, eq-eqb, eqb-true, confirm, disconnect, disconnected}
+use Rattle.osi_blameless.proofs.ends.Vocabulary.{[], ap, Bool, Err, false, if◌then◌else◌, is_some, List, None, not, Ok, Option, refl}
+use Rattle.osi_blameless.proofs.ends.Vocabulary.{Result, Some}
+use Rattle.osi_blameless.proofs.ends.Vocabulary.{subst, sym, true, ℕ, ◌++◌, ◌+◌, ◌∙◌, ◌∷◌, ◌≡◌, eq-eqb, eqb-true, confirm, disconnect}
+use Rattle.osi_blameless.proofs.ends.Vocabulary.{disconnected}
 use Rattle.osi_blameless.proofs.ends.Vocabulary.{error, request, Value, Standing, taken, with_tsdu, accept, refuse, selected_by, Selection}
-use Rattle.osi_blameless.proofs.ends.Vocabulary.{LinkFault, Class, Two, Zero, orderly_same, orderly_unit, react_over, react_quiet, class_error}
-use Rattle.osi_blameless.proofs.ends.Vocabulary.{closed_on, link_of, may_connect, open_link, or_else, room_error, sent_on, Happening, agreed_size}
-use Rattle.osi_blameless.proofs.ends.Vocabulary.{confirmed, opened_link, IsOrderly, pumped, answers, before_class, denies, handed_out, has_peer}
+use Rattle.osi_blameless.proofs.ends.Vocabulary.{LinkFault, Class, Two, Zero, orderly_same, orderly_unit, react_over, react_quiet}
+use Rattle.osi_blameless.proofs.ends.Vocabulary.{class_error}
+use Rattle.osi_blameless.proofs.ends.Vocabulary.{closed_on, link_of, may_connect, open_link, or_else, room_error, sent_on, Happening}
+use Rattle.osi_blameless.proofs.ends.Vocabulary.{agreed_size}
+use Rattle.osi_blameless.proofs.ends.Vocabulary.{confirmed, opened_link, IsOrderly, pumped, answers, before_class, denies, handed_out}
+use Rattle.osi_blameless.proofs.ends.Vocabulary.{has_peer}
 use Rattle.osi_blameless.proofs.ends.Vocabulary.{in_class, in_two, in_zero, is_full, leaves, opens_by as opens, settles, taking, to_asked}
-use Rattle.osi_blameless.proofs.ends.Vocabulary.{to_connection, to_linked, to_only, to_unknown, put, Rows, value_at, asked, Connection, linked}
+use Rattle.osi_blameless.proofs.ends.Vocabulary.{to_connection, to_linked, to_only, to_unknown, put, Rows, value_at, asked, Connection}
+use Rattle.osi_blameless.proofs.ends.Vocabulary.{linked}
 use Rattle.osi_blameless.proofs.ends.Vocabulary.{State as Carrier, EndReason, OpenError, Ended, NotCaller, arith, Connect, breaks, react}
 use Rattle.osi_carrier.specs.Calls.{asks as requests}
 use Rattle.osi_blameless.proofs.ends.courses.what_a_unit_keeps_a_turn_keeps.{IsKept}

@@ -1,10 +1,12 @@
 -- A connection that awaits its CC opens with the first CC that comes for it, or it is over with that: no CC comes before it opens.
 -- For the course of a connection.
-use Rattle.osi_blameless.proofs.ends.Vocabulary.{[], ap, append_assoc, arith, Bool, false, inl, inr, List, nat_le, nat_lt, None, Option, refl, Some}
+use Rattle.osi_blameless.proofs.ends.Vocabulary.{[], ap, append_assoc, arith, Bool, false, inl, inr, List, nat_le, nat_lt, None, Option}
+use Rattle.osi_blameless.proofs.ends.Vocabulary.{refl, Some}
 use Rattle.osi_blameless.proofs.ends.Vocabulary.{append-nil, nat_tests, subst, sym, true, ℕ, ◌&&◌, ◌++◌, ◌∙◌, ◌∷◌, ◌≡◌, ◌≤◌, AllByRecursion}
 use Rattle.osi_blameless.proofs.ends.Vocabulary.{confirm, Value, Class, Two, Zero, react_quiet, put_here, in_class, in_two, before_class}
 use Rattle.osi_blameless.proofs.ends.Vocabulary.{to_connection, value_at, asked, Connection, Happening, State as Carrier, hears, to_session}
-use Rattle.osi_blameless.proofs.ends.Vocabulary.{session_carried, End, Input, has_given, Answers, AreApart, Opens, Marked, Connect, react, Carries}
+use Rattle.osi_blameless.proofs.ends.Vocabulary.{session_carried, End, Input, has_given, Answers, AreApart, Opens, Marked, Connect, react}
+use Rattle.osi_blameless.proofs.ends.Vocabulary.{Carries}
 use Rattle.osi_blameless.proofs.ends.Vocabulary.{closed_given, sent_given, units_rise}
 use Rattle.osi_blameless.proofs.ends.ends.an_end_that_is_over_does_nothing.{never_lasts}
 use Rattle.osi_blameless.proofs.ends.courses.the_connections_of_each_class.{IsSound, zero_asks_none}

@@ -1,7 +1,8 @@
 -- Units in order, each with the connection that it is of: which are of one connection.
 -- For the course of a connection.
 use Rattle.osi_blameless.proofs.ends.Vocabulary.{[], ap, arith, false, List, map, nat_lt, refl, sym, true, ℕ, ◌++◌, ◌<◌, ◌==◌, ◌∙◌}
-use Rattle.osi_blameless.proofs.ends.Vocabulary.{◌∷◌, ◌≡◌, ◌≢◌, eq-eqb, eqb-true, nat_tests, map-append, AllByRecursion, Value, Given, unit_of}
+use Rattle.osi_blameless.proofs.ends.Vocabulary.{◌∷◌, ◌≡◌, ◌≢◌, eq-eqb, eqb-true, nat_tests, map-append, AllByRecursion, Value, Given}
+use Rattle.osi_blameless.proofs.ends.Vocabulary.{unit_of}
 use Rattle.osi_blameless.proofs.ends.Vocabulary.{all_units, AreByLinks, if_of, is_of_link, Marked, units_at, CanBeWritten, flat_map-append}
 
 -- ---- one list after another

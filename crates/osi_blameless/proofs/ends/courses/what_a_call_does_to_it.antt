@@ -1,15 +1,24 @@
 -- A call of the user: what becomes of the course of one connection, whichever connection the call is for.
 -- For the course of a connection.
-use Rattle.osi_blameless.proofs.ends.Vocabulary.{[], ap, arith, Bool, false, if◌then◌else◌, is_some, length, List, nat_le, nat_lt, None, Option}
-use Rattle.osi_blameless.proofs.ends.Vocabulary.{option_map, refl, Some, subst, sym, true, ℕ, ◌&&◌, ◌++◌, ◌+◌, ◌<◌, ◌==◌, ◌∙◌, ◌∷◌, ◌≡◌, ◌≢◌}
-use Rattle.osi_blameless.proofs.ends.Vocabulary.{eqb-true, tsap_octets, request, Value, Standing, tsdus_out, push_other, push_here, closed_on}
-use Rattle.osi_blameless.proofs.ends.Vocabulary.{may_connect, open_link, proposal, IsOrderly, value_at, asked, State as Carrier, EndReason, Broken}
+use Rattle.osi_blameless.proofs.ends.Vocabulary.{[], ap, arith, Bool, false, if◌then◌else◌, is_some, length, List, nat_le, nat_lt, None}
+use Rattle.osi_blameless.proofs.ends.Vocabulary.{Option}
+use Rattle.osi_blameless.proofs.ends.Vocabulary.{option_map, refl, Some, subst, sym, true, ℕ, ◌&&◌, ◌++◌, ◌+◌, ◌<◌, ◌==◌, ◌∙◌, ◌∷◌, ◌≡◌}
+use Rattle.osi_blameless.proofs.ends.Vocabulary.{◌≢◌}
+use Rattle.osi_blameless.proofs.ends.Vocabulary.{eqb-true, tsap_octets, request, Value, Standing, tsdus_out, push_other, push_here}
+use Rattle.osi_blameless.proofs.ends.Vocabulary.{closed_on}
+use Rattle.osi_blameless.proofs.ends.Vocabulary.{may_connect, open_link, proposal, IsOrderly, value_at, asked, State as Carrier, EndReason}
+use Rattle.osi_blameless.proofs.ends.Vocabulary.{Broken}
 use Rattle.osi_blameless.proofs.ends.Vocabulary.{SessionCall as Call, HasSerial, after_input, called, Listener, both, says_is, used_live}
-use Rattle.osi_blameless.proofs.ends.Vocabulary.{disconnect_carrier, disconnect_is, given_other, closed_given, open_none, call_error, calls_with}
-use Rattle.osi_blameless.proofs.ends.Vocabulary.{connect_error, connects, has_given, terms_error, disconnect_error, disconnects, ends, IsAccepted}
-use Rattle.osi_blameless.proofs.ends.Vocabulary.{IsGranted, kept_at, to_session, user_does, UserCall, breaking, calling, connecting, disconnecting}
-use Rattle.osi_blameless.proofs.ends.Vocabulary.{End, fresh_line, session_in, Request as Connect, sends, Course, Deeds, Gone, IsOpen, IsShut}
-use Rattle.osi_blameless.proofs.ends.Vocabulary.{said_in, awaited, is_gone, is_open, unknown, closed, Marked, History, said_after, HasSerialIn}
+use Rattle.osi_blameless.proofs.ends.Vocabulary.{disconnect_carrier, disconnect_is, given_other, closed_given, open_none, call_error}
+use Rattle.osi_blameless.proofs.ends.Vocabulary.{calls_with}
+use Rattle.osi_blameless.proofs.ends.Vocabulary.{connect_error, connects, has_given, terms_error, disconnect_error, disconnects, ends}
+use Rattle.osi_blameless.proofs.ends.Vocabulary.{IsAccepted}
+use Rattle.osi_blameless.proofs.ends.Vocabulary.{IsGranted, kept_at, to_session, user_does, UserCall, breaking, calling, connecting}
+use Rattle.osi_blameless.proofs.ends.Vocabulary.{disconnecting}
+use Rattle.osi_blameless.proofs.ends.Vocabulary.{End, fresh_line, session_in, Request as Connect, sends, Course, Deeds, Gone, IsOpen}
+use Rattle.osi_blameless.proofs.ends.Vocabulary.{IsShut}
+use Rattle.osi_blameless.proofs.ends.Vocabulary.{said_in, awaited, is_gone, is_open, unknown, closed, Marked, History, said_after}
+use Rattle.osi_blameless.proofs.ends.Vocabulary.{HasSerialIn}
 use Rattle.osi_blameless.proofs.ends.Vocabulary.{never, over, put_closing}
 use Rattle.osi_stack.specs.Calls.{breaks}
 use Rattle.osi_blameless.specs.ends.Doing as doing

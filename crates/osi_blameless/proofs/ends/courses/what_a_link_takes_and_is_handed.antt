@@ -1,14 +1,21 @@
 -- What the link of a connection does as it takes a unit, and as its session hands in TSDUs; and what a session of another
 -- connection leaves of it.
 -- For the course of a connection.
-use Rattle.osi_blameless.proofs.ends.Vocabulary.{[], ap, Bool, drop, false, inl, inr, List, map, None, Ok, Option, refl, Some, sym, ℕ, ◌∙◌, ◌∷◌}
-use Rattle.osi_blameless.proofs.ends.Vocabulary.{◌≡◌, ◌≢◌, ◌⊎◌, append-nil, map-append, may_be_followed, Value, drained_leaves, drained_moves}
-use Rattle.osi_blameless.proofs.ends.Vocabulary.{all_given, Joining, Standing, taken, unit_of, with_tsdu, hand_out, Move, MovesAlong, take_in}
-use Rattle.osi_blameless.proofs.ends.Vocabulary.{tsdus_in, tsdus_out, put_other, put_here, closed_on, closed_with, open_link, sent, sent_all}
-use Rattle.osi_blameless.proofs.ends.Vocabulary.{sent_on, pumped, written_by, handed_out, value_at, closing, linked, State as Carrier, SendError}
-use Rattle.osi_blameless.proofs.ends.Vocabulary.{answers_by, sent_unless, IsShut, units_given, units_taken, arith, flat_map-append, put_sent}
+use Rattle.osi_blameless.proofs.ends.Vocabulary.{[], ap, Bool, drop, false, inl, inr, List, map, None, Ok, Option, refl, Some, sym, ℕ, ◌∙◌}
+use Rattle.osi_blameless.proofs.ends.Vocabulary.{◌∷◌}
+use Rattle.osi_blameless.proofs.ends.Vocabulary.{◌≡◌, ◌≢◌, ◌⊎◌, append-nil, map-append, may_be_followed, Value, drained_leaves}
+use Rattle.osi_blameless.proofs.ends.Vocabulary.{drained_moves}
+use Rattle.osi_blameless.proofs.ends.Vocabulary.{all_given, Joining, Standing, taken, unit_of, with_tsdu, hand_out, Move, MovesAlong}
+use Rattle.osi_blameless.proofs.ends.Vocabulary.{take_in}
+use Rattle.osi_blameless.proofs.ends.Vocabulary.{tsdus_in, tsdus_out, put_other, put_here, closed_on, closed_with, open_link, sent}
+use Rattle.osi_blameless.proofs.ends.Vocabulary.{sent_all}
+use Rattle.osi_blameless.proofs.ends.Vocabulary.{sent_on, pumped, written_by, handed_out, value_at, closing, linked, State as Carrier}
+use Rattle.osi_blameless.proofs.ends.Vocabulary.{SendError}
+use Rattle.osi_blameless.proofs.ends.Vocabulary.{answers_by, sent_unless, IsShut, units_given, units_taken, arith, flat_map-append}
+use Rattle.osi_blameless.proofs.ends.Vocabulary.{put_sent}
 use Rattle.osi_blameless.proofs.ends.Vocabulary.{put_together}
-use Rattle.osi_blameless.proofs.ends.courses.what_calls_of_a_link_say.{HandsIn, gives, gives_none_in, gives_none_out, gives_units, gives_untaken}
+use Rattle.osi_blameless.proofs.ends.courses.what_calls_of_a_link_say.{HandsIn, gives, gives_none_in, gives_none_out, gives_units}
+use Rattle.osi_blameless.proofs.ends.courses.what_calls_of_a_link_say.{gives_untaken}
 use Rattle.osi_blameless.proofs.ends.courses.what_calls_of_a_link_say.{hands_more, hands_one, one_in}
 
 -- ---- a link takes a unit

@@ -1,20 +1,30 @@
 -- A packet takes effect, or memory runs out for it: what becomes of the course of one connection. And pieces of the stream.
 -- For the course of a connection.
-use Rattle.osi_blameless.proofs.ends.Vocabulary.{[], ap, append_assoc, arith, Bool, drop, Err, false, inl, inr, is_some, IsSome, length, List, None}
-use Rattle.osi_blameless.proofs.ends.Vocabulary.{Ok, Option, refl, Result, Some, subst, sym, take, true, ℕ, ◌++◌, ◌∙◌, ◌∷◌, ◌≡◌, ◌⊎◌, append-nil}
-use Rattle.osi_blameless.proofs.ends.Vocabulary.{take-append-drop, take_all, AllByRecursion, IsOctets, ArePackets, Fed, units_found, AreUnits}
-use Rattle.osi_blameless.proofs.ends.Vocabulary.{units_of, Value, TpduFault, orderly_closed, orderly_end, orderly_same, orderly_sent, orderly_unit}
-use Rattle.osi_blameless.proofs.ends.Vocabulary.{acts_cases, IsOrderly, reacts, State as Carrier, EndReason, NoMemory, starved_over, lasting_of}
-use Rattle.osi_blameless.proofs.ends.Vocabulary.{packet_is, quiet_stops, none_ended, found_how, packets_kept, attended_kept, Feeds, FindsNoMemory}
-use Rattle.osi_blameless.proofs.ends.Vocabulary.{Goes as GoesThrough, StopsBehind, TakesPackets, uses_all, after_packet, attends, ends, hears_times}
-use Rattle.osi_blameless.proofs.ends.Vocabulary.{RunsOut, Starves, starves, with_carrier, with_events, End, Holding, IsAttended, waits, Deeds}
-use Rattle.osi_blameless.proofs.ends.Vocabulary.{units_in, units_read, is_gone, flat_map-append, if◌then◌else◌, Happening, Makes, all_units, orderly_asks}
+use Rattle.osi_blameless.proofs.ends.Vocabulary.{[], ap, append_assoc, arith, Bool, drop, Err, false, inl, inr, is_some, IsSome, length}
+use Rattle.osi_blameless.proofs.ends.Vocabulary.{List, None}
+use Rattle.osi_blameless.proofs.ends.Vocabulary.{Ok, Option, refl, Result, Some, subst, sym, take, true, ℕ, ◌++◌, ◌∙◌, ◌∷◌, ◌≡◌, ◌⊎◌}
+use Rattle.osi_blameless.proofs.ends.Vocabulary.{append-nil}
+use Rattle.osi_blameless.proofs.ends.Vocabulary.{take-append-drop, take_all, AllByRecursion, IsOctets, ArePackets, Fed, units_found}
+use Rattle.osi_blameless.proofs.ends.Vocabulary.{AreUnits}
+use Rattle.osi_blameless.proofs.ends.Vocabulary.{units_of, Value, TpduFault, orderly_closed, orderly_end, orderly_same, orderly_sent}
+use Rattle.osi_blameless.proofs.ends.Vocabulary.{orderly_unit}
+use Rattle.osi_blameless.proofs.ends.Vocabulary.{acts_cases, IsOrderly, reacts, State as Carrier, EndReason, NoMemory, starved_over}
+use Rattle.osi_blameless.proofs.ends.Vocabulary.{lasting_of}
+use Rattle.osi_blameless.proofs.ends.Vocabulary.{packet_is, quiet_stops, none_ended, found_how, packets_kept, attended_kept, Feeds}
+use Rattle.osi_blameless.proofs.ends.Vocabulary.{FindsNoMemory}
+use Rattle.osi_blameless.proofs.ends.Vocabulary.{Goes as GoesThrough, StopsBehind, TakesPackets, uses_all, after_packet, attends, ends}
+use Rattle.osi_blameless.proofs.ends.Vocabulary.{hears_times}
+use Rattle.osi_blameless.proofs.ends.Vocabulary.{RunsOut, Starves, starves, with_carrier, with_events, End, Holding, IsAttended, waits}
+use Rattle.osi_blameless.proofs.ends.Vocabulary.{Deeds}
+use Rattle.osi_blameless.proofs.ends.Vocabulary.{units_in, units_read, is_gone, flat_map-append, if◌then◌else◌, Happening, Makes, all_units}
+use Rattle.osi_blameless.proofs.ends.Vocabulary.{orderly_asks}
 use Rattle.osi_carrier.specs.Packets as carriers
 use Rattle.osi_carrier.specs.State as states
 use Rattle.osi_blameless.specs.ends.Doing as doing
 use Rattle.osi_blameless.proofs.ends.ends.an_end_that_is_over_does_nothing.{never_lasts}
 use Rattle.osi_blameless.proofs.ends.reading.how_much_of_a_piece_is_used.{all_octets, more_used, stopped_within}
-use Rattle.osi_blameless.proofs.ends.courses.steps_of_a_course.{HoldEach, StepsBy, same_rest, step_after, step_as, step_more, step_none, step_then}
+use Rattle.osi_blameless.proofs.ends.courses.steps_of_a_course.{HoldEach, StepsBy, same_rest, step_after, step_as, step_more, step_none}
+use Rattle.osi_blameless.proofs.ends.courses.steps_of_a_course.{step_then}
 use Rattle.osi_blameless.proofs.ends.courses.the_connections_of_each_class.{IsSound, class_kept, sound_unit}
 use Rattle.osi_blameless.proofs.ends.courses.what_another_connection_leaves.{course_over}
 use Rattle.osi_blameless.proofs.ends.courses.what_sessions_hear_of_it.{CourseAll, Known, attended, times_heard}

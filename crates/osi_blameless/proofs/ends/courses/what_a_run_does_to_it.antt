@@ -1,12 +1,16 @@
 -- Each turn of an end, and a run: what becomes of the course of one connection.
 -- For the laws of an end and its connections.
 use Rattle.osi_blameless.proofs.ends.Vocabulary.{[], ap, Bool, List, None, refl, subst, sym, ℕ, ◌++◌, ◌<◌, ◌==◌, ◌∙◌, ◌∷◌, ◌≡◌, append-nil}
-use Rattle.osi_blameless.proofs.ends.Vocabulary.{append_cancel_left, ArePackets, Local, orderly_fresh, Rows, value_at, packets, State as Carrier}
+use Rattle.osi_blameless.proofs.ends.Vocabulary.{append_cancel_left, ArePackets, Local, orderly_fresh, Rows, value_at, packets}
+use Rattle.osi_blameless.proofs.ends.Vocabulary.{State as Carrier}
 use Rattle.osi_blameless.proofs.ends.Vocabulary.{called, breaks_attended, connect_attended, feeds_attended, session_attended, first_keep}
-use Rattle.osi_blameless.proofs.ends.Vocabulary.{kept_first, disconnect_attended, without_first, user_does, UserCall, breaking, calling, connecting}
+use Rattle.osi_blameless.proofs.ends.Vocabulary.{kept_first, disconnect_attended, without_first, user_does, UserCall, breaking, calling}
+use Rattle.osi_blameless.proofs.ends.Vocabulary.{connecting}
 use Rattle.osi_blameless.proofs.ends.Vocabulary.{disconnecting, Call, Calls, carried_in, put_back, used_in, carrying, feeding, telling, End}
-use Rattle.osi_blameless.proofs.ends.Vocabulary.{fresh_end, Holding, IsAttended, Line, all_did, Continues, ContinuesAlong, Course, Deeds, no_deeds}
-use Rattle.osi_blameless.proofs.ends.Vocabulary.{SoFar, units_in, units_taken, unknown, all_units, Marked, units_at, IsFresh, Act, Acts, carried_by}
+use Rattle.osi_blameless.proofs.ends.Vocabulary.{fresh_end, Holding, IsAttended, Line, all_did, Continues, ContinuesAlong, Course, Deeds}
+use Rattle.osi_blameless.proofs.ends.Vocabulary.{no_deeds}
+use Rattle.osi_blameless.proofs.ends.Vocabulary.{SoFar, units_in, units_taken, unknown, all_units, Marked, units_at, IsFresh, Act, Acts}
+use Rattle.osi_blameless.proofs.ends.Vocabulary.{carried_by}
 use Rattle.osi_blameless.proofs.ends.Vocabulary.{Run, Takes, Turn, used_by, serving, using, arith, nat_tests}
 use Rattle.osi_blameless.specs.ends.Doing as doing
 use Rattle.osi_blameless.proofs.ends.courses.steps_of_a_course.{AllRest, HoldEach, Steps}

@@ -1,17 +1,23 @@
 -- The units that are put as something happens to a session, each with the connection whose link gave it: a session that sends hands
 -- TSDUs to its link, and one that closes its connection causes a DR.
 -- For the course of a connection.
-use Rattle.osi_blameless.proofs.ends.Vocabulary.{[], arith, Bool, false, List, None, Option, refl, Some, subst, sym, true, ℕ, ◌<◌, ◌∷◌, ◌≡◌, ◌≢◌}
-use Rattle.osi_blameless.proofs.ends.Vocabulary.{length, nat_lt, AreShort, Makes, by_line, opens_line, ◌⊎◌, nat_tests, map-append, Value, all_given}
-use Rattle.osi_blameless.proofs.ends.Vocabulary.{Standing, with_tsdu, Class, closed_on, open_link, send_all_error, sent, Happening, value_at}
-use Rattle.osi_blameless.proofs.ends.Vocabulary.{State as Carrier, SendError, tsdus_sent, broken, came, Input, Listener, linked_up as opened}
-use Rattle.osi_blameless.proofs.ends.Vocabulary.{session_react as react, has_given, hears, carrier_by, limit_for, to_session, End, Line, answers_by}
+use Rattle.osi_blameless.proofs.ends.Vocabulary.{[], arith, Bool, false, List, None, Option, refl, Some, subst, sym, true, ℕ, ◌<◌, ◌∷◌, ◌≡◌}
+use Rattle.osi_blameless.proofs.ends.Vocabulary.{◌≢◌}
+use Rattle.osi_blameless.proofs.ends.Vocabulary.{length, nat_lt, AreShort, Makes, by_line, opens_line, ◌⊎◌, nat_tests, map-append, Value}
+use Rattle.osi_blameless.proofs.ends.Vocabulary.{all_given}
+use Rattle.osi_blameless.proofs.ends.Vocabulary.{Standing, with_tsdu, Class, closed_on, open_link, send_all_error, sent, Happening}
+use Rattle.osi_blameless.proofs.ends.Vocabulary.{value_at}
+use Rattle.osi_blameless.proofs.ends.Vocabulary.{State as Carrier, SendError, tsdus_sent, broken, came, Input, Listener}
+use Rattle.osi_blameless.proofs.ends.Vocabulary.{linked_up as opened}
+use Rattle.osi_blameless.proofs.ends.Vocabulary.{session_react as react, has_given, hears, carrier_by, limit_for, to_session, End, Line}
+use Rattle.osi_blameless.proofs.ends.Vocabulary.{answers_by}
 use Rattle.osi_blameless.proofs.ends.Vocabulary.{sent_unless, all_units, Marked, put_closing, put_sent, put_together, list_any, refused}
 use Rattle.osi_carrier.specs.Happenings as told
 use Rattle.osi_carrier.specs.Orderly.{told_of}
 use Rattle.osi_blameless.specs.ends.Doing as doing
 use Rattle.osi_blameless.proofs.ends.courses.steps_of_a_course.{HasNone}
-use Rattle.osi_blameless.proofs.ends.courses.units_of_each_connection.{AreAccounted, ArePlain, elsewhere, given_accounted, marked, marked_all}
+use Rattle.osi_blameless.proofs.ends.courses.units_of_each_connection.{AreAccounted, ArePlain, elsewhere, given_accounted, marked}
+use Rattle.osi_blameless.proofs.ends.courses.units_of_each_connection.{marked_all}
 use Rattle.osi_blameless.proofs.ends.courses.units_of_each_connection.{nowhere, plain_accounted, all_of_both}
 
 -- ---- the carrier

@@ -1,17 +1,28 @@
 -- What a unit that arrives does to one connection of a carrier, of either class: nothing; it opens it; the link takes it; or the
 -- connection or the carrier ends. And what is put then.
 -- For the course of a connection.
-use Rattle.osi_blameless.proofs.ends.Vocabulary.{[], ap, arith, Bool, Err, false, if◌then◌else◌, IsSome, List, nat_le, nat_lt, None, Ok, Option}
-use Rattle.osi_blameless.proofs.ends.Vocabulary.{refl, Result, Some, subst, sym, true, ℕ, ◌&&◌, ◌++◌, ◌+◌, ◌∙◌, ◌∷◌, ◌≡◌, ◌≢◌, eq-eqb, nat_tests}
-use Rattle.osi_blameless.proofs.ends.Vocabulary.{append-nil, AllByRecursion, acknowledge, confirm, data0, data2, disconnect, disconnected, error}
-use Rattle.osi_blameless.proofs.ends.Vocabulary.{HasFieldsInRange, IsConnect, may_be_followed, request, Value, Standing, taken, accept, refuse}
-use Rattle.osi_blameless.proofs.ends.Vocabulary.{selected_by, Selection, LinkFault, Class, Two, Zero, Local, changes_one, effect, How, push_here}
-use Rattle.osi_blameless.proofs.ends.Vocabulary.{put_here, without_here, Happening, told_opened as opened, acceptance, agreed_size, confirmed}
-use Rattle.osi_blameless.proofs.ends.Vocabulary.{opened_link, connection_by, connection_of, only_of, RiseFrom, answers, before_class, denies}
-use Rattle.osi_blameless.proofs.ends.Vocabulary.{in_class, in_two, in_zero, leaves, opens_by as opens, settles, taking, to_asked, to_closing}
-use Rattle.osi_blameless.proofs.ends.Vocabulary.{to_connection, to_linked, to_only, to_reference, to_unknown, put, Rows, value_at, without, asked}
-use Rattle.osi_blameless.proofs.ends.Vocabulary.{closing, Connection, linked, State as Carrier, has_given, Answers, is_for, Opens, IsFreshLink}
-use Rattle.osi_blameless.proofs.ends.Vocabulary.{IsShut, is_of_link, CanBeWritten, Connect, breaks, react, outcome_quiet, outcome, Outcome, puts}
+use Rattle.osi_blameless.proofs.ends.Vocabulary.{[], ap, arith, Bool, Err, false, if◌then◌else◌, IsSome, List, nat_le, nat_lt, None, Ok}
+use Rattle.osi_blameless.proofs.ends.Vocabulary.{Option}
+use Rattle.osi_blameless.proofs.ends.Vocabulary.{refl, Result, Some, subst, sym, true, ℕ, ◌&&◌, ◌++◌, ◌+◌, ◌∙◌, ◌∷◌, ◌≡◌, ◌≢◌, eq-eqb}
+use Rattle.osi_blameless.proofs.ends.Vocabulary.{nat_tests}
+use Rattle.osi_blameless.proofs.ends.Vocabulary.{append-nil, AllByRecursion, acknowledge, confirm, data0, data2, disconnect, disconnected}
+use Rattle.osi_blameless.proofs.ends.Vocabulary.{error}
+use Rattle.osi_blameless.proofs.ends.Vocabulary.{HasFieldsInRange, IsConnect, may_be_followed, request, Value, Standing, taken, accept}
+use Rattle.osi_blameless.proofs.ends.Vocabulary.{refuse}
+use Rattle.osi_blameless.proofs.ends.Vocabulary.{selected_by, Selection, LinkFault, Class, Two, Zero, Local, changes_one, effect, How}
+use Rattle.osi_blameless.proofs.ends.Vocabulary.{push_here}
+use Rattle.osi_blameless.proofs.ends.Vocabulary.{put_here, without_here, Happening, told_opened as opened, acceptance, agreed_size}
+use Rattle.osi_blameless.proofs.ends.Vocabulary.{confirmed}
+use Rattle.osi_blameless.proofs.ends.Vocabulary.{opened_link, connection_by, connection_of, only_of, RiseFrom, answers, before_class}
+use Rattle.osi_blameless.proofs.ends.Vocabulary.{denies}
+use Rattle.osi_blameless.proofs.ends.Vocabulary.{in_class, in_two, in_zero, leaves, opens_by as opens, settles, taking, to_asked}
+use Rattle.osi_blameless.proofs.ends.Vocabulary.{to_closing}
+use Rattle.osi_blameless.proofs.ends.Vocabulary.{to_connection, to_linked, to_only, to_reference, to_unknown, put, Rows, value_at, without}
+use Rattle.osi_blameless.proofs.ends.Vocabulary.{asked}
+use Rattle.osi_blameless.proofs.ends.Vocabulary.{closing, Connection, linked, State as Carrier, has_given, Answers, is_for, Opens}
+use Rattle.osi_blameless.proofs.ends.Vocabulary.{IsFreshLink}
+use Rattle.osi_blameless.proofs.ends.Vocabulary.{IsShut, is_of_link, CanBeWritten, Connect, breaks, react, outcome_quiet, outcome, Outcome}
+use Rattle.osi_blameless.proofs.ends.Vocabulary.{puts}
 use Rattle.osi_blameless.proofs.ends.Vocabulary.{puts_none}
 use Rattle.osi_carrier.specs.Orderly.{told_of}
 use Rattle.osi_blameless.proofs.ends.courses.the_connections_of_each_class.{IsSound, zero_asks_none}

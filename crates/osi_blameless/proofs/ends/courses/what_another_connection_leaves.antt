@@ -1,9 +1,12 @@
 -- What happens at another connection leaves the course of this one; and at the end of the carrier the course is over.
 -- For the course of a connection.
-use Rattle.osi_blameless.proofs.ends.Vocabulary.{[], ap, Bool, false, if◌then◌else◌, is_some, IsSome, None, Option, refl, Some, subst, sym, ℕ, ◌==◌}
+use Rattle.osi_blameless.proofs.ends.Vocabulary.{[], ap, Bool, false, if◌then◌else◌, is_some, IsSome, None, Option, refl, Some, subst, sym}
+use Rattle.osi_blameless.proofs.ends.Vocabulary.{ℕ, ◌==◌}
 use Rattle.osi_blameless.proofs.ends.Vocabulary.{◌∙◌, ◌∷◌, ◌≡◌, ◌≢◌, append-nil, push_other, put_other, Rows, value_at, Connection}
-use Rattle.osi_blameless.proofs.ends.Vocabulary.{State as Carrier, Input, Listener, used_keep, used_live, has_given, kept_at, by_line, carrier_by}
-use Rattle.osi_blameless.proofs.ends.Vocabulary.{to_session, End, joins, Line, used_lines, Course, Deeds, Gone, IsOpen, IsShut, awaited, is_gone}
+use Rattle.osi_blameless.proofs.ends.Vocabulary.{State as Carrier, Input, Listener, used_keep, used_live, has_given, kept_at, by_line}
+use Rattle.osi_blameless.proofs.ends.Vocabulary.{carrier_by}
+use Rattle.osi_blameless.proofs.ends.Vocabulary.{to_session, End, joins, Line, used_lines, Course, Deeds, Gone, IsOpen, IsShut, awaited}
+use Rattle.osi_blameless.proofs.ends.Vocabulary.{is_gone}
 use Rattle.osi_blameless.proofs.ends.Vocabulary.{is_open, unknown, closed, never, arith, over}
 use Rattle.osi_blameless.proofs.ends.courses.what_a_link_takes_and_is_handed.{Leaves, answers_leave, leaves_all, link_shut}
 

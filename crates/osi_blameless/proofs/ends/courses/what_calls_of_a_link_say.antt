@@ -1,9 +1,12 @@
 -- Calls of a link one after the other: what they hand in and out and give, and all that is given for TSDUs that are handed in.
 -- For the course of a connection.
 use Rattle.osi_blameless.proofs.ends.Vocabulary.{[], ap, append_assoc, arith, length, List, map, refl, subst, sym, ℕ, ◌++◌, ◌+◌, ◌∷◌, ◌≡◌}
-use Rattle.osi_blameless.proofs.ends.Vocabulary.{append-nil, map-append, Value, drained_leaves, drained_moves, all_given, Given, Standing, unit_of}
-use Rattle.osi_blameless.proofs.ends.Vocabulary.{with_tsdu, give_out, hand_in, hand_out, Move, MovesAlong, take_in, tsdu_out, tsdus_in, tsdus_out}
-use Rattle.osi_blameless.proofs.ends.Vocabulary.{pumped, Deeds, IsFreshLink, no_deeds, said_in, taken_in, then_did, units_given, units_taken, Said}
+use Rattle.osi_blameless.proofs.ends.Vocabulary.{append-nil, map-append, Value, drained_leaves, drained_moves, all_given, Given, Standing}
+use Rattle.osi_blameless.proofs.ends.Vocabulary.{unit_of}
+use Rattle.osi_blameless.proofs.ends.Vocabulary.{with_tsdu, give_out, hand_in, hand_out, Move, MovesAlong, take_in, tsdu_out, tsdus_in}
+use Rattle.osi_blameless.proofs.ends.Vocabulary.{tsdus_out}
+use Rattle.osi_blameless.proofs.ends.Vocabulary.{pumped, Deeds, IsFreshLink, no_deeds, said_in, taken_in, then_did, units_given}
+use Rattle.osi_blameless.proofs.ends.Vocabulary.{units_taken, Said}
 use Rattle.osi_blameless.proofs.ends.Vocabulary.{said_after, flat_map-append}
 use Rattle.osi_class.specs.Between.{IsFresh}
 

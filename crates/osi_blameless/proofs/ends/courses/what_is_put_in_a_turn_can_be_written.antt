@@ -2,8 +2,10 @@
 -- opened, and the others, CRs, CCs, DRs and DCs, as they are.
 -- For the law of what a session hands to its link.
 use Rattle.osi_blameless.proofs.ends.Vocabulary.{[], arith, Bool, false, List, nat_lt, refl, suc, zero, ℕ, ◌++◌, ◌<◌, ◌∷◌, ◌≡◌}
-use Rattle.osi_blameless.proofs.ends.Vocabulary.{eq-eqb, AllByRecursion, Value, Standing, End, AreCalls, Course, Deeds, IsFreshLink, then_did}
-use Rattle.osi_blameless.proofs.ends.Vocabulary.{is_gone, is_open, closed, all_units, if_of, is_of_link, Marked, units_at, CanBeWritten, awaited}
+use Rattle.osi_blameless.proofs.ends.Vocabulary.{eq-eqb, AllByRecursion, Value, Standing, End, AreCalls, Course, Deeds, IsFreshLink}
+use Rattle.osi_blameless.proofs.ends.Vocabulary.{then_did}
+use Rattle.osi_blameless.proofs.ends.Vocabulary.{is_gone, is_open, closed, all_units, if_of, is_of_link, Marked, units_at, CanBeWritten}
+use Rattle.osi_blameless.proofs.ends.Vocabulary.{awaited}
 use Rattle.osi_blameless.proofs.ends.Vocabulary.{unknown, never, over}
 use Rattle.osi_blameless.proofs.ends.courses.units_of_each_connection.{AreAccounted}
 use Rattle.osi_blameless.proofs.ends.reading.what_a_link_gives_can_be_written.{IsNumbered, link_opens, moves_written}

@@ -1,11 +1,17 @@
 -- The session of an open connection makes a move: what it sends is handed in at its link, or the connection is closed.
 -- For the course of a connection.
-use Rattle.osi_blameless.proofs.ends.Vocabulary.{[], ap, arith, Bool, false, is_some, length, map, nat_le, nat_lt, None, Option, refl, Some, subst}
-use Rattle.osi_blameless.proofs.ends.Vocabulary.{sym, true, ℕ, ◌&&◌, ◌++◌, ◌∙◌, ◌≡◌, append-nil, Joining, Standing, unit_of, MovesAlong, tsdus_out}
-use Rattle.osi_blameless.proofs.ends.Vocabulary.{closed_with, open_link, sent_all, value_at, linked, State as Carrier, EndReason, after_input}
-use Rattle.osi_blameless.proofs.ends.Vocabulary.{Input, Listener, session_react as react, is_wait_transport, handed, lengths_fit, closed_given}
-use Rattle.osi_blameless.proofs.ends.Vocabulary.{has_given, kept_at, to_session, End, sends, AreCalls, Course, Deeds, Gone, IsFreshLink, IsNew}
-use Rattle.osi_blameless.proofs.ends.Vocabulary.{IsShut, said_in, units_given, is_gone, is_open, closed, units_at, History, said_after, over}
+use Rattle.osi_blameless.proofs.ends.Vocabulary.{[], ap, arith, Bool, false, is_some, length, map, nat_le, nat_lt, None, Option, refl, Some}
+use Rattle.osi_blameless.proofs.ends.Vocabulary.{subst}
+use Rattle.osi_blameless.proofs.ends.Vocabulary.{sym, true, ℕ, ◌&&◌, ◌++◌, ◌∙◌, ◌≡◌, append-nil, Joining, Standing, unit_of, MovesAlong}
+use Rattle.osi_blameless.proofs.ends.Vocabulary.{tsdus_out}
+use Rattle.osi_blameless.proofs.ends.Vocabulary.{closed_with, open_link, sent_all, value_at, linked, State as Carrier, EndReason}
+use Rattle.osi_blameless.proofs.ends.Vocabulary.{after_input}
+use Rattle.osi_blameless.proofs.ends.Vocabulary.{Input, Listener, session_react as react, is_wait_transport, handed, lengths_fit}
+use Rattle.osi_blameless.proofs.ends.Vocabulary.{closed_given}
+use Rattle.osi_blameless.proofs.ends.Vocabulary.{has_given, kept_at, to_session, End, sends, AreCalls, Course, Deeds, Gone, IsFreshLink}
+use Rattle.osi_blameless.proofs.ends.Vocabulary.{IsNew}
+use Rattle.osi_blameless.proofs.ends.Vocabulary.{IsShut, said_in, units_given, is_gone, is_open, closed, units_at, History, said_after}
+use Rattle.osi_blameless.proofs.ends.Vocabulary.{over}
 use Rattle.osi_blameless.proofs.ends.Vocabulary.{put_closing, put_together}
 use Rattle.osi_blameless.proofs.ends.ends.what_a_session_sends_fits.{HasLine, IsProper, kept_then, line_there, moved_by}
 use Rattle.osi_blameless.proofs.ends.courses.steps_of_a_course.{HasNone, StepAt, done_by, step_idle}

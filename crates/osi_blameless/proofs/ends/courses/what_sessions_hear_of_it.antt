@@ -1,13 +1,20 @@
 -- The events of a packet are handled: what becomes of the course of one connection, and that what its session sends is handed in.
 -- For the course of a connection.
-use Rattle.osi_blameless.proofs.ends.Vocabulary.{[], ap, Bool, false, inl, inr, is_some, length, List, nat_le, nat_lt, ◌&&◌, has_given, None}
-use Rattle.osi_blameless.proofs.ends.Vocabulary.{Option, refl, Some, subst, suc, sym, true, zero, ℕ, ◌++◌, ◌+◌, ◌==◌, ◌∙◌, ◌∷◌, ◌≡◌, ◌≢◌, eq-eqb}
+use Rattle.osi_blameless.proofs.ends.Vocabulary.{[], ap, Bool, false, inl, inr, is_some, length, List, nat_le, nat_lt, ◌&&◌, has_given}
+use Rattle.osi_blameless.proofs.ends.Vocabulary.{None}
+use Rattle.osi_blameless.proofs.ends.Vocabulary.{Option, refl, Some, subst, suc, sym, true, zero, ℕ, ◌++◌, ◌+◌, ◌==◌, ◌∙◌, ◌∷◌, ◌≡◌, ◌≢◌}
+use Rattle.osi_blameless.proofs.ends.Vocabulary.{eq-eqb}
 use Rattle.osi_blameless.proofs.ends.Vocabulary.{eqb-true, append-nil, MovesAlong, tsdus_out, push_here, open_link, Happening}
-use Rattle.osi_blameless.proofs.ends.Vocabulary.{told_opened as opened, value_at, EndReason, after_input, broken, came, Input, Listener, linked_up}
-use Rattle.osi_blameless.proofs.ends.Vocabulary.{session_react as react, awaits, times_quiet, first_is, rest_is, used_live, hears_keep, calls_with}
-use Rattle.osi_blameless.proofs.ends.Vocabulary.{terms_error, hears, hears_next, hears_times, opens_line as opens, with_events, kept_at, to_session}
-use Rattle.osi_blameless.proofs.ends.Vocabulary.{End, joins, Line, session_in, Request as Connect, sends, Course, Deeds, Gone, IsNew, IsShut}
-use Rattle.osi_blameless.proofs.ends.Vocabulary.{said_in, is_gone, is_open, closed, History, Said, said_after, State as Carrier, attends, concludes}
+use Rattle.osi_blameless.proofs.ends.Vocabulary.{told_opened as opened, value_at, EndReason, after_input, broken, came, Input, Listener}
+use Rattle.osi_blameless.proofs.ends.Vocabulary.{linked_up}
+use Rattle.osi_blameless.proofs.ends.Vocabulary.{session_react as react, awaits, times_quiet, first_is, rest_is, used_live, hears_keep}
+use Rattle.osi_blameless.proofs.ends.Vocabulary.{calls_with}
+use Rattle.osi_blameless.proofs.ends.Vocabulary.{terms_error, hears, hears_next, hears_times, opens_line as opens, with_events, kept_at}
+use Rattle.osi_blameless.proofs.ends.Vocabulary.{to_session}
+use Rattle.osi_blameless.proofs.ends.Vocabulary.{End, joins, Line, session_in, Request as Connect, sends, Course, Deeds, Gone, IsNew}
+use Rattle.osi_blameless.proofs.ends.Vocabulary.{IsShut}
+use Rattle.osi_blameless.proofs.ends.Vocabulary.{said_in, is_gone, is_open, closed, History, Said, said_after, State as Carrier, attends}
+use Rattle.osi_blameless.proofs.ends.Vocabulary.{concludes}
 use Rattle.osi_blameless.proofs.ends.Vocabulary.{hears_all, concluded_carrier, concludes_lasting, never, arith, over, Makes, refused}
 use Rattle.std.proofs.Common.{length-append}
 use Rattle.osi_carrier.specs.Happenings as told
@@ -30,7 +37,8 @@ use Rattle.osi_blameless.proofs.ends.courses.what_another_connection_leaves.{ses
 use Rattle.osi_blameless.proofs.ends.courses.what_calls_of_a_link_say.{fresh_of, none_said, out_more, said_more}
 use Rattle.osi_blameless.proofs.ends.courses.what_its_own_session_does.{CanSpeak, session_speaks}
 use Rattle.osi_blameless.proofs.ends.courses.what_units_do_to_a_course.{NowAll, request_new, unsaid}
-use Rattle.osi_blameless.proofs.ends.courses.what_waits_to_be_heard.{HasCome, JustOpened, Waits, waits_as, waits_beside, waits_over, waits_none}
+use Rattle.osi_blameless.proofs.ends.courses.what_waits_to_be_heard.{HasCome, JustOpened, Waits, waits_as, waits_beside, waits_over}
+use Rattle.osi_blameless.proofs.ends.courses.what_waits_to_be_heard.{waits_none}
 use Rattle.osi_blameless.proofs.ends.courses.what_waits_to_be_heard.Waits.{answered, away, called, came as has_come, still}
 use Rattle.osi_blameless.proofs.ends.ends.the_cn_of_a_request_fits.{CanBegin}
 use Rattle.osi_blameless.proofs.ends.courses.how_long_a_connection_is_open.{stage_at}

@@ -1,13 +1,19 @@
 -- Units that arrive, one after the other: what becomes of the course of one connection, before the sessions hear of it.
 -- For the course of a connection.
-use Rattle.osi_blameless.proofs.ends.Vocabulary.{[], ap, arith, Bool, false, inl, inr, is_some, IsSome, IsTrue, List, map, None, Ok, Option, refl}
+use Rattle.osi_blameless.proofs.ends.Vocabulary.{[], ap, arith, Bool, false, inl, inr, is_some, IsSome, IsTrue, List, map, None, Ok, Option}
+use Rattle.osi_blameless.proofs.ends.Vocabulary.{refl}
 use Rattle.osi_blameless.proofs.ends.Vocabulary.{Some, subst, sym, take, true, ℕ, ◌++◌, ◌<◌, ◌==◌, ◌∙◌, ◌∷◌, ◌≡◌, ◌≢◌, append-nil, eqb-true}
-use Rattle.osi_blameless.proofs.ends.Vocabulary.{units_fit, AreUnits, may_be_followed, Value, Fits, all_given, Standing, taken, unit_of, Move}
-use Rattle.osi_blameless.proofs.ends.Vocabulary.{tsdus_in, tsdus_out, Zero, Local, react_over, absent, put_here, told_opened as opened, tsdu}
-use Rattle.osi_blameless.proofs.ends.Vocabulary.{opened_link, connection_of, RiseFrom, pumped, written_by, handed_out, reacts, settles, Rows}
+use Rattle.osi_blameless.proofs.ends.Vocabulary.{units_fit, AreUnits, may_be_followed, Value, Fits, all_given, Standing, taken, unit_of}
+use Rattle.osi_blameless.proofs.ends.Vocabulary.{Move}
+use Rattle.osi_blameless.proofs.ends.Vocabulary.{tsdus_in, tsdus_out, Zero, Local, react_over, absent, put_here, told_opened as opened}
+use Rattle.osi_blameless.proofs.ends.Vocabulary.{tsdu}
+use Rattle.osi_blameless.proofs.ends.Vocabulary.{opened_link, connection_of, RiseFrom, pumped, written_by, handed_out, reacts, settles}
+use Rattle.osi_blameless.proofs.ends.Vocabulary.{Rows}
 use Rattle.osi_blameless.proofs.ends.Vocabulary.{value_at, asked, Connection, linked, State as Carrier, EndReason, Listener, both}
-use Rattle.osi_blameless.proofs.ends.Vocabulary.{along_units, calls_with, has_given, terms_error, with_carrier, End, Request as Connect, AreCalls}
-use Rattle.osi_blameless.proofs.ends.Vocabulary.{Course, Deeds, Gone, IsFreshLink, IsNew, IsOpen, IsShut, no_deeds, Speaks, then_did, units_given}
+use Rattle.osi_blameless.proofs.ends.Vocabulary.{along_units, calls_with, has_given, terms_error, with_carrier, End, Request as Connect}
+use Rattle.osi_blameless.proofs.ends.Vocabulary.{AreCalls}
+use Rattle.osi_blameless.proofs.ends.Vocabulary.{Course, Deeds, Gone, IsFreshLink, IsNew, IsOpen, IsShut, no_deeds, Speaks, then_did}
+use Rattle.osi_blameless.proofs.ends.Vocabulary.{units_given}
 use Rattle.osi_blameless.proofs.ends.Vocabulary.{units_taken, awaited, is_gone, is_open, unknown, closed, never, react, over, state_is}
 use Rattle.osi_blameless.proofs.ends.Vocabulary.{outcome, put_for, Outcome, Makes, outcome_over}
 use Rattle.osi_blameless.specs.ends.Doing as doing
@@ -22,7 +28,8 @@ use Rattle.osi_blameless.proofs.ends.courses.units_of_each_connection.{elsewhere
 use Rattle.osi_blameless.proofs.ends.courses.units_of_each_connection.{plain_accounted, unequal}
 use Rattle.osi_blameless.proofs.ends.courses.what_a_link_takes_and_is_handed.{HasFew, takes_in}
 use Rattle.osi_blameless.proofs.ends.courses.what_a_unit_does_to_a_connection.{Acts, Does, NoneOf, acts_elsewhere, none_more, unit_does}
-use Rattle.osi_blameless.proofs.ends.courses.what_a_unit_does_to_a_connection.Acts.{answers_it, joins, leaves_it, rests, over as carrier_over}
+use Rattle.osi_blameless.proofs.ends.courses.what_a_unit_does_to_a_connection.Acts.{answers_it, joins, leaves_it, rests}
+use Rattle.osi_blameless.proofs.ends.courses.what_a_unit_does_to_a_connection.Acts.{over as carrier_over}
 use Rattle.osi_blameless.proofs.ends.courses.what_a_unit_does_to_a_connection.Does.{passes, takes}
 use Rattle.osi_blameless.proofs.ends.courses.what_another_connection_leaves.{Beside, course_beside, course_over, gone_beside, gone_over}
 use Rattle.osi_blameless.proofs.ends.courses.what_calls_of_a_link_say.{along_more, none_said, out_more, put_more, said_more}

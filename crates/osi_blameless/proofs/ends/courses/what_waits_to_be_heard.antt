@@ -1,13 +1,18 @@
 -- The course of a connection while events of its carrier wait to be handled: at most one of them is of this connection.
 -- For the course of a connection.
-use Rattle.osi_blameless.proofs.ends.Vocabulary.{[], Bool, false, inl, inr, IsSome, List, map, None, refl, Some, true, ℕ, ◌++◌, ◌∙◌, ◌∷◌, ◌≡◌, ◌≢◌}
-use Rattle.osi_blameless.proofs.ends.Vocabulary.{◌⊎◌, Standing, unit_of, Move, MovesAlong, tsdus_in, tsdus_out, Happening, told_opened as opened}
-use Rattle.osi_blameless.proofs.ends.Vocabulary.{tsdu, value_at, linked, Listener, is_wait_transport, calls_with, has_given, terms_error, kept_at}
-use Rattle.osi_blameless.proofs.ends.Vocabulary.{End, Request as Connect, Course, Deeds, Gone, IsFreshLink, no_deeds, Speaks, units_given, never}
+use Rattle.osi_blameless.proofs.ends.Vocabulary.{[], Bool, false, inl, inr, IsSome, List, map, None, refl, Some, true, ℕ, ◌++◌, ◌∙◌, ◌∷◌}
+use Rattle.osi_blameless.proofs.ends.Vocabulary.{◌≡◌, ◌≢◌}
+use Rattle.osi_blameless.proofs.ends.Vocabulary.{◌⊎◌, Standing, unit_of, Move, MovesAlong, tsdus_in, tsdus_out, Happening}
+use Rattle.osi_blameless.proofs.ends.Vocabulary.{told_opened as opened}
+use Rattle.osi_blameless.proofs.ends.Vocabulary.{tsdu, value_at, linked, Listener, is_wait_transport, calls_with, has_given, terms_error}
+use Rattle.osi_blameless.proofs.ends.Vocabulary.{kept_at}
+use Rattle.osi_blameless.proofs.ends.Vocabulary.{End, Request as Connect, Course, Deeds, Gone, IsFreshLink, no_deeds, Speaks, units_given}
+use Rattle.osi_blameless.proofs.ends.Vocabulary.{never}
 use Rattle.osi_blameless.proofs.ends.Vocabulary.{is_gone, arith, over}
 use Rattle.osi_carrier.specs.Orderly.{told_of}
 use Rattle.osi_blameless.proofs.ends.courses.what_a_unit_does_to_a_connection.{NoneOf}
-use Rattle.osi_blameless.proofs.ends.courses.what_another_connection_leaves.{Beside, course_beside, course_over, gone_beside, gone_over, some_there}
+use Rattle.osi_blameless.proofs.ends.courses.what_another_connection_leaves.{Beside, course_beside, course_over, gone_beside, gone_over}
+use Rattle.osi_blameless.proofs.ends.courses.what_another_connection_leaves.{some_there}
 
 -- ---- one event that is due
 

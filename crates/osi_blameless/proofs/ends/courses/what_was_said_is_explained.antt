@@ -1,11 +1,15 @@
 -- What the session of a connection sent is explained by what it had taken by then, also if a capture shows less of it; and the units
 -- of its link carry these TSDUs.
 -- For the laws of an end and its connections.
-use Rattle.osi_blameless.proofs.ends.Vocabulary.{[], ap, Bool, false, length, List, map, None, refl, subst, sym, true, ℕ, ◌++◌, ◌+◌, ◌∙◌, ◌∷◌, ◌≡◌}
-use Rattle.osi_blameless.proofs.ends.Vocabulary.{append-nil, all_taken, all_sent, unit_of, Move, parts_in, parts_out, tsdus_in, tsdus_out, tsdus}
-use Rattle.osi_blameless.proofs.ends.Vocabulary.{uncut, Listener, awaits, refusal_of, Seen, seen_called, seen_calling, Opening, End, IsExplained}
+use Rattle.osi_blameless.proofs.ends.Vocabulary.{[], ap, Bool, false, length, List, map, None, refl, subst, sym, true, ℕ, ◌++◌, ◌+◌, ◌∙◌}
+use Rattle.osi_blameless.proofs.ends.Vocabulary.{◌∷◌, ◌≡◌}
+use Rattle.osi_blameless.proofs.ends.Vocabulary.{append-nil, all_taken, all_sent, unit_of, Move, parts_in, parts_out, tsdus_in, tsdus_out}
+use Rattle.osi_blameless.proofs.ends.Vocabulary.{tsdus}
+use Rattle.osi_blameless.proofs.ends.Vocabulary.{uncut, Listener, awaits, refusal_of, Seen, seen_called, seen_calling, Opening, End}
+use Rattle.osi_blameless.proofs.ends.Vocabulary.{IsExplained}
 use Rattle.osi_blameless.proofs.ends.Vocabulary.{Told, done, IsSentFrom, AreCalls, Course, Deeds, Gone, IsNew, no_deeds, said_in, Speaks}
-use Rattle.osi_blameless.proofs.ends.Vocabulary.{units_given, is_gone, is_open, closed, never, AreSame, Shows, Said, awaited, unknown, arith, over}
+use Rattle.osi_blameless.proofs.ends.Vocabulary.{units_given, is_gone, is_open, closed, never, AreSame, Shows, Said, awaited, unknown}
+use Rattle.osi_blameless.proofs.ends.Vocabulary.{arith, over}
 use Rattle.osi_blameless.proofs.ends.Vocabulary.{told_of, opens}
 use Rattle.osi_side.specs.Running as running
 use Rattle.osi_blameless.proofs.ends.courses.what_calls_of_a_link_say.{fresh_of, none_said, out_more, said_more}

@@ -1,10 +1,14 @@
 -- A unit that arrives, at each connection: if it is open, its link takes the unit just if this is for it, or it is open no more.
 -- For the course of a connection.
-use Rattle.osi_blameless.proofs.ends.Vocabulary.{[], ap, arith, Bool, false, is_some, IsSome, List, nat_le, nat_lt, None, Ok, Option, refl, Some}
-use Rattle.osi_blameless.proofs.ends.Vocabulary.{subst, sym, true, ℕ, ◌&&◌, ◌<◌, ◌==◌, ◌∙◌, ◌∷◌, ◌≡◌, ◌≢◌, eq-eqb, eqb-true, nat_tests, append-nil}
-use Rattle.osi_blameless.proofs.ends.Vocabulary.{acknowledge, data0, data2, disconnect, Value, Ends, Flow, all_given, Standing, taken, taken_by}
+use Rattle.osi_blameless.proofs.ends.Vocabulary.{[], ap, arith, Bool, false, is_some, IsSome, List, nat_le, nat_lt, None, Ok, Option, refl}
+use Rattle.osi_blameless.proofs.ends.Vocabulary.{Some}
+use Rattle.osi_blameless.proofs.ends.Vocabulary.{subst, sym, true, ℕ, ◌&&◌, ◌<◌, ◌==◌, ◌∙◌, ◌∷◌, ◌≡◌, ◌≢◌, eq-eqb, eqb-true, nat_tests}
+use Rattle.osi_blameless.proofs.ends.Vocabulary.{append-nil}
+use Rattle.osi_blameless.proofs.ends.Vocabulary.{acknowledge, data0, data2, disconnect, Value, Ends, Flow, all_given, Standing, taken}
+use Rattle.osi_blameless.proofs.ends.Vocabulary.{taken_by}
 use Rattle.osi_blameless.proofs.ends.Vocabulary.{RiseFrom, Two, react_quiet, put_other, beyond, put_here, without_here, connection_by}
-use Rattle.osi_blameless.proofs.ends.Vocabulary.{connection_of, pumped, written_by, handed_out, in_two, settles, put, value_at, asked, Connection}
+use Rattle.osi_blameless.proofs.ends.Vocabulary.{connection_of, pumped, written_by, handed_out, in_two, settles, put, value_at, asked}
+use Rattle.osi_blameless.proofs.ends.Vocabulary.{Connection}
 use Rattle.osi_blameless.proofs.ends.Vocabulary.{linked, State as Carrier, EndReason, has_given, AreApart, GivesTo, is_for, Opens, IsShut}
 use Rattle.osi_blameless.proofs.ends.Vocabulary.{is_of_link, Marked, react}
 use Rattle.osi_blameless.proofs.ends.ends.an_end_that_is_over_does_nothing.{never_lasts}
@@ -14,7 +18,8 @@ use Rattle.osi_blameless.proofs.ends.courses.units_of_each_connection.{marked, n
 use Rattle.osi_blameless.proofs.ends.courses.a_connection_without_a_unit.{given_to}
 use Rattle.osi_blameless.proofs.ends.courses.what_a_unit_does_to_a_connection.{Acts, IsDeaf, acts_elsewhere}
 use Rattle.osi_blameless.proofs.ends.courses.what_a_unit_does_to_a_connection.Acts.{answers_it, joins, leaves_it, over, rests}
-use Rattle.osi_blameless.proofs.ends.courses.how_long_a_connection_is_open.{Life, Stage, is_dr, life_as, life_open, life_opens, life_to_past}
+use Rattle.osi_blameless.proofs.ends.courses.how_long_a_connection_is_open.{Life, Stage, is_dr, life_as, life_open, life_opens}
+use Rattle.osi_blameless.proofs.ends.courses.how_long_a_connection_is_open.{life_to_past}
 use Rattle.osi_blameless.proofs.ends.courses.how_long_a_connection_is_open.{stage_at, stage_is, stage_over, stage_there}
 use Rattle.osi_blameless.proofs.ends.courses.how_long_a_connection_is_open.Stage.{amid, early, past}
 

@@ -1,9 +1,13 @@
 -- An end that is over takes no packet, puts nothing, and stays over, whatever happens and however much memory there is.
 -- For the course of a connection.
-use Rattle.osi_blameless.proofs.ends.Vocabulary.{[], arith, IsSome, List, None, Option, ℕ, ◌∷◌, ◌≡◌, lasting_of, TakesPackets, End, waits, ◌++◌}
-use Rattle.osi_blameless.proofs.ends.Vocabulary.{append-nil, append_cancel_left, State as Carrier, Call, Calls, carried_in, carrying, feeding}
-use Rattle.osi_blameless.proofs.ends.Vocabulary.{telling, Holding, Takes, Turn, is_some, length, subst, sym, true, concluded_carrier, Carries}
-use Rattle.osi_blameless.proofs.ends.Vocabulary.{events_heard, session_carried, attends, hears_all, Bool, if◌then◌else◌, Happening, NoMemory}
+use Rattle.osi_blameless.proofs.ends.Vocabulary.{[], arith, IsSome, List, None, Option, ℕ, ◌∷◌, ◌≡◌, lasting_of, TakesPackets, End, waits}
+use Rattle.osi_blameless.proofs.ends.Vocabulary.{◌++◌}
+use Rattle.osi_blameless.proofs.ends.Vocabulary.{append-nil, append_cancel_left, State as Carrier, Call, Calls, carried_in, carrying}
+use Rattle.osi_blameless.proofs.ends.Vocabulary.{feeding}
+use Rattle.osi_blameless.proofs.ends.Vocabulary.{telling, Holding, Takes, Turn, is_some, length, subst, sym, true, concluded_carrier}
+use Rattle.osi_blameless.proofs.ends.Vocabulary.{Carries}
+use Rattle.osi_blameless.proofs.ends.Vocabulary.{events_heard, session_carried, attends, hears_all, Bool, if◌then◌else◌, Happening}
+use Rattle.osi_blameless.proofs.ends.Vocabulary.{NoMemory}
 use Rattle.osi_blameless.proofs.ends.Vocabulary.{hears_times, RunsOut, starves, with_events}
 use Rattle.osi_carrier.specs.State.{ends}
 

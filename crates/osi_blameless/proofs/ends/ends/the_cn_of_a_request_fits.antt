@@ -1,7 +1,9 @@
 -- The session of a request that was accepted begins with a CN that fits.
 -- For the course of a connection.
-use Rattle.osi_blameless.proofs.ends.Vocabulary.{false, None, ◌≡◌, after_input, Listener, linked_up as opened, session_react, is_wait_transport}
-use Rattle.osi_blameless.proofs.ends.Vocabulary.{arith, length, refl, ◌≤◌, leb-true, not-false, sent_alone, IsSendable, asked_sendable, sent_short}
+use Rattle.osi_blameless.proofs.ends.Vocabulary.{false, None, ◌≡◌, after_input, Listener, linked_up as opened, session_react}
+use Rattle.osi_blameless.proofs.ends.Vocabulary.{is_wait_transport}
+use Rattle.osi_blameless.proofs.ends.Vocabulary.{arith, length, refl, ◌≤◌, leb-true, not-false, sent_alone, IsSendable, asked_sendable}
+use Rattle.osi_blameless.proofs.ends.Vocabulary.{sent_short}
 use Rattle.osi_blameless.proofs.ends.Vocabulary.{SpduLaws, or_first, or_second, asked_for, calls_with, terms_error, Request as Connect}
 use Rattle.osi_message.specs.Written.{written}
 unfoldable use Rattle.osi_message.specs.Written.{unit_of, user_data_of}

@@ -3,7 +3,8 @@
 -- For the course of a connection.
 use Rattle.osi_blameless.proofs.ends.Vocabulary.{[], ap, false, Some, true, ℕ, ◌≡◌, put_here, put, Rows, value_at, tsdus_sent, input_begun}
 use Rattle.osi_blameless.proofs.ends.Vocabulary.{after_input, Input, Listener, session_react as react, is_wait_transport, AreShort, kept_at}
-use Rattle.osi_blameless.proofs.ends.Vocabulary.{limit_for, line_by, to_session, End, Line, session_in, sends, arith, List, State as Carrier}
+use Rattle.osi_blameless.proofs.ends.Vocabulary.{limit_for, line_by, to_session, End, Line, session_in, sends, arith, List}
+use Rattle.osi_blameless.proofs.ends.Vocabulary.{State as Carrier}
 use Rattle.osi_blameless.proofs.ends.Vocabulary.{SessionCall, called, IsGranted, came}
 use Rattle.osi_stack.specs.Moving.{answers}
 

@@ -1,8 +1,11 @@
 -- A packet that is no fitting DT ends an end whose connection is open in class 0, and nothing is put for it, whether memory is short or
 -- not. For what such an end does with the packets before a break of the other side.
-use Rattle.osi_blameless.proofs.ends.Vocabulary.{[], Err, inl, inr, length, List, nat_lt, None, Ok, refl, Result, Some, subst, sym, true, ℕ, ◌++◌}
-use Rattle.osi_blameless.proofs.ends.Vocabulary.{◌+◌, ◌∷◌, ◌≡◌, units_of, data0, Value, TpduFault, longest_tsdu, Standing, Zero, react_quiet}
-use Rattle.osi_blameless.proofs.ends.Vocabulary.{reacts_over, acts_cases, reacts, linked, State as Carrier, packet_is, starved_over, after_packet}
+use Rattle.osi_blameless.proofs.ends.Vocabulary.{[], Err, inl, inr, length, List, nat_lt, None, Ok, refl, Result, Some, subst, sym, true, ℕ}
+use Rattle.osi_blameless.proofs.ends.Vocabulary.{◌++◌}
+use Rattle.osi_blameless.proofs.ends.Vocabulary.{◌+◌, ◌∷◌, ◌≡◌, units_of, data0, Value, TpduFault, longest_tsdu, Standing, Zero}
+use Rattle.osi_blameless.proofs.ends.Vocabulary.{react_quiet}
+use Rattle.osi_blameless.proofs.ends.Vocabulary.{reacts_over, acts_cases, reacts, linked, State as Carrier, packet_is, starved_over}
+use Rattle.osi_blameless.proofs.ends.Vocabulary.{after_packet}
 use Rattle.osi_blameless.proofs.ends.Vocabulary.{with_carrier, End, Starves, arith, react}
 use Rattle.osi_carrier.specs.Packets as carriers
 use Rattle.osi_blameless.proofs.ends.ends.an_end_that_is_over_does_nothing.{Over, attends_over, out_over}

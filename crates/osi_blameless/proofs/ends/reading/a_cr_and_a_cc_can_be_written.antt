@@ -1,7 +1,8 @@
 -- A CR that an end puts can be written, and so can a CC, if the CR that it answers was in range.
 -- For the course of a connection.
 use Rattle.osi_blameless.proofs.ends.Vocabulary.{arith, Bool, length, min, Option, option_map, take, ℕ, ◌≤◌, length-take, IfSome, size_code}
-use Rattle.osi_blameless.proofs.ends.Vocabulary.{tsap_octets, IsConnect, Tsap, accept, refuse, selected_by, Selection, Class, Local, acceptance}
+use Rattle.osi_blameless.proofs.ends.Vocabulary.{tsap_octets, IsConnect, Tsap, accept, refuse, selected_by, Selection, Class, Local}
+use Rattle.osi_blameless.proofs.ends.Vocabulary.{acceptance}
 use Rattle.osi_blameless.proofs.ends.Vocabulary.{proposal_by, IsPlain, Connect}
 
 -- ---- a CC

@@ -1,8 +1,10 @@
 -- What a turn uses of a piece is packets, and then perhaps a part of one. The units of packets are octets.
 -- For the course of a connection.
-use Rattle.osi_blameless.proofs.ends.Vocabulary.{[], ap, append_assoc, arith, Bool, drop, false, if◌then◌else◌, length, List, None, Option, Some}
+use Rattle.osi_blameless.proofs.ends.Vocabulary.{[], ap, append_assoc, arith, Bool, drop, false, if◌then◌else◌, length, List, None, Option}
+use Rattle.osi_blameless.proofs.ends.Vocabulary.{Some}
 use Rattle.osi_blameless.proofs.ends.Vocabulary.{subst, take, true, ℕ, ◌++◌, ◌∙◌, ◌∷◌, ◌≡◌, take-append-drop, take_all, AllByRecursion}
-use Rattle.osi_blameless.proofs.ends.Vocabulary.{octets_right, IsOctets, IsPacket, ArePackets, packets_more, EndReason, uses_within, StopsBehind}
+use Rattle.osi_blameless.proofs.ends.Vocabulary.{octets_right, IsOctets, IsPacket, ArePackets, packets_more, EndReason, uses_within}
+use Rattle.osi_blameless.proofs.ends.Vocabulary.{StopsBehind}
 use Rattle.osi_blameless.proofs.ends.Vocabulary.{uses_all, Holding}
 use Rattle.osi_blameless.proofs.ends.ends.an_end_that_is_over_does_nothing.{never_lasts}
 

@@ -1,8 +1,10 @@
 -- The numbers of the units that a link gives are in the range of their fields, whatever it takes.
 -- For the course of a connection, and for what a carrier puts.
 use Rattle.osi_blameless.proofs.ends.Vocabulary.{[], arith, List, map, None, Ok, Option, Some, suc, zero, ℕ, ◌<◌, ◌∷◌, ◌≡◌, AllByRecursion}
-use Rattle.osi_blameless.proofs.ends.Vocabulary.{flat_map, IfOk, IfSome, data0, Value, at_ok, choose_ok, choose_some, given_by, Ends, Flow, Drained}
-use Rattle.osi_blameless.proofs.ends.Vocabulary.{drained_by, drained_within, left_to_give, ack, Given, given_part, next, next_by, part0, part2}
+use Rattle.osi_blameless.proofs.ends.Vocabulary.{flat_map, IfOk, IfSome, data0, Value, at_ok, choose_ok, choose_some, given_by, Ends, Flow}
+use Rattle.osi_blameless.proofs.ends.Vocabulary.{Drained}
+use Rattle.osi_blameless.proofs.ends.Vocabulary.{drained_by, drained_within, left_to_give, ack, Given, given_part, next, next_by, part0}
+use Rattle.osi_blameless.proofs.ends.Vocabulary.{part2}
 use Rattle.osi_blameless.proofs.ends.Vocabulary.{Standing, taken, taken_by, unit_of, Move, MovesAlong, Part, Class, Local, opened_link}
 use Rattle.osi_blameless.proofs.ends.Vocabulary.{CanBeWritten, Moves}
 unfoldable use Rattle.osi_class.specs.Giving.{drained}

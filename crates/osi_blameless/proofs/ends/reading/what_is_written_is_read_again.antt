@@ -1,10 +1,14 @@
 -- A unit in whose written form each number is an octet is read again as this unit, if the few numbers that share an octet are
 -- in range: credit, class and options, and the numbers of class 2.
 -- For the course of a connection.
-use Rattle.osi_blameless.proofs.ends.Vocabulary.{[], arith, length, List, None, Ok, Option, Some, subst, ℕ, ◌++◌, ◌+◌, ◌/◌, ◌<◌, ◌∷◌, ◌≡◌, ◌≤◌}
-use Rattle.osi_blameless.proofs.ends.Vocabulary.{length-append, flat_map, IfSome, octets_left, octets_nil, octets_right, IsOctets, units_only}
-use Rattle.osi_blameless.proofs.ends.Vocabulary.{written_spells, units_of, connect_part, Item, item_octets, single, acknowledge, AreParameters}
-use Rattle.osi_blameless.proofs.ends.Vocabulary.{confirm, data0, data2, disconnect, disconnected, error, HasFieldsInRange, IsConnect, request}
+use Rattle.osi_blameless.proofs.ends.Vocabulary.{[], arith, length, List, None, Ok, Option, Some, subst, ℕ, ◌++◌, ◌+◌, ◌/◌, ◌<◌, ◌∷◌, ◌≡◌}
+use Rattle.osi_blameless.proofs.ends.Vocabulary.{◌≤◌}
+use Rattle.osi_blameless.proofs.ends.Vocabulary.{length-append, flat_map, IfSome, octets_left, octets_nil, octets_right, IsOctets}
+use Rattle.osi_blameless.proofs.ends.Vocabulary.{units_only}
+use Rattle.osi_blameless.proofs.ends.Vocabulary.{written_spells, units_of, connect_part, Item, item_octets, single, acknowledge}
+use Rattle.osi_blameless.proofs.ends.Vocabulary.{AreParameters}
+use Rattle.osi_blameless.proofs.ends.Vocabulary.{confirm, data0, data2, disconnect, disconnected, error, HasFieldsInRange, IsConnect}
+use Rattle.osi_blameless.proofs.ends.Vocabulary.{request}
 use Rattle.osi_blameless.proofs.ends.Vocabulary.{Value, HasRoom, items_of, written, written_items, Connect, packet_of, packets}
 use Rattle.std.proofs.lemmas.List.Concat.{flat_map-append}
 pub use Rattle.osi_blameless.specs.ends.Writable.{CanBeWritten, IsPlain}

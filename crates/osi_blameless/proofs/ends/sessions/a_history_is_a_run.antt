@@ -1,8 +1,10 @@
 -- What a session took and sent is a run of it as the judge has it, so what it sent is explained by what it took.
 -- For the laws of an end and its connections.
-use Rattle.osi_blameless.proofs.ends.Vocabulary.{[], ap, append_assoc, arith, Bool, false, get_or, length, List, map, refl, subst, sym, ℕ, ◌++◌}
+use Rattle.osi_blameless.proofs.ends.Vocabulary.{[], ap, append_assoc, arith, Bool, false, get_or, length, List, map, refl, subst, sym, ℕ}
+use Rattle.osi_blameless.proofs.ends.Vocabulary.{◌++◌}
 use Rattle.osi_blameless.proofs.ends.Vocabulary.{◌+◌, ◌∙◌, ◌∷◌, ◌≡◌, append-nil, map-append, after_input, called, came, Listener}
-use Rattle.osi_blameless.proofs.ends.Vocabulary.{linked_up as opened, session_react as react, Told, IsSentFrom, Pass, Runs, sends, History, Said}
+use Rattle.osi_blameless.proofs.ends.Vocabulary.{linked_up as opened, session_react as react, Told, IsSentFrom, Pass, Runs, sends, History}
+use Rattle.osi_blameless.proofs.ends.Vocabulary.{Said}
 use Rattle.osi_blameless.proofs.ends.Vocabulary.{said_after, told_of}
 use Rattle.std.proofs.Common.{length-append}
 use Rattle.osi_side.specs.Running as running

@@ -1,9 +1,13 @@
 -- The session of a request that is accepted begins as a caller does, with the CN of some opening that osi_session accepts.
 -- For what the session of a connection said.
-use Rattle.osi_blameless.proofs.ends.Vocabulary.{Bool, false, if◌then◌else◌, length, List, nat_le, None, not, Option, option_map, refl, Some, true}
-use Rattle.osi_blameless.proofs.ends.Vocabulary.{ℕ, ◌||◌, ◌≡◌, ltb-false, unit_bits, named_by, Selector, CN, selector_octets, most_user_data}
-use Rattle.osi_blameless.proofs.ends.Vocabulary.{serial_for, Listener, refusal_of, offered, functional_units, is_profile, Opening, called_octets}
-use Rattle.osi_blameless.proofs.ends.Vocabulary.{calling_octets, calls_with, is_long, is_long_address, opening_of, terms_error, Request as Connect}
+use Rattle.osi_blameless.proofs.ends.Vocabulary.{Bool, false, if◌then◌else◌, length, List, nat_le, None, not, Option, option_map, refl}
+use Rattle.osi_blameless.proofs.ends.Vocabulary.{Some, true}
+use Rattle.osi_blameless.proofs.ends.Vocabulary.{ℕ, ◌||◌, ◌≡◌, ltb-false, unit_bits, named_by, Selector, CN, selector_octets}
+use Rattle.osi_blameless.proofs.ends.Vocabulary.{most_user_data}
+use Rattle.osi_blameless.proofs.ends.Vocabulary.{serial_for, Listener, refusal_of, offered, functional_units, is_profile, Opening}
+use Rattle.osi_blameless.proofs.ends.Vocabulary.{called_octets}
+use Rattle.osi_blameless.proofs.ends.Vocabulary.{calling_octets, calls_with, is_long, is_long_address, opening_of, terms_error}
+use Rattle.osi_blameless.proofs.ends.Vocabulary.{Request as Connect}
 use Rattle.osi_blameless.proofs.ends.Vocabulary.{arith, opens}
 
 -- a selector of these octets

@@ -1,7 +1,8 @@
 -- A capture that shows what a session sent, up to some place, with at least as many TSDUs before each as the session had
 -- taken by then, shows a run of it as the judge has it.
 -- For the laws of an end and its connections.
-use Rattle.osi_blameless.proofs.ends.Vocabulary.{[], ap, arith, Bool, false, get_or, length, List, refl, ℕ, ◌++◌, ◌+◌, ◌<◌, ◌∷◌, ◌≡◌, ◌≤◌, came}
+use Rattle.osi_blameless.proofs.ends.Vocabulary.{[], ap, arith, Bool, false, get_or, length, List, refl, ℕ, ◌++◌, ◌+◌, ◌<◌, ◌∷◌, ◌≡◌, ◌≤◌}
+use Rattle.osi_blameless.proofs.ends.Vocabulary.{came}
 use Rattle.osi_blameless.proofs.ends.Vocabulary.{Listener, Told, IsSentFrom, Pass, Runs, sends, AreSame, Shows}
 use Rattle.osi_side.specs.Running as running
 

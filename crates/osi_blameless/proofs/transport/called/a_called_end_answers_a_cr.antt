@@ -1,15 +1,22 @@
 -- A called end takes a CR, and puts its answer: a DR that refuses it, or a CC with the next reference.
 -- For the law on a whole called end.
-use Rattle.osi_blameless.proofs.transport.Vocabulary.{[], accept, acceptance, AllByRecursion, ap, append-nil, arith, Bool, confirm, Connect, Connection}
-use Rattle.osi_blameless.proofs.transport.Vocabulary.{disconnect, eq-eqb, eqb-true, false, if◌then◌else◌, is_some, linked, List, Live, Local, None}
-use Rattle.osi_blameless.proofs.transport.Vocabulary.{opened_link, Option, refl, request, Right, Rows, selected_by, slice_get, Some, Standing, State}
-use Rattle.osi_blameless.proofs.transport.Vocabulary.{subst, sym, true, Two, Value, value_at, Whole, ℕ, ◌&&◌, ◌++◌, ◌+◌, ◌<◌, ◌==◌, ◌∙◌, ◌∷◌, ◌≡◌, ◌≢◌}
+use Rattle.osi_blameless.proofs.transport.Vocabulary.{[], accept, acceptance, AllByRecursion, ap, append-nil, arith, Bool, confirm, Connect}
+use Rattle.osi_blameless.proofs.transport.Vocabulary.{Connection}
+use Rattle.osi_blameless.proofs.transport.Vocabulary.{disconnect, eq-eqb, eqb-true, false, if◌then◌else◌, is_some, linked, List, Live}
+use Rattle.osi_blameless.proofs.transport.Vocabulary.{Local, None}
+use Rattle.osi_blameless.proofs.transport.Vocabulary.{opened_link, Option, refl, request, Right, Rows, selected_by, slice_get, Some}
+use Rattle.osi_blameless.proofs.transport.Vocabulary.{Standing, State}
+use Rattle.osi_blameless.proofs.transport.Vocabulary.{subst, sym, true, Two, Value, value_at, Whole, ℕ, ◌&&◌, ◌++◌, ◌+◌, ◌<◌, ◌==◌, ◌∙◌}
+use Rattle.osi_blameless.proofs.transport.Vocabulary.{◌∷◌, ◌≡◌, ◌≢◌}
 use Rattle.osi_blameless.proofs.transport.Vocabulary.{◌≤◌, ◌⊎◌}
 use Rattle.osi_blameless.proofs.transport.small_facts_that_many_lemmas_use.{and_second, differ, no_number, number_is}
-use Rattle.osi_blameless.proofs.transport.called.each_connection_of_a_called_end.{stands_at, Among, AreAbove, Answering, Asked, Called, IsDc, IsFor, IsStray}
-use Rattle.osi_blameless.proofs.transport.called.each_connection_of_a_called_end.{IsUnlinked, Row, Stand, Untagged, answers, closes, first_some, over, refuses}
+use Rattle.osi_blameless.proofs.transport.called.each_connection_of_a_called_end.{stands_at, Among, AreAbove, Answering, Asked, Called}
+use Rattle.osi_blameless.proofs.transport.called.each_connection_of_a_called_end.{IsDc, IsFor, IsStray}
+use Rattle.osi_blameless.proofs.transport.called.each_connection_of_a_called_end.{IsUnlinked, Row, Stand, Untagged, answers, closes}
+use Rattle.osi_blameless.proofs.transport.called.each_connection_of_a_called_end.{first_some, over, refuses}
 use Rattle.osi_blameless.proofs.transport.called.each_connection_of_a_called_end.{talks}
-use Rattle.osi_blameless.proofs.transport.connections.units_by_their_place.{Placed, at_first, at_join, at_other, first_at, units_at, values, values_join}
+use Rattle.osi_blameless.proofs.transport.connections.units_by_their_place.{Placed, at_first, at_join, at_other, first_at, units_at, values}
+use Rattle.osi_blameless.proofs.transport.connections.units_by_their_place.{values_join}
 use Rattle.osi_blameless.proofs.transport.called.what_a_called_end_does_to_its_lines.{above_more, some_more, strays_keep}
 use Rattle.osi_blameless.proofs.transport.connections.what_is_live_at_an_end.{IsKnown, IsLive, Timely, timely_gives, timely_puts}
 use Rattle.osi_blameless.proofs.transport.connections.which_units_are_for_a_connection.{those}

@@ -1,15 +1,22 @@
 -- A whole called end is fair as long as both sides are judged: by induction over what happens.
 -- For the law of that name.
-use Rattle.osi_blameless.proofs.transport.Vocabulary.{[], all_passed, ap, arith, arrives, begin, calls, Class, Connection, Event, false, fresh}
-use Rattle.osi_blameless.proofs.transport.Vocabulary.{HappenAlong, Happens, HasFieldsInRange, HoldsOfOne, inl, inr, is_live, is_stopped, knows_disconnect}
-use Rattle.osi_blameless.proofs.transport.Vocabulary.{Left, List, Local, MayCall, None, Option, orderly_fresh, packet, packet_begins, passes}
-use Rattle.osi_blameless.proofs.transport.Vocabulary.{passes_rubbish, Passing, put_by, put_for, react, refl, Right, rubbish, slice_get, Some, subst, sym}
-use Rattle.osi_blameless.proofs.transport.Vocabulary.{takes, Traffic, true, Two, unit as passing, user_does, UserCall, Value, Whole, ℕ, ◌++◌, ◌∙◌, ◌∷◌}
+use Rattle.osi_blameless.proofs.transport.Vocabulary.{[], all_passed, ap, arith, arrives, begin, calls, Class, Connection, Event, false}
+use Rattle.osi_blameless.proofs.transport.Vocabulary.{fresh}
+use Rattle.osi_blameless.proofs.transport.Vocabulary.{HappenAlong, Happens, HasFieldsInRange, HoldsOfOne, inl, inr, is_live, is_stopped}
+use Rattle.osi_blameless.proofs.transport.Vocabulary.{knows_disconnect}
+use Rattle.osi_blameless.proofs.transport.Vocabulary.{Left, List, Local, MayCall, None, Option, orderly_fresh, packet, packet_begins}
+use Rattle.osi_blameless.proofs.transport.Vocabulary.{passes}
+use Rattle.osi_blameless.proofs.transport.Vocabulary.{passes_rubbish, Passing, put_by, put_for, react, refl, Right, rubbish, slice_get}
+use Rattle.osi_blameless.proofs.transport.Vocabulary.{Some, subst, sym}
+use Rattle.osi_blameless.proofs.transport.Vocabulary.{takes, Traffic, true, Two, unit as passing, user_does, UserCall, Value, Whole, ℕ}
+use Rattle.osi_blameless.proofs.transport.Vocabulary.{◌++◌, ◌∙◌, ◌∷◌}
 use Rattle.osi_blameless.proofs.transport.Vocabulary.{◌≡◌, ◌≢◌, ◌⊎◌}
 use Rattle.osi_blameless.specs.transport.Wholes.{begins_other, begins_own, passes_other, passes_own}
-use Rattle.osi_blameless.proofs.transport.class_0.a_called_end_selects_class_zero.{Selecting, selecting_begins, selecting_calls, selecting_passes}
+use Rattle.osi_blameless.proofs.transport.class_0.a_called_end_selects_class_zero.{Selecting, selecting_begins, selecting_calls}
+use Rattle.osi_blameless.proofs.transport.class_0.a_called_end_selects_class_zero.{selecting_passes}
 use Rattle.osi_blameless.proofs.transport.class_0.a_called_end_selects_class_zero.{selecting_takes}
-use Rattle.osi_blameless.proofs.transport.class_0.an_end_goes_on_in_class_zero.{IsZeroed, zeroed_begins, zeroed_calls, zeroed_elsewhere, zeroed_passes}
+use Rattle.osi_blameless.proofs.transport.class_0.an_end_goes_on_in_class_zero.{IsZeroed, zeroed_begins, zeroed_calls, zeroed_elsewhere}
+use Rattle.osi_blameless.proofs.transport.class_0.an_end_goes_on_in_class_zero.{zeroed_passes}
 use Rattle.osi_blameless.proofs.transport.class_0.an_end_goes_on_in_class_zero.{zeroed_takes}
 use Rattle.osi_blameless.proofs.transport.class_0.what_comes_to_an_end_of_class_zero.{selected_comes, selecting_comes}
 use Rattle.osi_blameless.proofs.transport.called.a_called_end_takes_a_unit.{SelectsZero, class_none, selects_zero, takes_so}
@@ -25,7 +32,8 @@ use Rattle.osi_blameless.proofs.transport.names.names_stay_apart_though_one_is_l
 use Rattle.osi_blameless.proofs.transport.requests.a_connection_is_lost_in_class_2_alone.{IsOfTwo, firm_unless_two, still_two}
 use Rattle.osi_blameless.proofs.transport.called.how_a_unit_of_right_passes.{head_of, no_list}
 use Rattle.osi_blameless.proofs.transport.names.all_are_judged_unless_one_broke.{AreJudged, IsJudged, still_judged}
-use Rattle.osi_blameless.proofs.transport.called.each_connection_of_a_called_end.{Called, other_begins as lines_begin, own_begins as line_begins}
+use Rattle.osi_blameless.proofs.transport.called.each_connection_of_a_called_end.{Called, other_begins as lines_begin}
+use Rattle.osi_blameless.proofs.transport.called.each_connection_of_a_called_end.{own_begins as line_begins}
 use Rattle.osi_blameless.proofs.transport.connections.units_by_their_place.{Placed, at_first, units_at, values}
 use Rattle.osi_blameless.proofs.transport.called.what_comes_to_a_called_end.{comes_so}
 use Rattle.osi_blameless.proofs.transport.names.what_holds_of_one_item.{HoldsOfEach}

@@ -1,14 +1,18 @@
 -- A whole called end is fair in class 0 as long as it is judged, also after the judging of the other side has ended.
 -- For the law on a whole called end.
-use Rattle.osi_blameless.proofs.transport.Vocabulary.{[], ap, arith, arrives, begin, begins_other, begins_own, Bool, calls, Class, Course, Event, false}
-use Rattle.osi_blameless.proofs.transport.Vocabulary.{HappenAlong, Happens, is_stopped, Kept, List, Local, None, Option, passes_rubbish, refl, Right, Some}
+use Rattle.osi_blameless.proofs.transport.Vocabulary.{[], ap, arith, arrives, begin, begins_other, begins_own, Bool, calls, Class, Course}
+use Rattle.osi_blameless.proofs.transport.Vocabulary.{Event, false}
+use Rattle.osi_blameless.proofs.transport.Vocabulary.{HappenAlong, Happens, is_stopped, Kept, List, Local, None, Option, passes_rubbish}
+use Rattle.osi_blameless.proofs.transport.Vocabulary.{refl, Right, Some}
 use Rattle.osi_blameless.proofs.transport.Vocabulary.{subst, sym, takes, true, Two, Value, Whole, Zero, ◌∙◌, ◌∷◌, ◌≡◌, ◌⊎◌}
 use Rattle.osi_blameless.specs.transport.Wholes.{passes_other, passes_own}
 use Rattle.osi_blameless.proofs.transport.small_facts_that_many_lemmas_use.{differ}
-use Rattle.osi_blameless.proofs.transport.called.a_called_end_is_fair.{Joined, Stage, first_joined, lines, mild, next_joined, passes_stage, selected}
+use Rattle.osi_blameless.proofs.transport.called.a_called_end_is_fair.{Joined, Stage, first_joined, lines, mild, next_joined, passes_stage}
+use Rattle.osi_blameless.proofs.transport.called.a_called_end_is_fair.{selected}
 use Rattle.osi_blameless.proofs.transport.called.a_called_end_is_fair.{selecting}
 use Rattle.osi_blameless.proofs.transport.calling.the_end_is_judged_as_the_other_side_is.{alone_zero, other_kept}
-use Rattle.osi_blameless.proofs.transport.class_0.an_end_goes_on_in_class_zero.{IsZeroed, zeroed_begins, zeroed_calls, zeroed_elsewhere, zeroed_passes}
+use Rattle.osi_blameless.proofs.transport.class_0.an_end_goes_on_in_class_zero.{IsZeroed, zeroed_begins, zeroed_calls, zeroed_elsewhere}
+use Rattle.osi_blameless.proofs.transport.class_0.an_end_goes_on_in_class_zero.{zeroed_passes}
 use Rattle.osi_blameless.proofs.transport.class_0.an_end_goes_on_in_class_zero.{zeroed_refused, zeroed_takes}
 use Rattle.osi_blameless.proofs.transport.class_0.what_comes_to_an_end_of_class_zero.{selected_comes}
 use Rattle.osi_blameless.proofs.transport.names.what_keeps_names_apart.{AreApart}

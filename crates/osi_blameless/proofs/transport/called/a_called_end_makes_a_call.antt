@@ -1,11 +1,17 @@
 -- The user of a whole called end makes a call: it sends TSDUs on an open connection, closes one, or ends the carrier.
 -- For the law on a whole called end.
-use Rattle.osi_blameless.proofs.transport.Vocabulary.{[], AllByRecursion, ap, append-nil, arith, Bool, breaks, closed_with, closes_call, closes_in}
-use Rattle.osi_blameless.proofs.transport.Vocabulary.{closing, connects, ended_by, EndReason, ends as ends_as, eqb-true, false, Follows, if◌then◌else◌}
-use Rattle.osi_blameless.proofs.transport.Vocabulary.{is_some, IsOrderly, length, link_now, linked, List, Local, longest_tsdu, MayCall, None, open_link}
-use Rattle.osi_blameless.proofs.transport.Vocabulary.{Option, orderly_closed, orderly_ended, orderly_sent, orderly_sent_all, pumped, put_by, put_closing}
-use Rattle.osi_blameless.proofs.transport.Vocabulary.{put_here, put_other, put_sent, put_together, refl, Right, sends, sends_all, sent, sent_all, Some}
-use Rattle.osi_blameless.proofs.transport.Vocabulary.{Standing, State, subst, sym, true, Two, user_does, UserCall, Value, value_at, Whole, with_tsdu, ℕ}
+use Rattle.osi_blameless.proofs.transport.Vocabulary.{[], AllByRecursion, ap, append-nil, arith, Bool, breaks, closed_with, closes_call}
+use Rattle.osi_blameless.proofs.transport.Vocabulary.{closes_in}
+use Rattle.osi_blameless.proofs.transport.Vocabulary.{closing, connects, ended_by, EndReason, ends as ends_as, eqb-true, false, Follows}
+use Rattle.osi_blameless.proofs.transport.Vocabulary.{if◌then◌else◌}
+use Rattle.osi_blameless.proofs.transport.Vocabulary.{is_some, IsOrderly, length, link_now, linked, List, Local, longest_tsdu, MayCall}
+use Rattle.osi_blameless.proofs.transport.Vocabulary.{None, open_link}
+use Rattle.osi_blameless.proofs.transport.Vocabulary.{Option, orderly_closed, orderly_ended, orderly_sent, orderly_sent_all, pumped, put_by}
+use Rattle.osi_blameless.proofs.transport.Vocabulary.{put_closing}
+use Rattle.osi_blameless.proofs.transport.Vocabulary.{put_here, put_other, put_sent, put_together, refl, Right, sends, sends_all, sent}
+use Rattle.osi_blameless.proofs.transport.Vocabulary.{sent_all, Some}
+use Rattle.osi_blameless.proofs.transport.Vocabulary.{Standing, State, subst, sym, true, Two, user_does, UserCall, Value, value_at, Whole}
+use Rattle.osi_blameless.proofs.transport.Vocabulary.{with_tsdu, ℕ}
 use Rattle.osi_blameless.proofs.transport.Vocabulary.{◌++◌, ◌==◌, ◌∙◌, ◌∷◌, ◌≡◌, ◌≤◌}
 use Rattle.osi_carrier.specs.Calls.{sent_on}
 use Rattle.osi_blameless.proofs.transport.small_facts_that_many_lemmas_use.{none_of}

@@ -1,14 +1,23 @@
 -- A whole called end takes a unit: a CR, a unit for an open connection or for one that is not open, or one for which it ends.
 -- For the law on a whole called end.
-use Rattle.osi_blameless.proofs.transport.Vocabulary.{[], accept, acceptance, accepts, acknowledge, AllByRecursion, answers_by, answers_request, ap}
-use Rattle.osi_blameless.proofs.transport.Vocabulary.{append-nil, AreUpTo, arith, asked, before_class, beyond, Bool, CarrierOutcome, Class, closing}
-use Rattle.osi_blameless.proofs.transport.Vocabulary.{confirm, Connect, Connection, data0, data2, denies, destination_of, disconnect, disconnected}
-use Rattle.osi_blameless.proofs.transport.Vocabulary.{EndReason, eq-eqb, eqb-true, error, fails, false, has_peer, HoldsOfOne, in_class, inl, inr, is_full}
-use Rattle.osi_blameless.proofs.transport.Vocabulary.{is_live, is_refused, is_some, IsOrderly, IsSome, Left, linked, List, Live, Local, ltb-false}
-use Rattle.osi_blameless.proofs.transport.Vocabulary.{ltb-true, None, opened_link, Option, orderly_unit, outcome, outcome_over, outcome_quiet, push_here}
-use Rattle.osi_blameless.proofs.transport.Vocabulary.{push_other, put_for, puts_none, refl, refuse, request, Right, RiseFrom, Rows, selected_by, Selection}
-use Rattle.osi_blameless.proofs.transport.Vocabulary.{slice_get, Some, Standing, State, state_is, subst, sym, to_closing, to_connection, to_linked}
-use Rattle.osi_blameless.proofs.transport.Vocabulary.{to_unknown, true, Two, UnexpectedUnit, unit_octets, Value, value_at, Whole, without_here, Zero, ℕ}
+use Rattle.osi_blameless.proofs.transport.Vocabulary.{[], accept, acceptance, accepts, acknowledge, AllByRecursion, answers_by}
+use Rattle.osi_blameless.proofs.transport.Vocabulary.{answers_request, ap}
+use Rattle.osi_blameless.proofs.transport.Vocabulary.{append-nil, AreUpTo, arith, asked, before_class, beyond, Bool, CarrierOutcome, Class}
+use Rattle.osi_blameless.proofs.transport.Vocabulary.{closing}
+use Rattle.osi_blameless.proofs.transport.Vocabulary.{confirm, Connect, Connection, data0, data2, denies, destination_of, disconnect}
+use Rattle.osi_blameless.proofs.transport.Vocabulary.{disconnected}
+use Rattle.osi_blameless.proofs.transport.Vocabulary.{EndReason, eq-eqb, eqb-true, error, fails, false, has_peer, HoldsOfOne, in_class, inl}
+use Rattle.osi_blameless.proofs.transport.Vocabulary.{inr, is_full}
+use Rattle.osi_blameless.proofs.transport.Vocabulary.{is_live, is_refused, is_some, IsOrderly, IsSome, Left, linked, List, Live, Local}
+use Rattle.osi_blameless.proofs.transport.Vocabulary.{ltb-false}
+use Rattle.osi_blameless.proofs.transport.Vocabulary.{ltb-true, None, opened_link, Option, orderly_unit, outcome, outcome_over}
+use Rattle.osi_blameless.proofs.transport.Vocabulary.{outcome_quiet, push_here}
+use Rattle.osi_blameless.proofs.transport.Vocabulary.{push_other, put_for, puts_none, refl, refuse, request, Right, RiseFrom, Rows}
+use Rattle.osi_blameless.proofs.transport.Vocabulary.{selected_by, Selection}
+use Rattle.osi_blameless.proofs.transport.Vocabulary.{slice_get, Some, Standing, State, state_is, subst, sym, to_closing, to_connection}
+use Rattle.osi_blameless.proofs.transport.Vocabulary.{to_linked}
+use Rattle.osi_blameless.proofs.transport.Vocabulary.{to_unknown, true, Two, UnexpectedUnit, unit_octets, Value, value_at, Whole}
+use Rattle.osi_blameless.proofs.transport.Vocabulary.{without_here, Zero, ℕ}
 use Rattle.osi_blameless.proofs.transport.Vocabulary.{◌&&◌, ◌++◌, ◌+◌, ◌-◌, ◌<◌, ◌==◌, ◌||◌, ◌∙◌, ◌∷◌, ◌≡◌, ◌≤◌, ◌⊎◌}
 unfoldable use Rattle.osi_carrier.specs.React.{react}
 use Rattle.osi_blameless.proofs.transport.small_facts_that_many_lemmas_use.{and_false, differ, first_is, number_is, or_first, or_last}
@@ -19,15 +28,18 @@ use Rattle.osi_blameless.proofs.transport.class_0.what_an_end_does_in_class_zero
 use Rattle.osi_blameless.proofs.transport.names.what_holds_of_one_item.{HoldsOfEach}
 use Rattle.osi_blameless.proofs.transport.lines.a_carrier_follows_lines.{follows_open, outcome_at}
 use Rattle.osi_blameless.proofs.transport.called.how_a_unit_of_right_passes.{Head, head_of, no_list}
-use Rattle.osi_blameless.proofs.transport.called.each_connection_of_a_called_end.{Asked, Among, Called, IsDc, IsFor, IsNoCr, Stand, Untagged, answers}
+use Rattle.osi_blameless.proofs.transport.called.each_connection_of_a_called_end.{Asked, Among, Called, IsDc, IsFor, IsNoCr, Stand}
+use Rattle.osi_blameless.proofs.transport.called.each_connection_of_a_called_end.{Untagged, answers}
 use Rattle.osi_blameless.proofs.transport.called.each_connection_of_a_called_end.{comes, past, refuses, runs}
 use Rattle.osi_blameless.proofs.transport.connections.units_by_their_place.{Placed, at_first, first_at, units_at, values}
 use Rattle.osi_blameless.proofs.transport.called.what_a_called_end_does_to_its_lines.{Leaves, Took, line_steps}
 use Rattle.osi_blameless.proofs.transport.called.what_a_called_end_leaves_alone.{is_over, left_alone}
 use Rattle.osi_blameless.proofs.transport.connections.what_is_live_at_an_end.{IsLive, Timely, shuts_of, timely_takes}
 use Rattle.osi_blameless.proofs.transport.connections.which_units_are_for_a_connection.{first_kept, first_left, named_not, named_so, those}
-use Rattle.osi_blameless.proofs.transport.called.what_becomes_of_a_called_end.{above_up, rows_none, IsCalled, Same, called_still, no_row, touch_rows, touch_none}
-use Rattle.osi_blameless.proofs.transport.called.what_becomes_of_a_called_end.{touch_lives, push_lives, none_but_cr, OpenSo, open_so, dc_follows}
+use Rattle.osi_blameless.proofs.transport.called.what_becomes_of_a_called_end.{above_up, rows_none, IsCalled, Same, called_still, no_row}
+use Rattle.osi_blameless.proofs.transport.called.what_becomes_of_a_called_end.{touch_rows, touch_none}
+use Rattle.osi_blameless.proofs.transport.called.what_becomes_of_a_called_end.{touch_lives, push_lives, none_but_cr, OpenSo, open_so}
+use Rattle.osi_blameless.proofs.transport.called.what_becomes_of_a_called_end.{dc_follows}
 use Rattle.osi_blameless.proofs.transport.called.what_becomes_of_a_called_end.{closing_touches, closing_puts, closing_same}
 use Rattle.osi_blameless.proofs.transport.called.a_called_end_makes_a_call.{given_same, same_peer}
 use Rattle.osi_blameless.proofs.transport.class_0.a_dt_of_class_zero_passes.{unlike}

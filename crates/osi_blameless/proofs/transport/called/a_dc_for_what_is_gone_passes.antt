@@ -1,8 +1,11 @@
 -- A DC with which a whole called end answers a DR for what is gone passes: it answers nothing at the judge, and changes nothing.
 -- For the law on a whole called end.
-use Rattle.osi_blameless.proofs.transport.Vocabulary.{[], ap, arith, at_found, Bool, Broke, Connection, disconnected, eqb-true, false, Finding}
-use Rattle.osi_blameless.proofs.transport.Vocabulary.{first_failed, if◌then◌else◌, is_closing, is_due, is_open, knows_disconnect, List, Local, may_answer}
-use Rattle.osi_blameless.proofs.transport.Vocabulary.{None, not, NotJudged, Option, Outcome, Right, slice_get, Some, subst, takes, Traffic, true, Value}
+use Rattle.osi_blameless.proofs.transport.Vocabulary.{[], ap, arith, at_found, Bool, Broke, Connection, disconnected, eqb-true, false}
+use Rattle.osi_blameless.proofs.transport.Vocabulary.{Finding}
+use Rattle.osi_blameless.proofs.transport.Vocabulary.{first_failed, if◌then◌else◌, is_closing, is_due, is_open, knows_disconnect, List}
+use Rattle.osi_blameless.proofs.transport.Vocabulary.{Local, may_answer}
+use Rattle.osi_blameless.proofs.transport.Vocabulary.{None, not, NotJudged, Option, Outcome, Right, slice_get, Some, subst, takes, Traffic}
+use Rattle.osi_blameless.proofs.transport.Vocabulary.{true, Value}
 use Rattle.osi_blameless.proofs.transport.Vocabulary.{Whole, ℕ, ◌&&◌, ◌==◌, ◌||◌, ◌∙◌, ◌∷◌, ◌≡◌}
 use Rattle.osi_rules.specs.declared.findings.Rule.TheVariants as rule
 use Rattle.osi_blameless.proofs.transport.small_facts_that_many_lemmas_use.{and_false, differ, is_false}

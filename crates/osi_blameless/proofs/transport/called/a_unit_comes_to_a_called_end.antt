@@ -1,22 +1,32 @@
 -- A unit of the other side passes at the judge of a whole called end, for one of its connections, or a DC that answers nothing.
 -- For the law on a whole called end.
-use Rattle.osi_blameless.proofs.transport.Vocabulary.{[], after_finding, AllByRecursion, ap, append-nil, arith, Bool, Broke, Class, closing_phase, confirm}
-use Rattle.osi_blameless.proofs.transport.Vocabulary.{Connect, Connection, connection_after, Course, course_after, destination_of, disconnect}
-use Rattle.osi_blameless.proofs.transport.Vocabulary.{disconnected, eqb-true, false, Finding, finding_of, first_failed, found, found_on, Half}
-use Rattle.osi_blameless.proofs.transport.Vocabulary.{HasFieldsInRange, inl, inr, is_applied, is_closed, is_closing, is_due, is_named, is_open, is_over}
-use Rattle.osi_blameless.proofs.transport.Vocabulary.{is_refused, is_silent, is_stray, knows_disconnect, Left, Line, List, Local, may_answer, None, not}
-use Rattle.osi_blameless.proofs.transport.Vocabulary.{noted, NotJudged, one_told, Option, Outcome, passes_other, Phase, Reach, reach_of, reached, refl}
+use Rattle.osi_blameless.proofs.transport.Vocabulary.{[], after_finding, AllByRecursion, ap, append-nil, arith, Bool, Broke, Class}
+use Rattle.osi_blameless.proofs.transport.Vocabulary.{closing_phase, confirm}
+use Rattle.osi_blameless.proofs.transport.Vocabulary.{Connect, Connection, connection_after, Course, course_after, destination_of}
+use Rattle.osi_blameless.proofs.transport.Vocabulary.{disconnect}
+use Rattle.osi_blameless.proofs.transport.Vocabulary.{disconnected, eqb-true, false, Finding, finding_of, first_failed, found, found_on}
+use Rattle.osi_blameless.proofs.transport.Vocabulary.{Half}
+use Rattle.osi_blameless.proofs.transport.Vocabulary.{HasFieldsInRange, inl, inr, is_applied, is_closed, is_closing, is_due, is_named}
+use Rattle.osi_blameless.proofs.transport.Vocabulary.{is_open, is_over}
+use Rattle.osi_blameless.proofs.transport.Vocabulary.{is_refused, is_silent, is_stray, knows_disconnect, Left, Line, List, Local}
+use Rattle.osi_blameless.proofs.transport.Vocabulary.{may_answer, None, not}
+use Rattle.osi_blameless.proofs.transport.Vocabulary.{noted, NotJudged, one_told, Option, Outcome, passes_other, Phase, Reach, reach_of}
+use Rattle.osi_blameless.proofs.transport.Vocabulary.{reached, refl}
 use Rattle.osi_blameless.proofs.transport.Vocabulary.{request, Right, set, slice_get, Some, Standing, subst, sym, takes, Traffic, true, Two}
-use Rattle.osi_blameless.proofs.transport.Vocabulary.{unit as passing, uses_source, Value, Whole, ℕ, ◌&&◌, ◌++◌, ◌==◌, ◌||◌, ◌∙◌, ◌∷◌, ◌≡◌, ◌≢◌, ◌≤◌, ◌⊎◌}
+use Rattle.osi_blameless.proofs.transport.Vocabulary.{unit as passing, uses_source, Value, Whole, ℕ, ◌&&◌, ◌++◌, ◌==◌, ◌||◌, ◌∙◌, ◌∷◌, ◌≡◌}
+use Rattle.osi_blameless.proofs.transport.Vocabulary.{◌≢◌, ◌≤◌, ◌⊎◌}
 use Rattle.osi_rules.specs.declared.findings.Reach.TheVariants as reach
 use Rattle.osi_rules.specs.declared.findings.Rule.TheVariants as rule
 use Rattle.osi_blameless.proofs.transport.small_facts_that_many_lemmas_use.{all_add, both as is_both, differ, judged_same, not_not}
-use Rattle.osi_blameless.proofs.transport.small_facts_that_many_lemmas_use.{and_first, and_second, number_is, or_last, or_left, or_right, set_none}
+use Rattle.osi_blameless.proofs.transport.small_facts_that_many_lemmas_use.{and_first, and_second, number_is, or_last, or_left, or_right}
+use Rattle.osi_blameless.proofs.transport.small_facts_that_many_lemmas_use.{set_none}
 use Rattle.osi_blameless.proofs.transport.called.how_a_unit_of_right_passes.{strays_more}
 use Rattle.osi_blameless.proofs.transport.names.names_stay_apart_though_one_is_lost.{AreNamedApart, each_sound, left_set}
 use Rattle.osi_blameless.proofs.transport.names.a_reference_names_one_connection.{applied_judged}
-use Rattle.osi_blameless.proofs.transport.called.each_connection_of_a_called_end.{stands_at, Among, AreAbove, Asked, Called, IsDc, IsFor, Row, Running, Stand}
-use Rattle.osi_blameless.proofs.transport.called.each_connection_of_a_called_end.{Untagged, among_more, among_skip, answers, closes, comes, over, past, refuses}
+use Rattle.osi_blameless.proofs.transport.called.each_connection_of_a_called_end.{stands_at, Among, AreAbove, Asked, Called, IsDc, IsFor}
+use Rattle.osi_blameless.proofs.transport.called.each_connection_of_a_called_end.{Row, Running, Stand}
+use Rattle.osi_blameless.proofs.transport.called.each_connection_of_a_called_end.{Untagged, among_more, among_skip, answers, closes, comes}
+use Rattle.osi_blameless.proofs.transport.called.each_connection_of_a_called_end.{over, past, refuses}
 use Rattle.osi_blameless.proofs.transport.called.each_connection_of_a_called_end.{runs, talks}
 use Rattle.osi_blameless.proofs.transport.requests.left_selects_no_class.{left_class}
 use Rattle.osi_blameless.proofs.transport.connections.units_by_their_place.{Placed, at_join, first_at, units_at, values, values_join}
@@ -24,10 +34,13 @@ use Rattle.osi_blameless.proofs.transport.connections.what_is_live_at_an_end.{Gi
 use Rattle.osi_blameless.proofs.transport.connections.what_is_live_at_an_end.{timely_closes, timely_comes}
 use Rattle.osi_blameless.proofs.transport.names.what_keeps_names_apart.{AreApart, Sound}
 use Rattle.osi_blameless.proofs.transport.requests.what_lasts_at_the_judge.{Lasts, lasts_passing}
-use Rattle.osi_blameless.proofs.transport.connections.what_stays_of_each_connection.{judged_was as judged_before, left_judged, left_own, own_stays, right_then}
-use Rattle.osi_blameless.proofs.transport.connections.which_units_are_for_a_connection.{first_left, named_not, named_so, names, those, those_join, picked_more}
+use Rattle.osi_blameless.proofs.transport.connections.what_stays_of_each_connection.{judged_was as judged_before, left_judged, left_own}
+use Rattle.osi_blameless.proofs.transport.connections.what_stays_of_each_connection.{own_stays, right_then}
+use Rattle.osi_blameless.proofs.transport.connections.which_units_are_for_a_connection.{first_left, named_not, named_so, names, those}
+use Rattle.osi_blameless.proofs.transport.connections.which_units_are_for_a_connection.{those_join, picked_more}
 use Rattle.osi_blameless.proofs.transport.requests.while_no_class_is_selected.{after_change}
-use Rattle.osi_blameless.proofs.transport.connections.which_unit_of_the_other_side_passes.{IsCalm, IsNear, calm_before, calm_near, calm_noted}
+use Rattle.osi_blameless.proofs.transport.connections.which_unit_of_the_other_side_passes.{IsCalm, IsNear, calm_before, calm_near}
+use Rattle.osi_blameless.proofs.transport.connections.which_unit_of_the_other_side_passes.{calm_noted}
 use Rattle.osi_blameless.proofs.transport.connections.a_line_since_its_connection_opened.{tracks_on}
 use Rattle.osi_blameless.proofs.transport.called.each_connection_of_a_called_end.{running_on}
 

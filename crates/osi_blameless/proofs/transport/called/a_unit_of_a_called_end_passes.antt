@@ -1,21 +1,29 @@
 -- A unit of a whole called end passes: a CC, a DR that refuses a CR, or a unit of an open connection. Each is right.
 -- For the law on a whole called end.
-use Rattle.osi_blameless.proofs.transport.Vocabulary.{[], acceptance, AllByRecursion, ap, arith, Bool, Class, confirm, Connect, Connection, Course}
-use Rattle.osi_blameless.proofs.transport.Vocabulary.{course_after, destination_of, disconnect, eq-eqb, error, false, found_on, Half, half_after, inl, inr}
-use Rattle.osi_blameless.proofs.transport.Vocabulary.{is_named, is_open, is_over, is_silent, Kept, Left, Line, List, list_any, Local, Named, None, not}
-use Rattle.osi_blameless.proofs.transport.Vocabulary.{NotJudged, opened_line, opened_link, Option, other, position, refl, Refused, Right, route, sent_on}
-use Rattle.osi_blameless.proofs.transport.Vocabulary.{set, silent_half, slice_get, Some, subst, sym, takes, Traffic, true, Two, unit as passing, uses}
+use Rattle.osi_blameless.proofs.transport.Vocabulary.{[], acceptance, AllByRecursion, ap, arith, Bool, Class, confirm, Connect, Connection}
+use Rattle.osi_blameless.proofs.transport.Vocabulary.{Course}
+use Rattle.osi_blameless.proofs.transport.Vocabulary.{course_after, destination_of, disconnect, eq-eqb, error, false, found_on, Half}
+use Rattle.osi_blameless.proofs.transport.Vocabulary.{half_after, inl, inr}
+use Rattle.osi_blameless.proofs.transport.Vocabulary.{is_named, is_open, is_over, is_silent, Kept, Left, Line, List, list_any, Local, Named}
+use Rattle.osi_blameless.proofs.transport.Vocabulary.{None, not}
+use Rattle.osi_blameless.proofs.transport.Vocabulary.{NotJudged, opened_line, opened_link, Option, other, position, refl, Refused, Right}
+use Rattle.osi_blameless.proofs.transport.Vocabulary.{route, sent_on}
+use Rattle.osi_blameless.proofs.transport.Vocabulary.{set, silent_half, slice_get, Some, subst, sym, takes, Traffic, true, Two}
+use Rattle.osi_blameless.proofs.transport.Vocabulary.{unit as passing, uses}
 use Rattle.osi_blameless.proofs.transport.Vocabulary.{uses_source, Value, Whole, ℕ, ◌&&◌, ◌<◌, ◌==◌, ◌||◌, ◌∙◌, ◌∷◌, ◌≡◌, ◌≤◌, ◌⊎◌}
 use Rattle.osi_rules.specs.declared.findings.Reach.TheVariants as reach
-use Rattle.osi_blameless.proofs.transport.small_facts_that_many_lemmas_use.{and_false, and_first, any_none, both as is_both, differ, first_is, judged_so}
+use Rattle.osi_blameless.proofs.transport.small_facts_that_many_lemmas_use.{and_false, and_first, any_none, both as is_both, differ}
+use Rattle.osi_blameless.proofs.transport.small_facts_that_many_lemmas_use.{first_is, judged_so}
 use Rattle.osi_blameless.proofs.transport.small_facts_that_many_lemmas_use.{name_so}
 use Rattle.osi_blameless.proofs.transport.small_facts_that_many_lemmas_use.{number_is, rest_is, set_none, unequal}
 use Rattle.osi_blameless.proofs.transport.names.a_right_unit_is_not_blamed.{named_of}
 use Rattle.osi_blameless.proofs.transport.names.all_are_judged_unless_one_broke.{AreJudged}
-use Rattle.osi_blameless.proofs.transport.called.each_connection_of_a_called_end.{AreAbove, AreStrays, Answering, Asked, Called, IsUnlinked, Row, Running, Stand}
+use Rattle.osi_blameless.proofs.transport.called.each_connection_of_a_called_end.{AreAbove, AreStrays, Answering, Asked, Called, IsUnlinked}
+use Rattle.osi_blameless.proofs.transport.called.each_connection_of_a_called_end.{Row, Running, Stand}
 use Rattle.osi_blameless.proofs.transport.called.each_connection_of_a_called_end.{line_of, answers, past, refuses, runs, comes}
 use Rattle.osi_blameless.proofs.transport.lines.how_a_connection_opens.{called_opens, two_right}
-use Rattle.osi_blameless.proofs.transport.connections.units_by_their_place.{Placed, at_elsewhere, at_first, at_here, at_other, first_at, units_at, values}
+use Rattle.osi_blameless.proofs.transport.connections.units_by_their_place.{Placed, at_elsewhere, at_first, at_here, at_other, first_at}
+use Rattle.osi_blameless.proofs.transport.connections.units_by_their_place.{units_at, values}
 use Rattle.osi_blameless.proofs.transport.names.names_stay_apart_though_one_is_lost.{AreNamedApart, end_set}
 use Rattle.osi_blameless.proofs.transport.connections.what_a_line_keeps_though_it_is_lost.{own_seen_after}
 use Rattle.osi_blameless.proofs.transport.names.a_reference_names_one_connection.{not_first}
@@ -29,7 +37,8 @@ use Rattle.osi_blameless.proofs.transport.called.how_a_unit_of_right_passes.{no_
 use Rattle.osi_blameless.proofs.transport.small_facts_that_many_lemmas_use.{half_keeps}
 use Rattle.osi_blameless.proofs.transport.called.how_a_unit_of_right_passes.{finding_kept, conns_kept, course_kept}
 use Rattle.osi_blameless.proofs.transport.small_facts_that_many_lemmas_use.{half_started}
-use Rattle.osi_blameless.proofs.transport.connections.a_line_since_its_connection_opened.{LostPassed, RightPassed, dest as named_dest, lost_passes as line_lost}
+use Rattle.osi_blameless.proofs.transport.connections.a_line_since_its_connection_opened.{LostPassed, RightPassed, dest as named_dest}
+use Rattle.osi_blameless.proofs.transport.connections.a_line_since_its_connection_opened.{lost_passes as line_lost}
 use Rattle.osi_blameless.proofs.transport.connections.a_line_since_its_connection_opened.{name_first, right_passes}
 use Rattle.osi_blameless.proofs.transport.called.each_connection_of_a_called_end.{running_on}
 

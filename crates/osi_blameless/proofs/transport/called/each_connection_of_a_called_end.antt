@@ -1,11 +1,17 @@
 -- Each connection at the judge of a called end: its CR has not been answered, its answer is to pass, or its line goes on.
 -- For the law on a whole called end.
-use Rattle.osi_blameless.proofs.transport.Vocabulary.{[], accept, acceptance, Act, ActsAlong, AllByRecursion, ap, arith, begins, begins_elsewhere, Bool}
-use Rattle.osi_blameless.proofs.transport.Vocabulary.{Class, confirm, Connect, Connection, destination_of, Direction, disconnect, disconnected, false}
-use Rattle.osi_blameless.proofs.transport.Vocabulary.{Half, inl, inr, is_open, is_refused, is_silent, is_some, IsConnect, Left, Line, linked, List, Local}
-use Rattle.osi_blameless.proofs.transport.Vocabulary.{None, offer_of, opened_half, opened_line, opened_link, Option, option_map, packet_begins, refl}
-use Rattle.osi_blameless.proofs.transport.Vocabulary.{request, Right, selected_by, silent_half, slice_get, slice_get-map, Some, Standing, State, subst}
-use Rattle.osi_blameless.proofs.transport.Vocabulary.{sym, Traffic, true, Two, Value, value_at, Whole, ℕ, ◌&&◌, ◌++◌, ◌<◌, ◌||◌, ◌∙◌, ◌∷◌, ◌≡◌, ◌≢◌, ◌≤◌}
+use Rattle.osi_blameless.proofs.transport.Vocabulary.{[], accept, acceptance, Act, ActsAlong, AllByRecursion, ap, arith, begins}
+use Rattle.osi_blameless.proofs.transport.Vocabulary.{begins_elsewhere, Bool}
+use Rattle.osi_blameless.proofs.transport.Vocabulary.{Class, confirm, Connect, Connection, destination_of, Direction, disconnect}
+use Rattle.osi_blameless.proofs.transport.Vocabulary.{disconnected, false}
+use Rattle.osi_blameless.proofs.transport.Vocabulary.{Half, inl, inr, is_open, is_refused, is_silent, is_some, IsConnect, Left, Line}
+use Rattle.osi_blameless.proofs.transport.Vocabulary.{linked, List, Local}
+use Rattle.osi_blameless.proofs.transport.Vocabulary.{None, offer_of, opened_half, opened_line, opened_link, Option, option_map}
+use Rattle.osi_blameless.proofs.transport.Vocabulary.{packet_begins, refl}
+use Rattle.osi_blameless.proofs.transport.Vocabulary.{request, Right, selected_by, silent_half, slice_get, slice_get-map, Some, Standing}
+use Rattle.osi_blameless.proofs.transport.Vocabulary.{State, subst}
+use Rattle.osi_blameless.proofs.transport.Vocabulary.{sym, Traffic, true, Two, Value, value_at, Whole, ℕ, ◌&&◌, ◌++◌, ◌<◌, ◌||◌, ◌∙◌, ◌∷◌}
+use Rattle.osi_blameless.proofs.transport.Vocabulary.{◌≡◌, ◌≢◌, ◌≤◌}
 use Rattle.osi_blameless.proofs.transport.Vocabulary.{◌⊎◌}
 use Rattle.osi_blameless.specs.transport.Lines.{begins_other, begins_own}
 use Rattle.osi_blameless.proofs.transport.small_facts_that_many_lemmas_use.{begun_right, course_class, or_last}

@@ -1,7 +1,9 @@
 -- A unit of the called side that is right on its connection passes: what the judge has then, by the kind of the unit.
 -- For the law on a whole called end.
-use Rattle.osi_blameless.proofs.transport.Vocabulary.{[], ap, arith, Bool, confirm, Connect, Connection, Course, course_after, false, found_on, is_named}
-use Rattle.osi_blameless.proofs.transport.Vocabulary.{Kept, List, Named, None, not, one_told, Option, Outcome, position, Right, route, sent_on, set}
+use Rattle.osi_blameless.proofs.transport.Vocabulary.{[], ap, arith, Bool, confirm, Connect, Connection, Course, course_after, false}
+use Rattle.osi_blameless.proofs.transport.Vocabulary.{found_on, is_named}
+use Rattle.osi_blameless.proofs.transport.Vocabulary.{Kept, List, Named, None, not, one_told, Option, Outcome, position, Right, route}
+use Rattle.osi_blameless.proofs.transport.Vocabulary.{sent_on, set}
 use Rattle.osi_blameless.proofs.transport.Vocabulary.{slice_get, Some, takes, Traffic, true, Value, ℕ, ◌&&◌, ◌∙◌, ◌∷◌, ◌≡◌}
 use Rattle.osi_carrier.specs.State.{State}
 use Rattle.osi_blameless.proofs.transport.small_facts_that_many_lemmas_use.{first_is, rest_is}

@@ -1,14 +1,19 @@
 -- What a called end does to its lines: it takes a unit or makes a call on an open connection, takes a unit for a connection that is
 -- not open, or ends. For the law on a whole called end.
-use Rattle.osi_blameless.proofs.transport.Vocabulary.{[], acceptance, ActsAlong, AllByRecursion, ap, append-nil, arith, Bool, confirm, Connect, Connection}
+use Rattle.osi_blameless.proofs.transport.Vocabulary.{[], acceptance, ActsAlong, AllByRecursion, ap, append-nil, arith, Bool, confirm}
+use Rattle.osi_blameless.proofs.transport.Vocabulary.{Connect, Connection}
 use Rattle.osi_blameless.proofs.transport.Vocabulary.{eqb-true, false, Follows, is_some, Line, link_now, linked, List, Live, Local, None}
-use Rattle.osi_blameless.proofs.transport.Vocabulary.{opened_line, opened_link, Option, refl, Right, slice_get, Some, Standing, State, subst, sym, true}
+use Rattle.osi_blameless.proofs.transport.Vocabulary.{opened_line, opened_link, Option, refl, Right, slice_get, Some, Standing, State}
+use Rattle.osi_blameless.proofs.transport.Vocabulary.{subst, sym, true}
 use Rattle.osi_blameless.proofs.transport.Vocabulary.{Two, Value, value_at, Whole, ℕ, ◌&&◌, ◌++◌, ◌==◌, ◌∙◌, ◌∷◌, ◌≡◌, ◌≢◌, ◌≤◌}
 use Rattle.osi_blameless.proofs.transport.small_facts_that_many_lemmas_use.{differ, no_number, number_is}
-use Rattle.osi_blameless.proofs.transport.called.each_connection_of_a_called_end.{stands_at, Among, AreAbove, AreStrays, Answering, Called, IsFor, IsStray}
-use Rattle.osi_blameless.proofs.transport.called.each_connection_of_a_called_end.{IsUnlinked, Row, Running, Stand, Untagged, answers, closes, comes, line_of}
+use Rattle.osi_blameless.proofs.transport.called.each_connection_of_a_called_end.{stands_at, Among, AreAbove, AreStrays, Answering, Called}
+use Rattle.osi_blameless.proofs.transport.called.each_connection_of_a_called_end.{IsFor, IsStray}
+use Rattle.osi_blameless.proofs.transport.called.each_connection_of_a_called_end.{IsUnlinked, Row, Running, Stand, Untagged, answers}
+use Rattle.osi_blameless.proofs.transport.called.each_connection_of_a_called_end.{closes, comes, line_of}
 use Rattle.osi_blameless.proofs.transport.called.each_connection_of_a_called_end.{over, past, refuses, runs, talks}
-use Rattle.osi_blameless.proofs.transport.connections.units_by_their_place.{Placed, all_at, all_elsewhere, all_here, at_join, first_at, units_at, values, values_all}
+use Rattle.osi_blameless.proofs.transport.connections.units_by_their_place.{Placed, all_at, all_elsewhere, all_here, at_join, first_at}
+use Rattle.osi_blameless.proofs.transport.connections.units_by_their_place.{units_at, values, values_all}
 use Rattle.osi_blameless.proofs.transport.connections.units_by_their_place.{values_join}
 use Rattle.osi_blameless.proofs.transport.connections.what_is_live_at_an_end.{Timely, timely_puts}
 use Rattle.osi_blameless.proofs.transport.lines.what_is_put_before_the_cc_passes.{acts_join}

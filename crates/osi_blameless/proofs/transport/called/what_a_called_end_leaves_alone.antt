@@ -1,14 +1,20 @@
 -- A called end takes a unit for a connection that it does not have open, or it ends: what that is for its connections.
 -- For the law on a whole called end.
-use Rattle.osi_blameless.proofs.transport.Vocabulary.{[], Act, ActsAlong, AllByRecursion, ap, append-nil, arith, Bool, confirm, Connect, Connection}
-use Rattle.osi_blameless.proofs.transport.Vocabulary.{eqb-true, false, ignores, inl, inr, is_some, Line, linked, List, Local, None, opened_line}
-use Rattle.osi_blameless.proofs.transport.Vocabulary.{opened_link, Option, refl, Right, slice_get, Some, Standing, State, subst, sym, true, Two, Value}
+use Rattle.osi_blameless.proofs.transport.Vocabulary.{[], Act, ActsAlong, AllByRecursion, ap, append-nil, arith, Bool, confirm, Connect}
+use Rattle.osi_blameless.proofs.transport.Vocabulary.{Connection}
+use Rattle.osi_blameless.proofs.transport.Vocabulary.{eqb-true, false, ignores, inl, inr, is_some, Line, linked, List, Local, None}
+use Rattle.osi_blameless.proofs.transport.Vocabulary.{opened_line}
+use Rattle.osi_blameless.proofs.transport.Vocabulary.{opened_link, Option, refl, Right, slice_get, Some, Standing, State, subst, sym, true}
+use Rattle.osi_blameless.proofs.transport.Vocabulary.{Two, Value}
 use Rattle.osi_blameless.proofs.transport.Vocabulary.{value_at, Whole, ℕ, ◌&&◌, ◌++◌, ◌==◌, ◌∙◌, ◌∷◌, ◌≡◌, ◌≢◌, ◌≤◌, ◌⊎◌}
 use Rattle.osi_blameless.proofs.transport.small_facts_that_many_lemmas_use.{differ}
-use Rattle.osi_blameless.proofs.transport.called.each_connection_of_a_called_end.{stands_at, Among, AreAbove, AreStrays, Called, IsFor, IsStray, IsUnlinked, Row}
-use Rattle.osi_blameless.proofs.transport.called.each_connection_of_a_called_end.{Stand, Untagged, answers, closes, comes, line_of, over, past, refuses, runs}
+use Rattle.osi_blameless.proofs.transport.called.each_connection_of_a_called_end.{stands_at, Among, AreAbove, AreStrays, Called, IsFor}
+use Rattle.osi_blameless.proofs.transport.called.each_connection_of_a_called_end.{IsStray, IsUnlinked, Row}
+use Rattle.osi_blameless.proofs.transport.called.each_connection_of_a_called_end.{Stand, Untagged, answers, closes, comes, line_of, over}
+use Rattle.osi_blameless.proofs.transport.called.each_connection_of_a_called_end.{past, refuses, runs}
 use Rattle.osi_blameless.proofs.transport.called.each_connection_of_a_called_end.{talks}
-use Rattle.osi_blameless.proofs.transport.connections.units_by_their_place.{Placed, all_at, all_nowhere, at_join, first_at, units_at, values, values_all, values_join}
+use Rattle.osi_blameless.proofs.transport.connections.units_by_their_place.{Placed, all_at, all_nowhere, at_join, first_at, units_at}
+use Rattle.osi_blameless.proofs.transport.connections.units_by_their_place.{values, values_all, values_join}
 use Rattle.osi_blameless.proofs.transport.called.what_a_called_end_does_to_its_lines.{above_more, some_more, strays_keep}
 use Rattle.osi_blameless.proofs.transport.connections.what_is_live_at_an_end.{Timely, timely_puts}
 use Rattle.osi_blameless.proofs.transport.lines.what_is_put_before_the_cc_passes.{acts_join}

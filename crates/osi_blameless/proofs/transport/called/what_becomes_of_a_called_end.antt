@@ -1,12 +1,19 @@
 -- What a called end has after it has taken a unit: its class, its references, and which of its connections are live.
 -- For the law on a whole called end.
-use Rattle.osi_blameless.proofs.transport.Vocabulary.{[], AllByRecursion, ap, AreUpTo, arith, asked, Bool, breaks_in, CarrierOutcome, Class, closes_with}
-use Rattle.osi_blameless.proofs.transport.Vocabulary.{closing, confirm, Connect, destination_of, disconnect, disconnected, Ends, eqb-true, Err, false}
-use Rattle.osi_blameless.proofs.transport.Vocabulary.{Flow, Follows, Given, handed_out, is_some, IsOrderly, link_now, linked, LinkFault, List, Live, Local}
-use Rattle.osi_blameless.proofs.transport.Vocabulary.{None, Ok, Option, packets, pumped, push_here, push_other, put, put_by, put_for, put_here, put_other}
-use Rattle.osi_blameless.proofs.transport.Vocabulary.{puts_none, refl, request, Result, Right, RiseFrom, row_here, Rows, Some, Standing, State, state_is}
-use Rattle.osi_blameless.proofs.transport.Vocabulary.{subst, sym, taken_by, taking, to_closing, to_linked, true, Two, unit_of, unit_written, UserCall}
-use Rattle.osi_blameless.proofs.transport.Vocabulary.{Value, value_at, without, without_here, without_other, WrongForm, ℕ, ◌++◌, ◌==◌, ◌∙◌, ◌∷◌, ◌≡◌, ◌≤◌}
+use Rattle.osi_blameless.proofs.transport.Vocabulary.{[], AllByRecursion, ap, AreUpTo, arith, asked, Bool, breaks_in, CarrierOutcome, Class}
+use Rattle.osi_blameless.proofs.transport.Vocabulary.{closes_with}
+use Rattle.osi_blameless.proofs.transport.Vocabulary.{closing, confirm, Connect, destination_of, disconnect, disconnected, Ends, eqb-true}
+use Rattle.osi_blameless.proofs.transport.Vocabulary.{Err, false}
+use Rattle.osi_blameless.proofs.transport.Vocabulary.{Flow, Follows, Given, handed_out, is_some, IsOrderly, link_now, linked, LinkFault}
+use Rattle.osi_blameless.proofs.transport.Vocabulary.{List, Live, Local}
+use Rattle.osi_blameless.proofs.transport.Vocabulary.{None, Ok, Option, packets, pumped, push_here, push_other, put, put_by, put_for}
+use Rattle.osi_blameless.proofs.transport.Vocabulary.{put_here, put_other}
+use Rattle.osi_blameless.proofs.transport.Vocabulary.{puts_none, refl, request, Result, Right, RiseFrom, row_here, Rows, Some, Standing}
+use Rattle.osi_blameless.proofs.transport.Vocabulary.{State, state_is}
+use Rattle.osi_blameless.proofs.transport.Vocabulary.{subst, sym, taken_by, taking, to_closing, to_linked, true, Two, unit_of, unit_written}
+use Rattle.osi_blameless.proofs.transport.Vocabulary.{UserCall}
+use Rattle.osi_blameless.proofs.transport.Vocabulary.{Value, value_at, without, without_here, without_other, WrongForm, ℕ, ◌++◌, ◌==◌, ◌∙◌}
+use Rattle.osi_blameless.proofs.transport.Vocabulary.{◌∷◌, ◌≡◌, ◌≤◌}
 use Rattle.osi_blameless.proofs.transport.Vocabulary.{◌⊎◌}
 unfoldable use Rattle.osi_carrier.specs.React.{react}
 use Rattle.osi_blameless.proofs.transport.called.each_connection_of_a_called_end.{AreAbove}

@@ -1,10 +1,15 @@
 -- What the other side sends passes at the judge of a whole called end: a CR, whose connection waits for its answer then, or another unit.
 -- For the law on a whole called end.
-use Rattle.osi_blameless.proofs.transport.Vocabulary.{[], ap, append-nil, arith, asked_by, asks_kept, Bool, Class, Connect, Connection, Course}
-use Rattle.osi_blameless.proofs.transport.Vocabulary.{destination_of, eqb-true, false, first_failed, HasFieldsInRange, if◌then◌else◌, inl, inr, is_closed}
-use Rattle.osi_blameless.proofs.transport.Vocabulary.{is_closing, is_free, is_open, is_over, is_over_by, is_refused, Kept, Left, length, linked, List}
-use Rattle.osi_blameless.proofs.transport.Vocabulary.{Local, None, Option, Outcome, Phase, placed, position, refl, request, request_tests, Right, set}
-use Rattle.osi_blameless.proofs.transport.Vocabulary.{slice_get, Some, Standing, subst, suc, sym, takes, Traffic, true, Two, Value, value_at, Whole, zero}
+use Rattle.osi_blameless.proofs.transport.Vocabulary.{[], ap, append-nil, arith, asked_by, asks_kept, Bool, Class, Connect, Connection}
+use Rattle.osi_blameless.proofs.transport.Vocabulary.{Course}
+use Rattle.osi_blameless.proofs.transport.Vocabulary.{destination_of, eqb-true, false, first_failed, HasFieldsInRange, if◌then◌else◌, inl}
+use Rattle.osi_blameless.proofs.transport.Vocabulary.{inr, is_closed}
+use Rattle.osi_blameless.proofs.transport.Vocabulary.{is_closing, is_free, is_open, is_over, is_over_by, is_refused, Kept, Left, length}
+use Rattle.osi_blameless.proofs.transport.Vocabulary.{linked, List}
+use Rattle.osi_blameless.proofs.transport.Vocabulary.{Local, None, Option, Outcome, Phase, placed, position, refl, request, request_tests}
+use Rattle.osi_blameless.proofs.transport.Vocabulary.{Right, set}
+use Rattle.osi_blameless.proofs.transport.Vocabulary.{slice_get, Some, Standing, subst, suc, sym, takes, Traffic, true, Two, Value}
+use Rattle.osi_blameless.proofs.transport.Vocabulary.{value_at, Whole, zero}
 use Rattle.osi_blameless.proofs.transport.Vocabulary.{ℕ, ◌&&◌, ◌++◌, ◌==◌, ◌||◌, ◌∙◌, ◌∷◌, ◌≡◌, ◌≤◌, ◌⊎◌}
 use Rattle.osi_blameless.proofs.transport.small_facts_that_many_lemmas_use.{all_add, and_first, and_second, differ, no_number, set_none}
 use Rattle.osi_blameless.proofs.transport.calling.a_dc_follows_a_dr.{may_strays}
@@ -13,16 +18,20 @@ use Rattle.osi_blameless.proofs.transport.names.a_right_unit_is_not_blamed.{firs
 use Rattle.osi_blameless.proofs.transport.names.names_stay_apart_though_one_is_lost.{AreNamedApart, left_asked}
 use Rattle.osi_blameless.proofs.transport.names.a_reference_names_one_connection.{not_true}
 use Rattle.osi_blameless.proofs.transport.lines.what_is_right_passes_each_test.{passes_each}
-use Rattle.osi_blameless.proofs.transport.called.each_connection_of_a_called_end.{AreStrays, Called, IsFor, IsUnlinked, Running, Stand, Untagged, answers, comes}
+use Rattle.osi_blameless.proofs.transport.called.each_connection_of_a_called_end.{AreStrays, Called, IsFor, IsUnlinked, Running, Stand}
+use Rattle.osi_blameless.proofs.transport.called.each_connection_of_a_called_end.{Untagged, answers, comes}
 use Rattle.osi_blameless.proofs.transport.called.each_connection_of_a_called_end.{past, refuses, runs}
-use Rattle.osi_blameless.proofs.transport.connections.units_by_their_place.{Placed, at_first, at_join, at_other, first_at, units_at, values, values_join}
+use Rattle.osi_blameless.proofs.transport.connections.units_by_their_place.{Placed, at_first, at_join, at_other, first_at, units_at, values}
+use Rattle.osi_blameless.proofs.transport.connections.units_by_their_place.{values_join}
 use Rattle.osi_blameless.proofs.transport.lines.what_holds_of_a_line.{is_there}
 use Rattle.osi_blameless.proofs.transport.names.what_holds_of_one_item.{after_add, first_true}
-use Rattle.osi_blameless.proofs.transport.connections.what_is_live_at_an_end.{IsHeld, IsLively, Timely, dr_for, is_there as goes_there, shuts_of, timely_comes}
+use Rattle.osi_blameless.proofs.transport.connections.what_is_live_at_an_end.{IsHeld, IsLively, Timely, dr_for, is_there as goes_there}
+use Rattle.osi_blameless.proofs.transport.connections.what_is_live_at_an_end.{shuts_of, timely_comes}
 use Rattle.osi_blameless.proofs.transport.names.what_keeps_names_apart.{AreApart}
 use Rattle.osi_blameless.proofs.transport.connections.which_units_are_for_a_connection.{names}
 use Rattle.osi_blameless.proofs.transport.requests.while_no_class_is_selected.{added_there, after_change, set_there}
-use Rattle.osi_blameless.proofs.transport.called.a_unit_comes_to_a_called_end.{calm, for_one_so, is_lost, lasts, names_after, row_other, stand_on}
+use Rattle.osi_blameless.proofs.transport.called.a_unit_comes_to_a_called_end.{calm, for_one_so, is_lost, lasts, names_after, row_other}
+use Rattle.osi_blameless.proofs.transport.called.a_unit_comes_to_a_called_end.{stand_on}
 use Rattle.osi_blameless.proofs.transport.connections.which_unit_of_the_other_side_passes.{Came, IsCalm, asks_so, came_so, for_one, lost}
 use Rattle.osi_blameless.proofs.transport.class_0.a_dt_of_class_zero_passes.{unlike}
 use Rattle.osi_blameless.proofs.transport.connections.a_line_since_its_connection_opened.{tracks_hold}

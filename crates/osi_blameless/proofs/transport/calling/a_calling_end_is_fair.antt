@@ -1,10 +1,13 @@
 -- A whole calling end is fair as long as the other side is judged, whatever classes it offers: by its stages.
 -- For the law of that name.
-use Rattle.osi_blameless.proofs.transport.Vocabulary.{[], arith, begin, Course, Event, false, HappenAlong, Happens, inl, is_stopped, Kept, Left, List}
-use Rattle.osi_blameless.proofs.transport.Vocabulary.{Local, NotJudged, passes, request, Right, rubbish, Some, subst, sym, takes, TooMany, Traffic, true}
+use Rattle.osi_blameless.proofs.transport.Vocabulary.{[], arith, begin, Course, Event, false, HappenAlong, Happens, inl, is_stopped, Kept}
+use Rattle.osi_blameless.proofs.transport.Vocabulary.{Left, List}
+use Rattle.osi_blameless.proofs.transport.Vocabulary.{Local, NotJudged, passes, request, Right, rubbish, Some, subst, sym, takes, TooMany}
+use Rattle.osi_blameless.proofs.transport.Vocabulary.{Traffic, true}
 use Rattle.osi_blameless.proofs.transport.Vocabulary.{Two, unit as passing, Value, Whole, Zero, ◌∙◌, ◌∷◌, ◌≡◌, ◌⊎◌}
 use Rattle.osi_blameless.proofs.transport.class_0.an_end_goes_on_in_class_zero.{zeroed_passes}
-use Rattle.osi_blameless.proofs.transport.calling.a_calling_end_is_fair_in_class_2.{IsFine, Joined, fine_request, first_joined, goes, mild_of, next_joined}
+use Rattle.osi_blameless.proofs.transport.calling.a_calling_end_is_fair_in_class_2.{IsFine, Joined, fine_request, first_joined, goes}
+use Rattle.osi_blameless.proofs.transport.calling.a_calling_end_is_fair_in_class_2.{mild_of, next_joined}
 use Rattle.osi_blameless.proofs.transport.requests.how_requests_go_on.{Stage, asks, known, zero, answered, ended, quiet, refused, waits}
 use Rattle.osi_blameless.proofs.transport.requests.no_request_is_blamed.{Holds as Staged, holds_first, holds_next, is_right}
 use Rattle.osi_blameless.proofs.transport.calling.the_end_is_judged_as_the_other_side_is.{other_judged, own_judged}

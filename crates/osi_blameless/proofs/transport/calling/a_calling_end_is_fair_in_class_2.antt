@@ -1,12 +1,19 @@
 -- A whole calling end is fair in class 2 as long as the other side is judged, also after a connection has lost its judgement: by induction
 -- over what happens. For the law of that name.
-use Rattle.osi_blameless.proofs.transport.Vocabulary.{[], AllByRecursion, ap, arith, arrives, begin, begins_other, begins_own, Bool, breaks, calls}
-use Rattle.osi_blameless.proofs.transport.Vocabulary.{closes_call as closes, Connection, connects, Course, disconnect, disconnected, Event, false}
-use Rattle.osi_blameless.proofs.transport.Vocabulary.{HappenAlong, Happens, HasFieldsInRange, inl, inr, is_stopped, IsOrderly, Kept, Left, List, Local}
-use Rattle.osi_blameless.proofs.transport.Vocabulary.{MayCall, None, not, NotJudged, orderly_asks, orderly_closed, orderly_ended, orderly_fresh}
-use Rattle.osi_blameless.proofs.transport.Vocabulary.{orderly_sent, orderly_sent_all, orderly_unit, packet, packet_begins, passes, passes_rubbish, put_by}
-use Rattle.osi_blameless.proofs.transport.Vocabulary.{put_for, react, refl, request, Right, rubbish, sends, sends_all, slice_get, Some, State, subst, sym}
-use Rattle.osi_blameless.proofs.transport.Vocabulary.{takes, TooMany, true, unit as passing, user_does, UserCall, Value, value_at, Whole, Zero, ℕ, ◌++◌}
+use Rattle.osi_blameless.proofs.transport.Vocabulary.{[], AllByRecursion, ap, arith, arrives, begin, begins_other, begins_own, Bool, breaks}
+use Rattle.osi_blameless.proofs.transport.Vocabulary.{calls}
+use Rattle.osi_blameless.proofs.transport.Vocabulary.{closes_call as closes, Connection, connects, Course, disconnect, disconnected, Event}
+use Rattle.osi_blameless.proofs.transport.Vocabulary.{false}
+use Rattle.osi_blameless.proofs.transport.Vocabulary.{HappenAlong, Happens, HasFieldsInRange, inl, inr, is_stopped, IsOrderly, Kept, Left}
+use Rattle.osi_blameless.proofs.transport.Vocabulary.{List, Local}
+use Rattle.osi_blameless.proofs.transport.Vocabulary.{MayCall, None, not, NotJudged, orderly_asks, orderly_closed, orderly_ended}
+use Rattle.osi_blameless.proofs.transport.Vocabulary.{orderly_fresh}
+use Rattle.osi_blameless.proofs.transport.Vocabulary.{orderly_sent, orderly_sent_all, orderly_unit, packet, packet_begins, passes}
+use Rattle.osi_blameless.proofs.transport.Vocabulary.{passes_rubbish, put_by}
+use Rattle.osi_blameless.proofs.transport.Vocabulary.{put_for, react, refl, request, Right, rubbish, sends, sends_all, slice_get, Some}
+use Rattle.osi_blameless.proofs.transport.Vocabulary.{State, subst, sym}
+use Rattle.osi_blameless.proofs.transport.Vocabulary.{takes, TooMany, true, unit as passing, user_does, UserCall, Value, value_at, Whole}
+use Rattle.osi_blameless.proofs.transport.Vocabulary.{Zero, ℕ, ◌++◌}
 use Rattle.osi_blameless.proofs.transport.Vocabulary.{◌||◌, ◌∙◌, ◌∷◌, ◌≡◌, ◌⊎◌}
 use Rattle.osi_blameless.specs.transport.Wholes.{passes_other, passes_own}
 use Rattle.osi_blameless.proofs.transport.small_facts_that_many_lemmas_use.{differ, none_of}
@@ -17,10 +24,12 @@ use Rattle.osi_blameless.proofs.transport.calling.a_stray_dc_of_the_other_side_p
 use Rattle.osi_blameless.proofs.transport.names.a_reference_names_one_connection.{no_item}
 use Rattle.osi_blameless.proofs.transport.calling.a_unit_of_a_whole_end_passes.{request_passes, request_peers}
 use Rattle.osi_blameless.proofs.transport.calling.a_unit_of_the_other_side_passes.{other_passes, other_peers}
-use Rattle.osi_blameless.proofs.transport.calling.a_unit_that_is_not_judged_passes.{IsIgnored, Passed, ignored_passes, ignored_peers, lost_by, own_goes}
+use Rattle.osi_blameless.proofs.transport.calling.a_unit_that_is_not_judged_passes.{IsIgnored, Passed, ignored_passes, ignored_peers}
+use Rattle.osi_blameless.proofs.transport.calling.a_unit_that_is_not_judged_passes.{lost_by, own_goes}
 use Rattle.osi_blameless.proofs.transport.calling.a_whole_end_takes_a_unit.{next_selects}
 use Rattle.osi_blameless.proofs.transport.calling.a_whole_end_ends.{whole_calls, whole_takes}
-use Rattle.osi_blameless.proofs.transport.connections.each_connection_has_its_line.{Followed, IsOwned, asking, is_tracked, of, other_begins, own_begins, stray}
+use Rattle.osi_blameless.proofs.transport.connections.each_connection_has_its_line.{Followed, IsOwned, asking, is_tracked, of, other_begins}
+use Rattle.osi_blameless.proofs.transport.connections.each_connection_has_its_line.{own_begins, stray}
 use Rattle.osi_blameless.proofs.transport.requests.how_requests_go_on.{Stage, known}
 use Rattle.osi_blameless.proofs.transport.requests.no_request_is_blamed.{Holds as Staged, holds_first, holds_next, is_right}
 use Rattle.osi_blameless.proofs.transport.calling.the_end_is_judged_as_the_other_side_is.{IsMild}

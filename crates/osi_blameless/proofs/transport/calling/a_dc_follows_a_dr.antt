@@ -1,15 +1,25 @@
 -- An end sends a DC only after it was sent a DR, which had passed when the packet of the DC began: so the judge knows it, as long as
 -- the other side is judged. For the laws on whole ends.
-use Rattle.osi_blameless.proofs.transport.Vocabulary.{arith, [], ap, Bool, false, if◌then◌else◌, List, None, not, Option, refl, Some, subst, sym, true, ℕ}
-use Rattle.osi_blameless.proofs.transport.Vocabulary.{◌++◌, ◌∙◌, ◌∷◌, ◌≡◌, ◌≢◌, AllByRecursion, position, slice_get, ◌||◌, ◌&&◌, acknowledge, confirm}
-use Rattle.osi_blameless.proofs.transport.Vocabulary.{Connect, data0, data2, disconnect, disconnected, error, request, Value, Given, Class, Two, Zero}
-use Rattle.osi_blameless.proofs.transport.Vocabulary.{State, UserCall, react, user_does, Local, is_applied, reach_by, reach_of, first_failed, is_live}
-use Rattle.osi_blameless.proofs.transport.Vocabulary.{is_named, other, asks_by, asks_of, at_found, at_place, class_for, course_after, course_after_none}
-use Rattle.osi_blameless.proofs.transport.Vocabulary.{found_on, has_broken, has_disconnected, is_stopped, is_stray, knows_disconnect, may_answer}
-use Rattle.osi_blameless.proofs.transport.Vocabulary.{none_told, noted, Outcome, packet_begins, reached, refused, refused_reach, request_tests, route}
-use Rattle.osi_blameless.proofs.transport.Vocabulary.{route_in, routed, Traffic, takes, unnamed_told, with_disconnect, Connection, Course, Direction, Left}
-use Rattle.osi_blameless.proofs.transport.Vocabulary.{Right, Disconnects, Finding, Broke, Kept, NotJudged, Outside, TooMany, Reach, Route, Asks, Named}
-use Rattle.osi_blameless.proofs.transport.Vocabulary.{Only, Unnamed, passes, Passing, rubbish, unit as passing, put_by, put_for, arrives, begin}
+use Rattle.osi_blameless.proofs.transport.Vocabulary.{arith, [], ap, Bool, false, if◌then◌else◌, List, None, not, Option, refl, Some, subst}
+use Rattle.osi_blameless.proofs.transport.Vocabulary.{sym, true, ℕ}
+use Rattle.osi_blameless.proofs.transport.Vocabulary.{◌++◌, ◌∙◌, ◌∷◌, ◌≡◌, ◌≢◌, AllByRecursion, position, slice_get, ◌||◌, ◌&&◌}
+use Rattle.osi_blameless.proofs.transport.Vocabulary.{acknowledge, confirm}
+use Rattle.osi_blameless.proofs.transport.Vocabulary.{Connect, data0, data2, disconnect, disconnected, error, request, Value, Given, Class}
+use Rattle.osi_blameless.proofs.transport.Vocabulary.{Two, Zero}
+use Rattle.osi_blameless.proofs.transport.Vocabulary.{State, UserCall, react, user_does, Local, is_applied, reach_by, reach_of}
+use Rattle.osi_blameless.proofs.transport.Vocabulary.{first_failed, is_live}
+use Rattle.osi_blameless.proofs.transport.Vocabulary.{is_named, other, asks_by, asks_of, at_found, at_place, class_for, course_after}
+use Rattle.osi_blameless.proofs.transport.Vocabulary.{course_after_none}
+use Rattle.osi_blameless.proofs.transport.Vocabulary.{found_on, has_broken, has_disconnected, is_stopped, is_stray, knows_disconnect}
+use Rattle.osi_blameless.proofs.transport.Vocabulary.{may_answer}
+use Rattle.osi_blameless.proofs.transport.Vocabulary.{none_told, noted, Outcome, packet_begins, reached, refused, refused_reach}
+use Rattle.osi_blameless.proofs.transport.Vocabulary.{request_tests, route}
+use Rattle.osi_blameless.proofs.transport.Vocabulary.{route_in, routed, Traffic, takes, unnamed_told, with_disconnect, Connection, Course}
+use Rattle.osi_blameless.proofs.transport.Vocabulary.{Direction, Left}
+use Rattle.osi_blameless.proofs.transport.Vocabulary.{Right, Disconnects, Finding, Broke, Kept, NotJudged, Outside, TooMany, Reach, Route}
+use Rattle.osi_blameless.proofs.transport.Vocabulary.{Asks, Named}
+use Rattle.osi_blameless.proofs.transport.Vocabulary.{Only, Unnamed, passes, Passing, rubbish, unit as passing, put_by, put_for, arrives}
+use Rattle.osi_blameless.proofs.transport.Vocabulary.{begin}
 use Rattle.osi_blameless.proofs.transport.Vocabulary.{begins_other, begins_own, calls, Event, HappenAlong, Happens, passes_rubbish, Whole}
 use Rattle.osi_class.specs.Link.{unit_of}
 use Rattle.osi_blameless.specs.transport.Wholes.{passes_other, passes_own}

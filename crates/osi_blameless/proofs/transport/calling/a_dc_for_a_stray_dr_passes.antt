@@ -1,15 +1,20 @@
 -- A DC of a whole calling end passes that answers a DR which closed nothing: it changes no connection at the judge, or it is that of a
 -- line. For the law on a whole end.
-use Rattle.osi_blameless.proofs.transport.Vocabulary.{arith, [], Bool, false, if◌then◌else◌, inl, inr, List, None, Option, refl, Some, subst, sym, true, ℕ}
-use Rattle.osi_blameless.proofs.transport.Vocabulary.{◌∷◌, ◌≡◌, eqb-true, not, position, slice_get, ◌||◌, disconnected, Value, Class, Two, Zero, Local}
-use Rattle.osi_blameless.proofs.transport.Vocabulary.{first_failed, is_due, is_named, at_found, at_place, none_told, one_told, Outcome, route, route_in}
-use Rattle.osi_blameless.proofs.transport.Vocabulary.{routed, set, Traffic, takes, Connection, Left, Right, in_doubt, Broke, NotJudged, Whole}
+use Rattle.osi_blameless.proofs.transport.Vocabulary.{arith, [], Bool, false, if◌then◌else◌, inl, inr, List, None, Option, refl, Some}
+use Rattle.osi_blameless.proofs.transport.Vocabulary.{subst, sym, true, ℕ}
+use Rattle.osi_blameless.proofs.transport.Vocabulary.{◌∷◌, ◌≡◌, eqb-true, not, position, slice_get, ◌||◌, disconnected, Value, Class, Two}
+use Rattle.osi_blameless.proofs.transport.Vocabulary.{Zero, Local}
+use Rattle.osi_blameless.proofs.transport.Vocabulary.{first_failed, is_due, is_named, at_found, at_place, none_told, one_told, Outcome}
+use Rattle.osi_blameless.proofs.transport.Vocabulary.{route, route_in}
+use Rattle.osi_blameless.proofs.transport.Vocabulary.{routed, set, Traffic, takes, Connection, Left, Right, in_doubt, Broke, NotJudged}
+use Rattle.osi_blameless.proofs.transport.Vocabulary.{Whole}
 use Rattle.osi_rules.specs.declared.findings.Rule.TheVariants as rule
 use Rattle.osi_blameless.proofs.transport.small_facts_that_many_lemmas_use.{and_first, and_second, both, judged_same, or_last}
 use Rattle.osi_blameless.proofs.transport.Vocabulary.{knows_disconnect, may_answer}
 use Rattle.osi_blameless.proofs.transport.calling.a_dc_follows_a_dr.{may_so}
 use Rattle.osi_blameless.proofs.transport.names.a_right_unit_is_not_blamed.{first_there}
-use Rattle.osi_blameless.proofs.transport.calling.a_unit_that_is_not_judged_passes.{IsIgnored, Passed, ignored_passes, ignored_peers, own_goes}
+use Rattle.osi_blameless.proofs.transport.calling.a_unit_that_is_not_judged_passes.{IsIgnored, Passed, ignored_passes, ignored_peers}
+use Rattle.osi_blameless.proofs.transport.calling.a_unit_that_is_not_judged_passes.{own_goes}
 use Rattle.osi_blameless.proofs.transport.connections.each_connection_has_its_line.{Followed, is_tracked}
 use Rattle.osi_blameless.proofs.transport.names.what_holds_of_one_item.{first_true}
 use Rattle.osi_blameless.proofs.transport.names.what_keeps_names_apart.{Sound}

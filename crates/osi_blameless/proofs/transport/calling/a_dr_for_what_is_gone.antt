@@ -1,10 +1,14 @@
 -- A DR that a whole calling end takes for a reference that is gone closed nothing at the judge, whatever happens.
 -- For the law of that name.
 use Rattle.osi_blameless.proofs.transport.Vocabulary.{[], AllByRecursion, arith, arrives, asked_by, asks_with, begins, breaks, calls}
-use Rattle.osi_blameless.proofs.transport.Vocabulary.{closes_call as closes, Connect, Connection, connects, Direction, Event, false, Happens, Left, List}
-use Rattle.osi_blameless.proofs.transport.Vocabulary.{None, packet, packet_begins, passes, passes_rubbish, Passing, proposal, put_by, put_for, react, refl}
-use Rattle.osi_blameless.proofs.transport.Vocabulary.{request, Right, rubbish, sends, sends_all, subst, sym, takes, Traffic, true, unit as passing}
-use Rattle.osi_blameless.proofs.transport.Vocabulary.{user as by_user, user_does, UserCall, Value, Whole, ℕ, ◌++◌, ◌+◌, ◌<◌, ◌∙◌, ◌∷◌, ◌≡◌, ◌≤◌}
+use Rattle.osi_blameless.proofs.transport.Vocabulary.{closes_call as closes, Connect, Connection, connects, Direction, Event, false}
+use Rattle.osi_blameless.proofs.transport.Vocabulary.{Happens, Left, List}
+use Rattle.osi_blameless.proofs.transport.Vocabulary.{None, packet, packet_begins, passes, passes_rubbish, Passing, proposal, put_by}
+use Rattle.osi_blameless.proofs.transport.Vocabulary.{put_for, react, refl}
+use Rattle.osi_blameless.proofs.transport.Vocabulary.{request, Right, rubbish, sends, sends_all, subst, sym, takes, Traffic, true}
+use Rattle.osi_blameless.proofs.transport.Vocabulary.{unit as passing}
+use Rattle.osi_blameless.proofs.transport.Vocabulary.{user as by_user, user_does, UserCall, Value, Whole, ℕ, ◌++◌, ◌+◌, ◌<◌, ◌∙◌, ◌∷◌, ◌≡◌}
+use Rattle.osi_blameless.proofs.transport.Vocabulary.{◌≤◌}
 use Rattle.osi_carrier.specs.State.{State}
 use Rattle.osi_blameless.specs.transport.Wholes.{begins_other, begins_own, passes_other, passes_own}
 use Rattle.osi_blameless.proofs.transport.small_facts_that_many_lemmas_use.{none_of}
@@ -12,20 +16,26 @@ use Rattle.osi_blameless.proofs.transport.names.a_reference_names_one_connection
 use Rattle.osi_blameless.proofs.transport.requests.a_request_of_a_whole_end_is_new.{Newer, rise_all, still_newer, unit_gives}
 use Rattle.osi_blameless.proofs.transport.names.all_are_judged_unless_one_broke.{still_judged}
 use Rattle.osi_blameless.proofs.transport.requests.how_a_calling_end_asks.{over_takes}
-use Rattle.osi_blameless.proofs.transport.requests.references_of_requests_rise.{Rise, all_gives, closed_gives, ended_gives, not_less, sent_gives}
+use Rattle.osi_blameless.proofs.transport.requests.references_of_requests_rise.{Rise, all_gives, closed_gives, ended_gives, not_less}
+use Rattle.osi_blameless.proofs.transport.requests.references_of_requests_rise.{sent_gives}
 use Rattle.osi_blameless.proofs.transport.requests.class_0_stays_selected.{zero_stays}
-use Rattle.osi_blameless.proofs.transport.connections.what_a_calling_end_still_has.{OffersTwo, SelectsTwo, all_last, call_after, new_live, sent_lasts, source_so}
+use Rattle.osi_blameless.proofs.transport.connections.what_a_calling_end_still_has.{OffersTwo, SelectsTwo, all_last, call_after, new_live}
+use Rattle.osi_blameless.proofs.transport.connections.what_a_calling_end_still_has.{sent_lasts, source_so}
 use Rattle.osi_blameless.proofs.transport.connections.what_a_calling_end_still_has.{unit_after}
 use Rattle.osi_blameless.proofs.transport.names.what_holds_of_one_item.{after_map, each_map}
 use Rattle.osi_blameless.proofs.transport.requests.what_lasts_at_the_judge.{lasts_passing}
-use Rattle.osi_blameless.proofs.transport.connections.what_stays_of_each_connection.{AreDistinct, IfAsked, IsStarted, left_passes, lively_stays}
+use Rattle.osi_blameless.proofs.transport.connections.what_stays_of_each_connection.{AreDistinct, IfAsked, IsStarted, left_passes}
+use Rattle.osi_blameless.proofs.transport.connections.what_stays_of_each_connection.{lively_stays}
 use Rattle.osi_blameless.proofs.transport.connections.what_stays_of_each_connection.{right_passes, started_stays}
 use Rattle.osi_blameless.proofs.transport.names.names_stay_apart_though_one_is_lost.{AreNamedApart}
-use Rattle.osi_blameless.proofs.transport.connections.what_the_other_side_closes.{Came, IsOngoing, IsPlain, IsSane, dr_none, going_of, is_dr}
+use Rattle.osi_blameless.proofs.transport.connections.what_the_other_side_closes.{Came, IsOngoing, IsPlain, IsSane, dr_none, going_of}
+use Rattle.osi_blameless.proofs.transport.connections.what_the_other_side_closes.{is_dr}
 use Rattle.osi_blameless.proofs.transport.connections.what_the_other_side_closes.{closes as closes_one, same_closed, stays, what_came}
 use Rattle.osi_blameless.proofs.transport.requests.which_requests_are_put.{asked_among, call_asks, unit_asks}
-use Rattle.osi_blameless.proofs.transport.connections.what_is_live_at_an_end.{Gives, GivesNone, IsHeld, IsLive, IsLively, Timely, gives_more, timely_begins}
-use Rattle.osi_blameless.proofs.transport.connections.what_is_live_at_an_end.{timely_calls, timely_closes, timely_comes, timely_gives, timely_puts, timely_takes}
+use Rattle.osi_blameless.proofs.transport.connections.what_is_live_at_an_end.{Gives, GivesNone, IsHeld, IsLive, IsLively, Timely}
+use Rattle.osi_blameless.proofs.transport.connections.what_is_live_at_an_end.{gives_more, timely_begins}
+use Rattle.osi_blameless.proofs.transport.connections.what_is_live_at_an_end.{timely_calls, timely_closes, timely_comes, timely_gives}
+use Rattle.osi_blameless.proofs.transport.connections.what_is_live_at_an_end.{timely_puts, timely_takes}
 
 -- ---- the end takes a unit, and its user makes a call
 

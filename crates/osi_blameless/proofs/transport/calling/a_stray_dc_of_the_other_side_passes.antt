@@ -1,15 +1,19 @@
 -- A DC of the other side passes that answers nothing: the lines of its connection may take it, and nothing else changes.
 -- For the law on a whole end.
-use Rattle.osi_blameless.proofs.transport.Vocabulary.{[], after_finding, ap, arith, Bool, Connect, Connection, eqb-true, false, Finding, finding_of}
-use Rattle.osi_blameless.proofs.transport.Vocabulary.{HasFieldsInRange, Left, Line, List, Local, NotJudged, passes_other, reach_of, refl, request, Right}
+use Rattle.osi_blameless.proofs.transport.Vocabulary.{[], after_finding, ap, arith, Bool, Connect, Connection, eqb-true, false, Finding}
+use Rattle.osi_blameless.proofs.transport.Vocabulary.{finding_of}
+use Rattle.osi_blameless.proofs.transport.Vocabulary.{HasFieldsInRange, Left, Line, List, Local, NotJudged, passes_other, reach_of, refl}
+use Rattle.osi_blameless.proofs.transport.Vocabulary.{request, Right}
 use Rattle.osi_blameless.proofs.transport.Vocabulary.{Some, subst, sym, takes, Traffic, true, Two, Value, Whole, ◌++◌, ◌∙◌, ◌∷◌, ◌≡◌, ◌≢◌}
 use Rattle.osi_rules.specs.declared.findings.Reach.TheVariants as reach
-use Rattle.osi_blameless.proofs.transport.small_facts_that_many_lemmas_use.{and_first, and_second, differ, is_false, judged_same, open_or_closing}
+use Rattle.osi_blameless.proofs.transport.small_facts_that_many_lemmas_use.{and_first, and_second, differ, is_false, judged_same}
+use Rattle.osi_blameless.proofs.transport.small_facts_that_many_lemmas_use.{open_or_closing}
 use Rattle.osi_blameless.proofs.transport.calling.a_dc_for_a_stray_dr_passes.{not_due}
 use Rattle.osi_blameless.proofs.transport.connections.no_two_open_connections_have_one_peer.{left_open}
 use Rattle.osi_blameless.proofs.transport.calling.a_unit_of_the_other_side_passes.{dc_no_cc}
 use Rattle.osi_blameless.proofs.transport.calling.what_has_come_with_one_unit_more.{following_other, row_add, waiting_dc, early_other}
-use Rattle.osi_blameless.proofs.transport.connections.each_connection_has_its_line.{AreGiven, Followed, Following, IsAnswer, IsAsking, IsNoCc, all_so, is_tracked}
+use Rattle.osi_blameless.proofs.transport.connections.each_connection_has_its_line.{AreGiven, Followed, Following, IsAnswer, IsAsking}
+use Rattle.osi_blameless.proofs.transport.connections.each_connection_has_its_line.{IsNoCc, all_so, is_tracked}
 use Rattle.osi_blameless.proofs.transport.connections.which_unit_of_the_other_side_passes.{IsIdle}
 use Rattle.osi_blameless.proofs.transport.names.what_keeps_names_apart.{Sound}
 use Rattle.osi_blameless.proofs.transport.names.names_stay_apart_though_one_is_lost.{AreNamedApart, each_sound}

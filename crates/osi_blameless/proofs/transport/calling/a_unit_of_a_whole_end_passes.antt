@@ -1,31 +1,43 @@
 -- A unit of a whole calling end passes: a CR, whose connection waits then, or a unit of an open connection that is judged, which is right.
 -- For the law on a whole end.
-use Rattle.osi_blameless.proofs.transport.Vocabulary.{[], AllByRecursion, ap, arith, asked, asked_by, Bool, Class, Connect, Connection, destination_of}
-use Rattle.osi_blameless.proofs.transport.Vocabulary.{eqb-true, false, Half, inl, inr, is_applied, is_closing, is_free, is_open, is_over, is_silent}
-use Rattle.osi_blameless.proofs.transport.Vocabulary.{IsRight, Kept, Left, Line, linked, List, Live, Local, None, not, Option, Outcome, placed, position}
-use Rattle.osi_blameless.proofs.transport.Vocabulary.{refl, request, Right, sent_on, set, slice_get, Some, Standing, subst, sym, takes, Traffic, true, Two}
-use Rattle.osi_blameless.proofs.transport.Vocabulary.{unit as passing, Value, value_at, Whole, ℕ, ◌&&◌, ◌++◌, ◌==◌, ◌||◌, ◌∙◌, ◌∷◌, ◌≡◌, ◌⊎◌}
-use Rattle.osi_blameless.proofs.transport.small_facts_that_many_lemmas_use.{and_false, and_first, and_second, both, differ, first_is, no_list, rest_is}
+use Rattle.osi_blameless.proofs.transport.Vocabulary.{[], AllByRecursion, ap, arith, asked, asked_by, Bool, Class, Connect, Connection}
+use Rattle.osi_blameless.proofs.transport.Vocabulary.{destination_of}
+use Rattle.osi_blameless.proofs.transport.Vocabulary.{eqb-true, false, Half, inl, inr, is_applied, is_closing, is_free, is_open, is_over}
+use Rattle.osi_blameless.proofs.transport.Vocabulary.{is_silent}
+use Rattle.osi_blameless.proofs.transport.Vocabulary.{IsRight, Kept, Left, Line, linked, List, Live, Local, None, not, Option, Outcome}
+use Rattle.osi_blameless.proofs.transport.Vocabulary.{placed, position}
+use Rattle.osi_blameless.proofs.transport.Vocabulary.{refl, request, Right, sent_on, set, slice_get, Some, Standing, subst, sym, takes}
+use Rattle.osi_blameless.proofs.transport.Vocabulary.{Traffic, true, Two}
+use Rattle.osi_blameless.proofs.transport.Vocabulary.{unit as passing, Value, value_at, Whole, ℕ, ◌&&◌, ◌++◌, ◌==◌, ◌||◌, ◌∙◌, ◌∷◌, ◌≡◌}
+use Rattle.osi_blameless.proofs.transport.Vocabulary.{◌⊎◌}
+use Rattle.osi_blameless.proofs.transport.small_facts_that_many_lemmas_use.{and_false, and_first, and_second, both, differ, first_is}
+use Rattle.osi_blameless.proofs.transport.small_facts_that_many_lemmas_use.{no_list, rest_is}
 use Rattle.osi_blameless.proofs.transport.small_facts_that_many_lemmas_use.{set_other, some_same as item_is}
 use Rattle.osi_blameless.proofs.transport.names.a_reference_names_one_connection.{not_first}
 use Rattle.osi_blameless.proofs.transport.names.names_stay_apart_though_one_is_lost.{AreNamedApart, each_sound, end_set, right_asked}
-use Rattle.osi_blameless.proofs.transport.connections.each_connection_has_its_line.{followed_at, followed_on, Followed, Following, IsAnswer, IsAsking, IsOwned, Row}
+use Rattle.osi_blameless.proofs.transport.connections.each_connection_has_its_line.{followed_at, followed_on, Followed, Following, IsAnswer}
+use Rattle.osi_blameless.proofs.transport.connections.each_connection_has_its_line.{IsAsking, IsOwned, Row}
 use Rattle.osi_blameless.proofs.transport.connections.each_connection_has_its_line.{Tracked}
-use Rattle.osi_blameless.proofs.transport.connections.each_connection_has_its_line.{Waiting, AreSettled, IsSettled, IsSpare, all_so, asking, asks}
-use Rattle.osi_blameless.proofs.transport.connections.each_connection_has_its_line.{is_tracked, is_waiting, no_spare, of, put_some, stray, why_before}
+use Rattle.osi_blameless.proofs.transport.connections.each_connection_has_its_line.{Waiting, AreSettled, IsSettled, IsSpare, all_so, asking}
+use Rattle.osi_blameless.proofs.transport.connections.each_connection_has_its_line.{asks}
+use Rattle.osi_blameless.proofs.transport.connections.each_connection_has_its_line.{is_tracked, is_waiting, no_spare, of, put_some, stray}
+use Rattle.osi_blameless.proofs.transport.connections.each_connection_has_its_line.{why_before}
 use Rattle.osi_blameless.proofs.transport.names.what_holds_of_one_item.{after_add, after_set, first_true}
 use Rattle.osi_blameless.proofs.transport.requests.what_lasts_at_the_judge.{lasts_passing}
 use Rattle.osi_blameless.proofs.transport.requests.left_selects_no_class.{left_class}
 use Rattle.osi_blameless.proofs.transport.connections.what_stays_of_each_connection.{own_stays, right_then}
 use Rattle.osi_blameless.proofs.transport.connections.what_the_other_side_closes.{IsSane}
-use Rattle.osi_blameless.proofs.transport.connections.which_units_are_for_a_connection.{IsOf, picked_first, picked_rest, is_ours, leads, ours, ours_not, ours_so}
+use Rattle.osi_blameless.proofs.transport.connections.which_units_are_for_a_connection.{IsOf, picked_first, picked_rest, is_ours, leads}
+use Rattle.osi_blameless.proofs.transport.connections.which_units_are_for_a_connection.{ours, ours_not, ours_so}
 use Rattle.osi_blameless.proofs.transport.connections.which_units_are_for_a_connection.{picked_each}
 use Rattle.osi_blameless.proofs.transport.names.what_belongs_to_no_open_connection.{strays_last}
 use Rattle.osi_blameless.proofs.transport.requests.while_no_class_is_selected.{after_change, set_there}
-use Rattle.osi_blameless.proofs.transport.connections.no_two_open_connections_have_one_peer.{added_still, left_open, one_peer, right_there, there_not_silent}
+use Rattle.osi_blameless.proofs.transport.connections.no_two_open_connections_have_one_peer.{added_still, left_open, one_peer, right_there}
+use Rattle.osi_blameless.proofs.transport.connections.no_two_open_connections_have_one_peer.{there_not_silent}
 use Rattle.osi_blameless.proofs.transport.connections.no_two_open_connections_have_one_peer.{tracked_over}
 use Rattle.osi_blameless.proofs.transport.class_0.a_dt_of_class_zero_passes.{unlike}
-use Rattle.osi_blameless.proofs.transport.connections.a_line_since_its_connection_opened.{RightPassed, known as known_here, named_here, right_passes}
+use Rattle.osi_blameless.proofs.transport.connections.a_line_since_its_connection_opened.{RightPassed, known as known_here, named_here}
+use Rattle.osi_blameless.proofs.transport.connections.a_line_since_its_connection_opened.{right_passes}
 use Rattle.osi_rules.specs.declared.findings.Reach.TheVariants as reach
 
 -- ---- a CR

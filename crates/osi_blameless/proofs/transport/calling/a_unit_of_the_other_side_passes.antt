@@ -1,24 +1,36 @@
 -- A unit of the other side passes at the judge of a whole calling end: what it does to the line of its connection, and to no other.
 -- For the law on a whole end.
-use Rattle.osi_blameless.proofs.transport.Vocabulary.{[], after_finding, agreed_size, ap, arith, asked, Bool, Broke, Class, class_for, class_of, confirm}
-use Rattle.osi_blameless.proofs.transport.Vocabulary.{Connect, Connection, connection_after, Course, course_after, destination_of, eqb-true, false}
-use Rattle.osi_blameless.proofs.transport.Vocabulary.{Finding, finding_of, found_on, Half, half_after, HasFieldsInRange, if◌then◌else◌, inl, inr}
-use Rattle.osi_blameless.proofs.transport.Vocabulary.{is_applied, is_closed, is_closing, is_open, is_over, is_refused, is_silent, is_some, Kept, Left}
-use Rattle.osi_blameless.proofs.transport.Vocabulary.{Line, List, list_any, Local, None, not, noted, opened_line, opened_link, Option, Outcome}
-use Rattle.osi_blameless.proofs.transport.Vocabulary.{passes_other, Phase, Reach, reach_of, reached, refl, request, Right, sent_on, set, slice_get, Some}
-use Rattle.osi_blameless.proofs.transport.Vocabulary.{subst, sym, takes, true, Two, unit as passing, uses, uses_source, Value, value_at, Whole, Zero, ℕ}
+use Rattle.osi_blameless.proofs.transport.Vocabulary.{[], after_finding, agreed_size, ap, arith, asked, Bool, Broke, Class, class_for}
+use Rattle.osi_blameless.proofs.transport.Vocabulary.{class_of, confirm}
+use Rattle.osi_blameless.proofs.transport.Vocabulary.{Connect, Connection, connection_after, Course, course_after, destination_of, eqb-true}
+use Rattle.osi_blameless.proofs.transport.Vocabulary.{false}
+use Rattle.osi_blameless.proofs.transport.Vocabulary.{Finding, finding_of, found_on, Half, half_after, HasFieldsInRange, if◌then◌else◌, inl}
+use Rattle.osi_blameless.proofs.transport.Vocabulary.{inr}
+use Rattle.osi_blameless.proofs.transport.Vocabulary.{is_applied, is_closed, is_closing, is_open, is_over, is_refused, is_silent, is_some}
+use Rattle.osi_blameless.proofs.transport.Vocabulary.{Kept, Left}
+use Rattle.osi_blameless.proofs.transport.Vocabulary.{Line, List, list_any, Local, None, not, noted, opened_line, opened_link, Option}
+use Rattle.osi_blameless.proofs.transport.Vocabulary.{Outcome}
+use Rattle.osi_blameless.proofs.transport.Vocabulary.{passes_other, Phase, Reach, reach_of, reached, refl, request, Right, sent_on, set}
+use Rattle.osi_blameless.proofs.transport.Vocabulary.{slice_get, Some}
+use Rattle.osi_blameless.proofs.transport.Vocabulary.{subst, sym, takes, true, Two, unit as passing, uses, uses_source, Value, value_at}
+use Rattle.osi_blameless.proofs.transport.Vocabulary.{Whole, Zero, ℕ}
 use Rattle.osi_blameless.proofs.transport.Vocabulary.{◌&&◌, ◌++◌, ◌<◌, ◌==◌, ◌||◌, ◌∙◌, ◌∷◌, ◌≡◌, ◌≢◌, ◌⊎◌}
 use Rattle.osi_rules.specs.declared.findings.Reach.TheVariants as reach
 use Rattle.osi_rules.specs.declared.findings.Rule.TheVariants as rule
-use Rattle.osi_blameless.proofs.transport.small_facts_that_many_lemmas_use.{and_false as none_begun, and_first, and_not, and_second, both, differ, no_two}
+use Rattle.osi_blameless.proofs.transport.small_facts_that_many_lemmas_use.{and_false as none_begun, and_first, and_not, and_second, both}
+use Rattle.osi_blameless.proofs.transport.small_facts_that_many_lemmas_use.{differ, no_two}
 use Rattle.osi_blameless.proofs.transport.small_facts_that_many_lemmas_use.{set_other, sized_judged, some_same as item_is}
 use Rattle.osi_blameless.proofs.transport.names.a_reference_names_one_connection.{not_first}
-use Rattle.osi_blameless.proofs.transport.names.names_stay_apart_though_one_is_lost.{AreNamedApart, each_sound, right_set, applied_ends_none}
+use Rattle.osi_blameless.proofs.transport.names.names_stay_apart_though_one_is_lost.{AreNamedApart, each_sound, right_set}
+use Rattle.osi_blameless.proofs.transport.names.names_stay_apart_though_one_is_lost.{applied_ends_none}
 use Rattle.osi_blameless.proofs.transport.requests.a_request_of_a_whole_end_is_new.{Newer, rise_all}
-use Rattle.osi_blameless.proofs.transport.connections.no_two_open_connections_have_one_peer.{left_open, right_there, there_not_silent, uses_tracked}
+use Rattle.osi_blameless.proofs.transport.connections.no_two_open_connections_have_one_peer.{left_open, right_there, there_not_silent}
+use Rattle.osi_blameless.proofs.transport.connections.no_two_open_connections_have_one_peer.{uses_tracked}
 use Rattle.osi_blameless.proofs.transport.calling.a_unit_of_a_whole_end_passes.{all_two}
-use Rattle.osi_blameless.proofs.transport.connections.each_connection_has_its_line.{why_before, Followed, Following, IsAnswer, IsAsking, IsNoCc, IsOwned, Tracked}
-use Rattle.osi_blameless.proofs.transport.connections.each_connection_has_its_line.{AreGiven, AreSettled, Waiting, all_so, asking, asks, is_tracked, is_waiting, of}
+use Rattle.osi_blameless.proofs.transport.connections.each_connection_has_its_line.{why_before, Followed, Following, IsAnswer, IsAsking}
+use Rattle.osi_blameless.proofs.transport.connections.each_connection_has_its_line.{IsNoCc, IsOwned, Tracked}
+use Rattle.osi_blameless.proofs.transport.connections.each_connection_has_its_line.{AreGiven, AreSettled, Waiting, all_so, asking, asks}
+use Rattle.osi_blameless.proofs.transport.connections.each_connection_has_its_line.{is_tracked, is_waiting, of}
 use Rattle.osi_blameless.proofs.transport.connections.each_connection_has_its_line.{stray}
 use Rattle.osi_blameless.proofs.transport.lines.how_a_connection_opens.{calling_opens}
 use Rattle.osi_blameless.proofs.transport.names.what_holds_of_one_item.{none_true}
@@ -27,12 +39,15 @@ use Rattle.osi_blameless.proofs.transport.requests.what_lasts_at_the_judge.{IsCa
 use Rattle.osi_blameless.proofs.transport.connections.what_stays_of_each_connection.{judged_was, left_then, right_judged, right_own}
 use Rattle.osi_blameless.proofs.transport.names.what_belongs_to_no_open_connection.{strays_last}
 use Rattle.osi_blameless.proofs.transport.connections.what_the_other_side_closes.{IsSane, is_name}
-use Rattle.osi_blameless.proofs.transport.connections.which_units_are_for_a_connection.{IsOf, dc_not_ours, is_dc, is_ours, leads_none, named_not, named_so, names}
+use Rattle.osi_blameless.proofs.transport.connections.which_units_are_for_a_connection.{IsOf, dc_not_ours, is_dc, is_ours, leads_none}
+use Rattle.osi_blameless.proofs.transport.connections.which_units_are_for_a_connection.{named_not, named_so, names}
 use Rattle.osi_blameless.proofs.transport.connections.which_units_are_for_a_connection.{picked_more, ours_not, picked_none, those}
 use Rattle.osi_blameless.proofs.transport.requests.while_no_class_is_selected.{after_change, set_there}
-use Rattle.osi_blameless.proofs.transport.connections.what_becomes_of_a_connection.{Answered, Told, answered, cc_idle, cc_loose, cc_lost, not_selected, open_stays}
+use Rattle.osi_blameless.proofs.transport.connections.what_becomes_of_a_connection.{Answered, Told, answered, cc_idle, cc_loose, cc_lost}
+use Rattle.osi_blameless.proofs.transport.connections.what_becomes_of_a_connection.{not_selected, open_stays}
 use Rattle.osi_blameless.proofs.transport.connections.what_becomes_of_a_connection.{opens, refused, waits_on}
-use Rattle.osi_blameless.proofs.transport.calling.what_has_come_with_one_unit_more.{early_other, following_other, row_add, row_or, spares_on, waiting_dc}
+use Rattle.osi_blameless.proofs.transport.calling.what_has_come_with_one_unit_more.{early_other, following_other, row_add, row_or}
+use Rattle.osi_blameless.proofs.transport.calling.what_has_come_with_one_unit_more.{spares_on, waiting_dc}
 use Rattle.osi_blameless.proofs.transport.calling.what_has_come_with_one_unit_more.{waiting_other}
 use Rattle.osi_blameless.proofs.transport.small_facts_that_many_lemmas_use.{half_started}
 use Rattle.osi_blameless.proofs.transport.class_0.a_dt_of_class_zero_passes.{unlike}

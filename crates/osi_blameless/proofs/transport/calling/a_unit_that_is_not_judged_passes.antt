@@ -1,20 +1,26 @@
 -- A unit of a whole calling end passes that is not judged: it changes no connection at the judge, and if it is of a line, that of a
 -- connection which has lost its judgement. For the law on a whole end.
-use Rattle.osi_blameless.proofs.transport.Vocabulary.{[], AllByRecursion, ap, arith, Bool, Class, Connect, Connection, Course, disconnected, false, inl}
-use Rattle.osi_blameless.proofs.transport.Vocabulary.{inr, Kept, Left, List, Local, None, NotJudged, Option, refl, request, Right, slice_get, Some, subst}
-use Rattle.osi_blameless.proofs.transport.Vocabulary.{sym, takes, Traffic, true, Two, unit as passing, Value, Whole, ℕ, ◌&&◌, ◌++◌, ◌∙◌, ◌∷◌, ◌≡◌, ◌⊎◌}
+use Rattle.osi_blameless.proofs.transport.Vocabulary.{[], AllByRecursion, ap, arith, Bool, Class, Connect, Connection, Course, disconnected}
+use Rattle.osi_blameless.proofs.transport.Vocabulary.{false, inl}
+use Rattle.osi_blameless.proofs.transport.Vocabulary.{inr, Kept, Left, List, Local, None, NotJudged, Option, refl, request, Right}
+use Rattle.osi_blameless.proofs.transport.Vocabulary.{slice_get, Some, subst}
+use Rattle.osi_blameless.proofs.transport.Vocabulary.{sym, takes, Traffic, true, Two, unit as passing, Value, Whole, ℕ, ◌&&◌, ◌++◌, ◌∙◌}
+use Rattle.osi_blameless.proofs.transport.Vocabulary.{◌∷◌, ◌≡◌, ◌⊎◌}
 use Rattle.osi_blameless.proofs.transport.small_facts_that_many_lemmas_use.{and_false, both, no_list}
 use Rattle.osi_blameless.proofs.transport.calling.a_unit_of_a_whole_end_passes.{own_kept, own_passes, own_peers, put_first}
-use Rattle.osi_blameless.proofs.transport.connections.each_connection_has_its_line.{followed_at, followed_on, AreSettled, Followed, Following, IsAnswer, IsAsking}
+use Rattle.osi_blameless.proofs.transport.connections.each_connection_has_its_line.{followed_at, followed_on, AreSettled, Followed}
+use Rattle.osi_blameless.proofs.transport.connections.each_connection_has_its_line.{Following, IsAnswer, IsAsking}
 use Rattle.osi_blameless.proofs.transport.connections.each_connection_has_its_line.{IsOwned}
-use Rattle.osi_blameless.proofs.transport.connections.each_connection_has_its_line.{IsSpare, all_so, asking, idle_line, is_tracked, of, put_some, stray}
+use Rattle.osi_blameless.proofs.transport.connections.each_connection_has_its_line.{IsSpare, all_so, asking, idle_line, is_tracked, of}
+use Rattle.osi_blameless.proofs.transport.connections.each_connection_has_its_line.{put_some, stray}
 use Rattle.osi_blameless.proofs.transport.connections.each_connection_has_its_line.{why_before}
 use Rattle.osi_blameless.proofs.transport.requests.left_selects_no_class.{left_class}
 use Rattle.osi_blameless.proofs.transport.names.names_stay_apart_though_one_is_lost.{AreNamedApart}
 use Rattle.osi_blameless.proofs.transport.names.what_belongs_to_no_open_connection.{strays_last}
 use Rattle.osi_blameless.proofs.transport.requests.what_lasts_at_the_judge.{lasts_passing}
 use Rattle.osi_blameless.proofs.transport.connections.what_the_other_side_closes.{IsSane}
-use Rattle.osi_blameless.proofs.transport.connections.which_units_are_for_a_connection.{IsOf, picked_first, picked_rest, is_ours, leads, ours, ours_is}
+use Rattle.osi_blameless.proofs.transport.connections.which_units_are_for_a_connection.{IsOf, picked_first, picked_rest, is_ours, leads}
+use Rattle.osi_blameless.proofs.transport.connections.which_units_are_for_a_connection.{ours, ours_is}
 use Rattle.osi_blameless.proofs.transport.connections.a_line_since_its_connection_opened.{LostPassed, known as known_here, lost_passes}
 
 -- ---- what the judge finds of a unit of a connection that has lost its judgement

@@ -1,14 +1,18 @@
 -- A whole calling end ends: it puts nothing then, and what it has put still passes by its lines.
 -- For the law on a whole end.
-use Rattle.osi_blameless.proofs.transport.Vocabulary.{[], AllByRecursion, append-nil, arith, Bool, Connect, Connection, false, in_two, is_some, IsOrderly}
-use Rattle.osi_blameless.proofs.transport.Vocabulary.{Left, List, Local, MayCall, None, put_by, put_for, react, refl, request, Right, Some, State}
-use Rattle.osi_blameless.proofs.transport.Vocabulary.{state_is, subst, sym, true, user_does, UserCall, Value, Whole, ℕ, ◌++◌, ◌∙◌, ◌∷◌, ◌≡◌, ◌≤◌, ◌⊎◌}
+use Rattle.osi_blameless.proofs.transport.Vocabulary.{[], AllByRecursion, append-nil, arith, Bool, Connect, Connection, false, in_two}
+use Rattle.osi_blameless.proofs.transport.Vocabulary.{is_some, IsOrderly}
+use Rattle.osi_blameless.proofs.transport.Vocabulary.{Left, List, Local, MayCall, None, put_by, put_for, react, refl, request, Right, Some}
+use Rattle.osi_blameless.proofs.transport.Vocabulary.{State}
+use Rattle.osi_blameless.proofs.transport.Vocabulary.{state_is, subst, sym, true, user_does, UserCall, Value, Whole, ℕ, ◌++◌, ◌∙◌, ◌∷◌, ◌≡◌}
+use Rattle.osi_blameless.proofs.transport.Vocabulary.{◌≤◌, ◌⊎◌}
 use Rattle.osi_blameless.proofs.transport.small_facts_that_many_lemmas_use.{none_of as no_end}
 use Rattle.osi_blameless.proofs.transport.requests.a_request_of_a_whole_end_is_new.{Newer, unit_gives}
 use Rattle.osi_blameless.proofs.transport.calling.a_whole_end_makes_a_call.{end_calls, nothing_so, same_up}
 use Rattle.osi_blameless.proofs.transport.calling.a_whole_end_takes_a_unit.{end_takes}
 use Rattle.osi_blameless.proofs.transport.calling.what_a_unit_leaves_at_a_calling_end.{two_outcome}
-use Rattle.osi_blameless.proofs.transport.connections.each_connection_has_its_line.{followed_at, AreGiven, Followed, Following, all_so, over, AreSettled, IsAnswer}
+use Rattle.osi_blameless.proofs.transport.connections.each_connection_has_its_line.{followed_at, AreGiven, Followed, Following, all_so}
+use Rattle.osi_blameless.proofs.transport.connections.each_connection_has_its_line.{over, AreSettled, IsAnswer}
 use Rattle.osi_blameless.proofs.transport.connections.each_connection_has_its_line.{IsAsking}
 use Rattle.osi_blameless.proofs.transport.requests.how_a_calling_end_asks.{Idle, outcome_is, over_calls, over_takes}
 use Rattle.osi_blameless.proofs.transport.requests.references_of_requests_rise.{all_gives, closed_gives, ended_gives, sent_gives}

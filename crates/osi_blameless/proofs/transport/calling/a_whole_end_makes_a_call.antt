@@ -1,12 +1,19 @@
 -- The user of a whole calling end makes a call: what it does to an open connection is acts of its line, and a CR waits to pass.
 -- For the law on a whole end.
-use Rattle.osi_blameless.proofs.transport.Vocabulary.{[], AllByRecursion, ap, append-nil, arith, asked, asks as asks_for, beyond, Bool, breaks, Class}
-use Rattle.osi_blameless.proofs.transport.Vocabulary.{closed_on, closed_with, closes_call, closes_in, closing, confirm, Connect, Connection, connects}
-use Rattle.osi_blameless.proofs.transport.Vocabulary.{destination_of, ended_by, EndReason, eqb-true, false, Follows, if◌then◌else◌, inl, inr, is_some}
-use Rattle.osi_blameless.proofs.transport.Vocabulary.{IsOrderly, length, Line, link_of, linked, List, Live, Local, longest_tsdu, ltb-false, ltb-true}
-use Rattle.osi_blameless.proofs.transport.Vocabulary.{MayCall, None, open_link, Option, proposal, proposal_by, pumped, push_here, push_other, put_closing}
-use Rattle.osi_blameless.proofs.transport.Vocabulary.{put_here, put_other, put_sent, put_together, refl, request, Right, sends, sends_all, sent, sent_all}
-use Rattle.osi_blameless.proofs.transport.Vocabulary.{slice_get, Some, Standing, State, subst, sym, true, Two, user_does, UserCall, Value, value_at, Whole}
+use Rattle.osi_blameless.proofs.transport.Vocabulary.{[], AllByRecursion, ap, append-nil, arith, asked, asks as asks_for, beyond, Bool}
+use Rattle.osi_blameless.proofs.transport.Vocabulary.{breaks, Class}
+use Rattle.osi_blameless.proofs.transport.Vocabulary.{closed_on, closed_with, closes_call, closes_in, closing, confirm, Connect, Connection}
+use Rattle.osi_blameless.proofs.transport.Vocabulary.{connects}
+use Rattle.osi_blameless.proofs.transport.Vocabulary.{destination_of, ended_by, EndReason, eqb-true, false, Follows, if◌then◌else◌, inl}
+use Rattle.osi_blameless.proofs.transport.Vocabulary.{inr, is_some}
+use Rattle.osi_blameless.proofs.transport.Vocabulary.{IsOrderly, length, Line, link_of, linked, List, Live, Local, longest_tsdu, ltb-false}
+use Rattle.osi_blameless.proofs.transport.Vocabulary.{ltb-true}
+use Rattle.osi_blameless.proofs.transport.Vocabulary.{MayCall, None, open_link, Option, proposal, proposal_by, pumped, push_here}
+use Rattle.osi_blameless.proofs.transport.Vocabulary.{push_other, put_closing}
+use Rattle.osi_blameless.proofs.transport.Vocabulary.{put_here, put_other, put_sent, put_together, refl, request, Right, sends, sends_all}
+use Rattle.osi_blameless.proofs.transport.Vocabulary.{sent, sent_all}
+use Rattle.osi_blameless.proofs.transport.Vocabulary.{slice_get, Some, Standing, State, subst, sym, true, Two, user_does, UserCall, Value}
+use Rattle.osi_blameless.proofs.transport.Vocabulary.{value_at, Whole}
 use Rattle.osi_blameless.proofs.transport.Vocabulary.{with_tsdu, ℕ, ◌++◌, ◌+◌, ◌==◌, ◌∙◌, ◌∷◌, ◌≡◌, ◌≤◌}
 use Rattle.osi_carrier.specs.Calls.{sent_on}
 use Rattle.osi_blameless.proofs.transport.small_facts_that_many_lemmas_use.{all_join, differ}
@@ -14,8 +21,10 @@ use Rattle.osi_blameless.proofs.transport.lines.a_carrier_follows_lines.{follows
 use Rattle.osi_blameless.proofs.transport.requests.a_request_of_a_whole_end_is_new.{Newer}
 use Rattle.osi_blameless.proofs.transport.calling.what_a_unit_leaves_at_a_calling_end.{Linked, ends, still}
 use Rattle.osi_blameless.proofs.transport.lines.calls_of_a_line_join.{follows_together, still_open}
-use Rattle.osi_blameless.proofs.transport.connections.each_connection_has_its_line.{followed_at, AreGiven, AreSettled, Followed, Following, IsAnswer, IsAsking}
-use Rattle.osi_blameless.proofs.transport.connections.each_connection_has_its_line.{IsOwned, Row, Tracked, all_so, asking, asks, closes, over, talks}
+use Rattle.osi_blameless.proofs.transport.connections.each_connection_has_its_line.{followed_at, AreGiven, AreSettled, Followed, Following}
+use Rattle.osi_blameless.proofs.transport.connections.each_connection_has_its_line.{IsAnswer, IsAsking}
+use Rattle.osi_blameless.proofs.transport.connections.each_connection_has_its_line.{IsOwned, Row, Tracked, all_so, asking, asks, closes}
+use Rattle.osi_blameless.proofs.transport.connections.each_connection_has_its_line.{over, talks}
 use Rattle.osi_blameless.proofs.transport.lines.how_a_connection_opens.{asked_so}
 use Rattle.osi_blameless.proofs.transport.requests.references_of_requests_rise.{all_gives, closed_gives, sent_gives}
 use Rattle.osi_blameless.proofs.transport.connections.what_a_calling_end_still_has.{OffersTwo}

@@ -1,17 +1,23 @@
 -- A whole calling end takes a unit: what it was for its connection is an act of the line, and the other lines stay.
 -- For the law on a whole end.
-use Rattle.osi_blameless.proofs.transport.Vocabulary.{[], agreed_size, AllByRecursion, ap, append-nil, arith, asked, beyond, Bool, CarrierOutcome}
-use Rattle.osi_blameless.proofs.transport.Vocabulary.{changes_one, closing, confirm, Connect, Connection, disconnected, false, Follows, ignores, inl, inr}
-use Rattle.osi_blameless.proofs.transport.Vocabulary.{is_some, IsOrderly, Left, Line, linked, List, Live, Local, ltb-false, ltb-true, None, opened_link}
-use Rattle.osi_blameless.proofs.transport.Vocabulary.{Option, outcome, put_for, refl, Right, slice_get, Some, Standing, State, state_is, subst, sym}
-use Rattle.osi_blameless.proofs.transport.Vocabulary.{to_connection, true, Two, Value, value_at, Whole, without_here, ℕ, ◌++◌, ◌==◌, ◌∙◌, ◌∷◌, ◌≡◌, ◌≤◌}
+use Rattle.osi_blameless.proofs.transport.Vocabulary.{[], agreed_size, AllByRecursion, ap, append-nil, arith, asked, beyond, Bool}
+use Rattle.osi_blameless.proofs.transport.Vocabulary.{CarrierOutcome}
+use Rattle.osi_blameless.proofs.transport.Vocabulary.{changes_one, closing, confirm, Connect, Connection, disconnected, false, Follows}
+use Rattle.osi_blameless.proofs.transport.Vocabulary.{ignores, inl, inr}
+use Rattle.osi_blameless.proofs.transport.Vocabulary.{is_some, IsOrderly, Left, Line, linked, List, Live, Local, ltb-false, ltb-true, None}
+use Rattle.osi_blameless.proofs.transport.Vocabulary.{opened_link}
+use Rattle.osi_blameless.proofs.transport.Vocabulary.{Option, outcome, put_for, refl, Right, slice_get, Some, Standing, State, state_is}
+use Rattle.osi_blameless.proofs.transport.Vocabulary.{subst, sym}
+use Rattle.osi_blameless.proofs.transport.Vocabulary.{to_connection, true, Two, Value, value_at, Whole, without_here, ℕ, ◌++◌, ◌==◌, ◌∙◌}
+use Rattle.osi_blameless.proofs.transport.Vocabulary.{◌∷◌, ◌≡◌, ◌≤◌}
 use Rattle.osi_blameless.proofs.transport.Vocabulary.{◌⊎◌}
 use Rattle.std.proofs.lemmas.List.{append_assoc}
 unfoldable use Rattle.osi_carrier.specs.React.{react}
 use Rattle.osi_blameless.proofs.transport.small_facts_that_many_lemmas_use.{all_join, differ, number_is as same_number, number_is}
 use Rattle.osi_blameless.proofs.transport.lines.a_carrier_follows_lines.{follows_open}
 use Rattle.osi_blameless.proofs.transport.requests.a_request_of_a_whole_end_is_new.{unit_gives}
-use Rattle.osi_blameless.proofs.transport.connections.each_connection_has_its_line.{followed_at, Followed, Following, IsAnswer, IsNoCc, IsSpare, Row, Tracked, asks}
+use Rattle.osi_blameless.proofs.transport.connections.each_connection_has_its_line.{followed_at, Followed, Following, IsAnswer, IsNoCc}
+use Rattle.osi_blameless.proofs.transport.connections.each_connection_has_its_line.{IsSpare, Row, Tracked, asks}
 use Rattle.osi_blameless.proofs.transport.connections.each_connection_has_its_line.{closes, is_tracked, over, talks}
 use Rattle.osi_blameless.proofs.transport.connections.what_a_calling_end_still_has.{OffersTwo, SelectsTwo, unit_after}
 use Rattle.osi_blameless.proofs.transport.calling.what_a_whole_end_takes.{Puts, leads_more, nothing, of_line, of_none, taken_so}
@@ -19,12 +25,15 @@ use Rattle.osi_blameless.proofs.transport.names.names_stay_apart_though_one_is_l
 use Rattle.osi_blameless.proofs.transport.connections.what_the_other_side_closes.{IsDr, IsSane}
 use Rattle.osi_blameless.proofs.transport.connections.which_units_are_for_a_connection.{picked_first, is_dc, is_ours, named_so, names}
 use Rattle.osi_blameless.proofs.transport.connections.which_units_are_for_a_connection.{picked_more, picked_other, ours, ours_is, those}
-use Rattle.osi_blameless.proofs.transport.calling.what_a_unit_leaves_at_a_calling_end.{Asks, Closes, Linked, Named, asked_so, dr_closes, drops, early_dc}
-use Rattle.osi_blameless.proofs.transport.calling.what_a_unit_leaves_at_a_calling_end.{early_parts, linked_so, named_by, no_answer, opened, or_strays}
+use Rattle.osi_blameless.proofs.transport.calling.what_a_unit_leaves_at_a_calling_end.{Asks, Closes, Linked, Named, asked_so, dr_closes}
+use Rattle.osi_blameless.proofs.transport.calling.what_a_unit_leaves_at_a_calling_end.{drops, early_dc}
+use Rattle.osi_blameless.proofs.transport.calling.what_a_unit_leaves_at_a_calling_end.{early_parts, linked_so, named_by, no_answer, opened}
+use Rattle.osi_blameless.proofs.transport.calling.what_a_unit_leaves_at_a_calling_end.{or_strays}
 use Rattle.osi_blameless.proofs.transport.calling.what_a_unit_leaves_at_a_calling_end.{asked_puts, stays, unknown_so}
 use Rattle.osi_blameless.proofs.transport.connections.what_is_live_at_an_end.{IsLive, shuts_of}
 use Rattle.osi_blameless.proofs.transport.connections.a_line_since_its_connection_opened.{tracks_on}
-use Rattle.osi_blameless.proofs.transport.calling.what_a_whole_end_takes.{dc_still, dc_waits, line_grows, not_asked_then, open_owner, other_n}
+use Rattle.osi_blameless.proofs.transport.calling.what_a_whole_end_takes.{dc_still, dc_waits, line_grows, not_asked_then, open_owner}
+use Rattle.osi_blameless.proofs.transport.calling.what_a_whole_end_takes.{other_n}
 
 none_first : (xs ys : List Value) → xs ++ ys ≡ [] → xs ≡ []
 none_first [] ys e = refl

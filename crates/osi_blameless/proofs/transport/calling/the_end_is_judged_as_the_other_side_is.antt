@@ -1,8 +1,11 @@
 -- As long as the other side is judged, an end is: what is right stops nothing, and what stops the end stops both sides.
 -- For the laws on whole ends.
-use Rattle.osi_blameless.proofs.transport.Vocabulary.{arith, asks_by, at_place, Class, class_for, Connect, Direction, false, Finding, is_stopped, Kept}
-use Rattle.osi_blameless.proofs.transport.Vocabulary.{Left, none_told, NotJudged, Option, other, Outcome, Reach, reach_of, refl, Right, Route, routed}
-use Rattle.osi_blameless.proofs.transport.Vocabulary.{Some, stops_are_said, takes, TooMany, Traffic as State, true, Value, Zero, ℕ, ◌≡◌, ◌⊎◌}
+use Rattle.osi_blameless.proofs.transport.Vocabulary.{arith, asks_by, at_place, Class, class_for, Connect, Direction, false, Finding}
+use Rattle.osi_blameless.proofs.transport.Vocabulary.{is_stopped, Kept}
+use Rattle.osi_blameless.proofs.transport.Vocabulary.{Left, none_told, NotJudged, Option, other, Outcome, Reach, reach_of, refl, Right}
+use Rattle.osi_blameless.proofs.transport.Vocabulary.{Route, routed}
+use Rattle.osi_blameless.proofs.transport.Vocabulary.{Some, stops_are_said, takes, TooMany, Traffic as State, true, Value, Zero, ℕ, ◌≡◌}
+use Rattle.osi_blameless.proofs.transport.Vocabulary.{◌⊎◌}
 use Rattle.osi_rules.specs.declared.findings.Reach.TheVariants as reach
 use Rattle.osi_blameless.proofs.transport.small_facts_that_many_lemmas_use.{differ}
 

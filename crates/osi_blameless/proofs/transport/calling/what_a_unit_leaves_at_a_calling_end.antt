@@ -1,10 +1,15 @@
 -- What a calling end has of a connection after it has taken a unit that names it.
 -- For the law on a whole end.
-use Rattle.osi_blameless.proofs.transport.Vocabulary.{[], agreed_size, AllByRecursion, ap, arith, asked, Bool, closing, confirm, Connect, destination_of}
-use Rattle.osi_blameless.proofs.transport.Vocabulary.{disconnect, disconnected, Err, error, false, handed_out, if◌then◌else◌, in_two, inl, inr, is_some}
-use Rattle.osi_blameless.proofs.transport.Vocabulary.{Left, linked, LinkFault, List, Live, None, Ok, opened_link, opens, Option, outcome, proposes_zero}
-use Rattle.osi_blameless.proofs.transport.Vocabulary.{pumped, put_here, refl, Result, RiseFrom, Some, Standing, State, state_is, sym, taking, to_asked}
-use Rattle.osi_blameless.proofs.transport.Vocabulary.{to_connection, to_linked, to_unknown, true, Two, Value, value_at, without_here, Zero, ℕ, ◌++◌, ◌∙◌}
+use Rattle.osi_blameless.proofs.transport.Vocabulary.{[], agreed_size, AllByRecursion, ap, arith, asked, Bool, closing, confirm, Connect}
+use Rattle.osi_blameless.proofs.transport.Vocabulary.{destination_of}
+use Rattle.osi_blameless.proofs.transport.Vocabulary.{disconnect, disconnected, Err, error, false, handed_out, if◌then◌else◌, in_two, inl}
+use Rattle.osi_blameless.proofs.transport.Vocabulary.{inr, is_some}
+use Rattle.osi_blameless.proofs.transport.Vocabulary.{Left, linked, LinkFault, List, Live, None, Ok, opened_link, opens, Option, outcome}
+use Rattle.osi_blameless.proofs.transport.Vocabulary.{proposes_zero}
+use Rattle.osi_blameless.proofs.transport.Vocabulary.{pumped, put_here, refl, Result, RiseFrom, Some, Standing, State, state_is, sym}
+use Rattle.osi_blameless.proofs.transport.Vocabulary.{taking, to_asked}
+use Rattle.osi_blameless.proofs.transport.Vocabulary.{to_connection, to_linked, to_unknown, true, Two, Value, value_at, without_here, Zero}
+use Rattle.osi_blameless.proofs.transport.Vocabulary.{ℕ, ◌++◌, ◌∙◌}
 use Rattle.osi_blameless.proofs.transport.Vocabulary.{◌∷◌, ◌≡◌, ◌≢◌, ◌⊎◌}
 unfoldable use Rattle.osi_carrier.specs.React.{react}
 use Rattle.osi_blameless.proofs.transport.small_facts_that_many_lemmas_use.{differ, first_is, no_list, number_is, rest_is}

@@ -1,20 +1,27 @@
 -- What the line of each connection of a whole calling end is after the end has taken a unit that names a connection.
 -- For the law on a whole end.
-use Rattle.osi_blameless.proofs.transport.Vocabulary.{[], AllByRecursion, ap, append-nil, arith, asked, Bool, confirm, Connect, Connection, destination_of}
-use Rattle.osi_blameless.proofs.transport.Vocabulary.{disconnected, eqb-true, false, Follows, Half, inl, inr, is_some, Left, Line, link_now, linked, List}
-use Rattle.osi_blameless.proofs.transport.Vocabulary.{Local, None, refl, request, Right, slice_get, Some, Standing, State, subst, sym, Traffic, true, Two}
+use Rattle.osi_blameless.proofs.transport.Vocabulary.{[], AllByRecursion, ap, append-nil, arith, asked, Bool, confirm, Connect, Connection}
+use Rattle.osi_blameless.proofs.transport.Vocabulary.{destination_of}
+use Rattle.osi_blameless.proofs.transport.Vocabulary.{disconnected, eqb-true, false, Follows, Half, inl, inr, is_some, Left, Line, link_now}
+use Rattle.osi_blameless.proofs.transport.Vocabulary.{linked, List}
+use Rattle.osi_blameless.proofs.transport.Vocabulary.{Local, None, refl, request, Right, slice_get, Some, Standing, State, subst, sym}
+use Rattle.osi_blameless.proofs.transport.Vocabulary.{Traffic, true, Two}
 use Rattle.osi_blameless.proofs.transport.Vocabulary.{Value, value_at, Whole, ℕ, ◌&&◌, ◌++◌, ◌==◌, ◌∙◌, ◌∷◌, ◌≡◌, ◌≢◌, ◌≤◌}
 use Rattle.osi_blameless.proofs.transport.small_facts_that_many_lemmas_use.{all_join, first_is, rest_is, differ, no_list}
 use Rattle.osi_blameless.proofs.transport.calling.a_unit_of_a_whole_end_passes.{all_two}
 use Rattle.osi_blameless.proofs.transport.connections.no_two_open_connections_have_one_peer.{one_peer}
-use Rattle.osi_blameless.proofs.transport.connections.each_connection_has_its_line.{IsNoCc, followed_at, AreSettled, Followed, Following, IsAnswer, IsAsking, IsOwned}
-use Rattle.osi_blameless.proofs.transport.connections.each_connection_has_its_line.{AreGiven, IsSettled, Row, Tracked, Waiting, all_so, asks, closes, over, is_tracked}
+use Rattle.osi_blameless.proofs.transport.connections.each_connection_has_its_line.{IsNoCc, followed_at, AreSettled, Followed, Following}
+use Rattle.osi_blameless.proofs.transport.connections.each_connection_has_its_line.{IsAnswer, IsAsking, IsOwned}
+use Rattle.osi_blameless.proofs.transport.connections.each_connection_has_its_line.{AreGiven, IsSettled, Row, Tracked, Waiting, all_so}
+use Rattle.osi_blameless.proofs.transport.connections.each_connection_has_its_line.{asks, closes, over, is_tracked}
 use Rattle.osi_blameless.proofs.transport.connections.each_connection_has_its_line.{of}
 use Rattle.osi_blameless.proofs.transport.connections.each_connection_has_its_line.{stray, talks}
 use Rattle.osi_blameless.proofs.transport.names.names_stay_apart_though_one_is_lost.{AreNamedApart}
 use Rattle.osi_blameless.proofs.transport.connections.what_the_other_side_closes.{IsSane}
-use Rattle.osi_blameless.proofs.transport.connections.which_units_are_for_a_connection.{picked_each, AllOurs, IsDc, IsOf, dc_not_ours, picked_rest, is_dc, is_ours}
-use Rattle.osi_blameless.proofs.transport.connections.which_units_are_for_a_connection.{leads, named_not, named_so, names, none_ours, picked_other, ours, picked_join}
+use Rattle.osi_blameless.proofs.transport.connections.which_units_are_for_a_connection.{picked_each, AllOurs, IsDc, IsOf, dc_not_ours}
+use Rattle.osi_blameless.proofs.transport.connections.which_units_are_for_a_connection.{picked_rest, is_dc, is_ours}
+use Rattle.osi_blameless.proofs.transport.connections.which_units_are_for_a_connection.{leads, named_not, named_so, names, none_ours}
+use Rattle.osi_blameless.proofs.transport.connections.which_units_are_for_a_connection.{picked_other, ours, picked_join}
 use Rattle.osi_blameless.proofs.transport.connections.which_units_are_for_a_connection.{those}
 use Rattle.osi_blameless.proofs.transport.class_0.a_dt_of_class_zero_passes.{unlike}
 use Rattle.osi_blameless.proofs.transport.connections.a_line_since_its_connection_opened.{tracks_keep, tracks_on}

@@ -1,11 +1,14 @@
 -- What has come for each connection of a calling end, with one unit more.
 -- For the law on a whole end.
-use Rattle.osi_blameless.proofs.transport.Vocabulary.{[], AllByRecursion, ap, arith, Bool, Connection, false, is_some, Line, List, Local, None, State}
+use Rattle.osi_blameless.proofs.transport.Vocabulary.{[], AllByRecursion, ap, arith, Bool, Connection, false, is_some, Line, List, Local}
+use Rattle.osi_blameless.proofs.transport.Vocabulary.{None, State}
 use Rattle.osi_blameless.proofs.transport.Vocabulary.{subst, sym, true, Value, ℕ, ◌++◌, ◌∙◌, ◌∷◌, ◌≡◌}
 use Rattle.std.proofs.lemmas.List.{append_assoc}
 use Rattle.osi_blameless.proofs.transport.small_facts_that_many_lemmas_use.{none_of as no_end}
-use Rattle.osi_blameless.proofs.transport.connections.each_connection_has_its_line.{followed_at, Following, Row, IsSpare, Waiting, all_so, asks, closes, over, talks}
-use Rattle.osi_blameless.proofs.transport.connections.which_units_are_for_a_connection.{IsDc, is_dc, names, picked_more, picked_other, those}
+use Rattle.osi_blameless.proofs.transport.connections.each_connection_has_its_line.{followed_at, Following, Row, IsSpare, Waiting, all_so}
+use Rattle.osi_blameless.proofs.transport.connections.each_connection_has_its_line.{asks, closes, over, talks}
+use Rattle.osi_blameless.proofs.transport.connections.which_units_are_for_a_connection.{IsDc, is_dc, names, picked_more, picked_other}
+use Rattle.osi_blameless.proofs.transport.connections.which_units_are_for_a_connection.{those}
 use Rattle.osi_blameless.proofs.transport.small_facts_that_many_lemmas_use.{all_add}
 
 -- ---- what has come for a connection, with one unit more

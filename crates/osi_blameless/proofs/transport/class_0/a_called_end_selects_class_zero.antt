@@ -1,11 +1,16 @@
 -- A whole called end selects class 0: what holds until its CC has passed, as the end goes on and packets begin; and the CC passes, which is
 -- right. For the law on a whole called end.
-use Rattle.osi_blameless.proofs.transport.Vocabulary.{[], accept, acceptance, ap, arith, begins, Bool, confirm, Connect, Connection, Course, course_after}
-use Rattle.osi_blameless.proofs.transport.Vocabulary.{Direction, eq-eqb, false, found, found_on, Half, IfSome, inl, is_named, is_refused, Kept, List}
+use Rattle.osi_blameless.proofs.transport.Vocabulary.{[], accept, acceptance, ap, arith, begins, Bool, confirm, Connect, Connection, Course}
+use Rattle.osi_blameless.proofs.transport.Vocabulary.{course_after}
+use Rattle.osi_blameless.proofs.transport.Vocabulary.{Direction, eq-eqb, false, found, found_on, Half, IfSome, inl, is_named, is_refused}
+use Rattle.osi_blameless.proofs.transport.Vocabulary.{Kept, List}
 use Rattle.osi_blameless.proofs.transport.Vocabulary.{list_any, Local, map, MayCall, min, None, Option, option_map, packet_begins, position}
-use Rattle.osi_blameless.proofs.transport.Vocabulary.{position_or_len, pow-le-pow_right, put_by, put_for, react, refl, Right, selected_by, sent_on, set}
-use Rattle.osi_blameless.proofs.transport.Vocabulary.{slice_get, Some, subst, suc, sym, takes, Traffic, true, unit_octets, user_does, UserCall, uses}
-use Rattle.osi_blameless.proofs.transport.Vocabulary.{uses_source, Value, Whole, Zero, zero, ℕ, ◌++◌, ◌+◌, ◌-◌, ◌==◌, ◌^◌, ◌∙◌, ◌∷◌, ◌≡◌, ◌≤◌}
+use Rattle.osi_blameless.proofs.transport.Vocabulary.{position_or_len, pow-le-pow_right, put_by, put_for, react, refl, Right, selected_by}
+use Rattle.osi_blameless.proofs.transport.Vocabulary.{sent_on, set}
+use Rattle.osi_blameless.proofs.transport.Vocabulary.{slice_get, Some, subst, suc, sym, takes, Traffic, true, unit_octets, user_does}
+use Rattle.osi_blameless.proofs.transport.Vocabulary.{UserCall, uses}
+use Rattle.osi_blameless.proofs.transport.Vocabulary.{uses_source, Value, Whole, Zero, zero, ℕ, ◌++◌, ◌+◌, ◌-◌, ◌==◌, ◌^◌, ◌∙◌, ◌∷◌, ◌≡◌}
+use Rattle.osi_blameless.proofs.transport.Vocabulary.{◌≤◌}
 use Rattle.osi_blameless.proofs.transport.small_facts_that_many_lemmas_use.{begun_right, course_class, item_is, and_false, any_none}
 use Rattle.osi_blameless.proofs.transport.small_facts_that_many_lemmas_use.{first_is, judged_so, name_so, rest_is, unequal, differ}
 use Rattle.osi_blameless.proofs.transport.called.each_connection_of_a_called_end.{Asked}

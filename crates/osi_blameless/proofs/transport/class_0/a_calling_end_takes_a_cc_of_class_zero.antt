@@ -1,9 +1,13 @@
 -- A calling end takes the CC that selects class 0; once that has passed, the end is in class 0 as it will have taken it.
 -- For the laws on whole calling ends.
-use Rattle.osi_blameless.proofs.transport.Vocabulary.{[], agreed_size, ap, arith, asked, Bool, confirm, Connect, Connection, Disconnects, false, IfSome}
-use Rattle.osi_blameless.proofs.transport.Vocabulary.{if◌then◌else◌, inr, is_open, is_refused, IsConnect, Left, linked, List, Live, Local, min, None}
-use Rattle.osi_blameless.proofs.transport.Vocabulary.{Offer, opened_link, opens, Option, option_map, pow-le-pow_right, put, react, refl, Right, Rows}
-use Rattle.osi_blameless.proofs.transport.Vocabulary.{sent_on, size_code, Some, State, subst, sym, to_connection, true, Two, unit_octets, value_at, Zero}
+use Rattle.osi_blameless.proofs.transport.Vocabulary.{[], agreed_size, ap, arith, asked, Bool, confirm, Connect, Connection, Disconnects}
+use Rattle.osi_blameless.proofs.transport.Vocabulary.{false, IfSome}
+use Rattle.osi_blameless.proofs.transport.Vocabulary.{if◌then◌else◌, inr, is_open, is_refused, IsConnect, Left, linked, List, Live, Local}
+use Rattle.osi_blameless.proofs.transport.Vocabulary.{min, None}
+use Rattle.osi_blameless.proofs.transport.Vocabulary.{Offer, opened_link, opens, Option, option_map, pow-le-pow_right, put, react, refl}
+use Rattle.osi_blameless.proofs.transport.Vocabulary.{Right, Rows}
+use Rattle.osi_blameless.proofs.transport.Vocabulary.{sent_on, size_code, Some, State, subst, sym, to_connection, true, Two, unit_octets}
+use Rattle.osi_blameless.proofs.transport.Vocabulary.{value_at, Zero}
 use Rattle.osi_blameless.proofs.transport.Vocabulary.{ℕ, ◌+◌, ◌-◌, ◌==◌, ◌^◌, ◌∙◌, ◌≡◌, ◌≤◌}
 use Rattle.osi_blameless.proofs.transport.small_facts_that_many_lemmas_use.{differ, no_two}
 use Rattle.osi_blameless.proofs.transport.class_0.an_end_goes_on_in_class_zero.{IsZeroed, other_one, shut_first}

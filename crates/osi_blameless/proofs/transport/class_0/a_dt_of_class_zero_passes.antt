@@ -1,9 +1,13 @@
 -- A DT of class 0 passes: it is for the one connection that is not over, it is right if it is not too long, and only what its sender
 -- has sent of a TSDU changes. For the laws on whole ends.
-use Rattle.osi_blameless.proofs.transport.Vocabulary.{ap, arith, Bool, false, IfSome, length, List, Option, refl, set, Some, true, ℕ, ◌+◌, ◌∙◌, ◌≡◌, ◌≤◌}
-use Rattle.osi_blameless.proofs.transport.Vocabulary.{eq-eqb, le-leb, position_or_len, position, slice_get, ◌==◌, data0, Value, longest_tsdu, Zero}
-use Rattle.osi_blameless.proofs.transport.Vocabulary.{data0_tests, first_failed, fits_size, is_live, is_over, own, begun_after, class_for, found}
-use Rattle.osi_blameless.proofs.transport.Vocabulary.{is_stopped, one_told, Outcome, route_zero, sent_on, Traffic, takes, Connection, Course, Direction}
+use Rattle.osi_blameless.proofs.transport.Vocabulary.{ap, arith, Bool, false, IfSome, length, List, Option, refl, set, Some, true, ℕ, ◌+◌}
+use Rattle.osi_blameless.proofs.transport.Vocabulary.{◌∙◌, ◌≡◌, ◌≤◌}
+use Rattle.osi_blameless.proofs.transport.Vocabulary.{eq-eqb, le-leb, position_or_len, position, slice_get, ◌==◌, data0, Value}
+use Rattle.osi_blameless.proofs.transport.Vocabulary.{longest_tsdu, Zero}
+use Rattle.osi_blameless.proofs.transport.Vocabulary.{data0_tests, first_failed, fits_size, is_live, is_over, own, begun_after, class_for}
+use Rattle.osi_blameless.proofs.transport.Vocabulary.{found}
+use Rattle.osi_blameless.proofs.transport.Vocabulary.{is_stopped, one_told, Outcome, route_zero, sent_on, Traffic, takes, Connection}
+use Rattle.osi_blameless.proofs.transport.Vocabulary.{Course, Direction}
 use Rattle.osi_blameless.proofs.transport.Vocabulary.{Kept, Half, Only}
 use Rattle.osi_blameless.proofs.transport.small_facts_that_many_lemmas_use.{differ, judged_so}
 use Rattle.osi_blameless.proofs.transport.names.a_right_unit_is_not_blamed.{first_there, is_first}

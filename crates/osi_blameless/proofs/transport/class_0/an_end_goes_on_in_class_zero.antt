@@ -1,14 +1,23 @@
 -- An end in class 0, calling or called: what holds once the CC has passed that selects it, as the end goes on, as packets begin and as
 -- units pass. For the laws on whole ends.
-use Rattle.osi_blameless.proofs.transport.Vocabulary.{ap, arith, at_found, at_place, begins, begun_after, Bool, Broke, Class, class_for, Connection}
-use Rattle.osi_blameless.proofs.transport.Vocabulary.{connection_after, Course, course_after, course_after_none, data0, Direction, disconnected, eqb-true}
-use Rattle.osi_blameless.proofs.transport.Vocabulary.{error, false, Finding, found_on, Half, has_broken, IfSome, if◌then◌else◌, inl, inr, is_applied}
-use Rattle.osi_blameless.proofs.transport.Vocabulary.{is_closed, is_closing, is_live, is_named, is_open, is_over, is_over_by, is_refused, is_stopped, Kept}
-use Rattle.osi_blameless.proofs.transport.Vocabulary.{Left, length, List, longest_tsdu, MayCall, Named, None, none_told, not, noted, NotJudged, one_told}
-use Rattle.osi_blameless.proofs.transport.Vocabulary.{Only, Option, option_map, other, Outcome, own, packet_begins, Phase, position, put, put_by, put_for}
-use Rattle.osi_blameless.proofs.transport.Vocabulary.{Reach, reach_of, reached, react, refl, refused, refused_reach, request, Right, Route, route}
-use Rattle.osi_blameless.proofs.transport.Vocabulary.{route_in, route_zero, routed, rubbish, seen, sent_on, set, slice_get, slice_get-map, Some, State}
-use Rattle.osi_blameless.proofs.transport.Vocabulary.{subst, sym, takes, theirs, Traffic, true, unit as passing, Unnamed, unnamed_told, user_does}
+use Rattle.osi_blameless.proofs.transport.Vocabulary.{ap, arith, at_found, at_place, begins, begun_after, Bool, Broke, Class, class_for}
+use Rattle.osi_blameless.proofs.transport.Vocabulary.{Connection}
+use Rattle.osi_blameless.proofs.transport.Vocabulary.{connection_after, Course, course_after, course_after_none, data0, Direction}
+use Rattle.osi_blameless.proofs.transport.Vocabulary.{disconnected, eqb-true}
+use Rattle.osi_blameless.proofs.transport.Vocabulary.{error, false, Finding, found_on, Half, has_broken, IfSome, if◌then◌else◌, inl, inr}
+use Rattle.osi_blameless.proofs.transport.Vocabulary.{is_applied}
+use Rattle.osi_blameless.proofs.transport.Vocabulary.{is_closed, is_closing, is_live, is_named, is_open, is_over, is_over_by, is_refused}
+use Rattle.osi_blameless.proofs.transport.Vocabulary.{is_stopped, Kept}
+use Rattle.osi_blameless.proofs.transport.Vocabulary.{Left, length, List, longest_tsdu, MayCall, Named, None, none_told, not, noted}
+use Rattle.osi_blameless.proofs.transport.Vocabulary.{NotJudged, one_told}
+use Rattle.osi_blameless.proofs.transport.Vocabulary.{Only, Option, option_map, other, Outcome, own, packet_begins, Phase, position, put}
+use Rattle.osi_blameless.proofs.transport.Vocabulary.{put_by, put_for}
+use Rattle.osi_blameless.proofs.transport.Vocabulary.{Reach, reach_of, reached, react, refl, refused, refused_reach, request, Right, Route}
+use Rattle.osi_blameless.proofs.transport.Vocabulary.{route}
+use Rattle.osi_blameless.proofs.transport.Vocabulary.{route_in, route_zero, routed, rubbish, seen, sent_on, set, slice_get, slice_get-map}
+use Rattle.osi_blameless.proofs.transport.Vocabulary.{Some, State}
+use Rattle.osi_blameless.proofs.transport.Vocabulary.{subst, sym, takes, theirs, Traffic, true, unit as passing, Unnamed, unnamed_told}
+use Rattle.osi_blameless.proofs.transport.Vocabulary.{user_does}
 use Rattle.osi_blameless.proofs.transport.Vocabulary.{UserCall, Value, Zero, ℕ, ◌&&◌, ◌++◌, ◌+◌, ◌==◌, ◌||◌, ◌∙◌, ◌∷◌, ◌≡◌, ◌≤◌, ◌⊎◌}
 use Rattle.osi_rules.specs.Traffic.{unnamed}
 use Rattle.osi_rules.specs.declared.findings.Rule.TheVariants as rule

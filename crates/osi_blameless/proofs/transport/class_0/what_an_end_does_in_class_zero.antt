@@ -1,19 +1,27 @@
 -- An end of class 0 takes a unit, or its user makes a call: it goes on with DTs alone, or ends.
 -- For the laws on whole ends.
-use Rattle.osi_blameless.proofs.transport.Vocabulary.{[], ap, append_assoc, Bool, Err, false, if◌then◌else◌, is_some, length, List, None, Ok, Option, refl}
-use Rattle.osi_blameless.proofs.transport.Vocabulary.{Result, Some, subst, sym, true, ℕ, ◌++◌, ◌∙◌, ◌∷◌, ◌≡◌, ◌≤◌, eq-eqb, eqb-true, append-nil}
-use Rattle.osi_blameless.proofs.transport.Vocabulary.{AllByRecursion, ◌==◌, disconnect, request, Value, longest_tsdu, Standing, taken, with_tsdu}
-use Rattle.osi_blameless.proofs.transport.Vocabulary.{LinkFault, Class, Zero, closed_on, link_of, may_connect, open_link, sent, sent_all, pumped}
-use Rattle.osi_blameless.proofs.transport.Vocabulary.{written_by, handed_out, in_class, in_zero, react_by, taking, to_linked, to_only, put, Rows, value_at}
-use Rattle.osi_blameless.proofs.transport.Vocabulary.{breaks, closes_call, connects, sends, sends_all, user_does, UserCall, Live, ends as ends_as, linked}
-use Rattle.osi_blameless.proofs.transport.Vocabulary.{EndReason, put_by, put_closing, put_for, put_sent, put_together, MayCall, arith, State, outcome}
+use Rattle.osi_blameless.proofs.transport.Vocabulary.{[], ap, append_assoc, Bool, Err, false, if◌then◌else◌, is_some, length, List, None}
+use Rattle.osi_blameless.proofs.transport.Vocabulary.{Ok, Option, refl}
+use Rattle.osi_blameless.proofs.transport.Vocabulary.{Result, Some, subst, sym, true, ℕ, ◌++◌, ◌∙◌, ◌∷◌, ◌≡◌, ◌≤◌, eq-eqb, eqb-true}
+use Rattle.osi_blameless.proofs.transport.Vocabulary.{append-nil}
+use Rattle.osi_blameless.proofs.transport.Vocabulary.{AllByRecursion, ◌==◌, disconnect, request, Value, longest_tsdu, Standing, taken}
+use Rattle.osi_blameless.proofs.transport.Vocabulary.{with_tsdu}
+use Rattle.osi_blameless.proofs.transport.Vocabulary.{LinkFault, Class, Zero, closed_on, link_of, may_connect, open_link, sent, sent_all}
+use Rattle.osi_blameless.proofs.transport.Vocabulary.{pumped}
+use Rattle.osi_blameless.proofs.transport.Vocabulary.{written_by, handed_out, in_class, in_zero, react_by, taking, to_linked, to_only, put}
+use Rattle.osi_blameless.proofs.transport.Vocabulary.{Rows, value_at}
+use Rattle.osi_blameless.proofs.transport.Vocabulary.{breaks, closes_call, connects, sends, sends_all, user_does, UserCall, Live}
+use Rattle.osi_blameless.proofs.transport.Vocabulary.{ends as ends_as, linked}
+use Rattle.osi_blameless.proofs.transport.Vocabulary.{EndReason, put_by, put_closing, put_for, put_sent, put_together, MayCall, arith}
+use Rattle.osi_blameless.proofs.transport.Vocabulary.{State, outcome}
 use Rattle.osi_blameless.proofs.transport.Vocabulary.{CarrierOutcome, outcome_over}
 use Rattle.osi_carrier.specs.Calls.{sent_on}
 unfoldable use Rattle.osi_carrier.specs.React.{react}
 use Rattle.osi_blameless.proofs.transport.small_facts_that_many_lemmas_use.{differ}
 use Rattle.osi_blameless.proofs.transport.requests.how_a_calling_end_asks.{may_so, never}
 use Rattle.osi_blameless.proofs.transport.lines.what_a_link_does.{HaveRoom, room_more}
-use Rattle.osi_blameless.proofs.transport.class_0.what_an_end_puts_in_class_zero.{IsPlain, PutsData, drained_gives, drained_plain, puts_more, puts_still}
+use Rattle.osi_blameless.proofs.transport.class_0.what_an_end_puts_in_class_zero.{IsPlain, PutsData, drained_gives, drained_plain}
+use Rattle.osi_blameless.proofs.transport.class_0.what_an_end_puts_in_class_zero.{puts_more, puts_still}
 
 abbrev pub anyhow : ℕ → Type 0
 anyhow b = Unit {0}

@@ -1,8 +1,11 @@
 -- What a called end puts in class 0: DTs that are not too long, of TSDUs that are not too long.
 -- For the law on a whole called end.
-use Rattle.osi_blameless.proofs.transport.Vocabulary.{[], ap, arith, Bool, drop, false, if◌then◌else◌, length, List, map, nat_lt, None, Option, refl, Some}
-use Rattle.osi_blameless.proofs.transport.Vocabulary.{subst, suc, sym, take, true, zero, ℕ, ◌++◌, ◌+◌, ◌∷◌, ◌≡◌, ◌≤◌, ltb-false, ltb-true, append-nil}
-use Rattle.osi_blameless.proofs.transport.Vocabulary.{data0, Value, Ends, Flow, Drained, drained_by, drained_within, left_to_give, longest_tsdu, Given}
+use Rattle.osi_blameless.proofs.transport.Vocabulary.{[], ap, arith, Bool, drop, false, if◌then◌else◌, length, List, map, nat_lt, None}
+use Rattle.osi_blameless.proofs.transport.Vocabulary.{Option, refl, Some}
+use Rattle.osi_blameless.proofs.transport.Vocabulary.{subst, suc, sym, take, true, zero, ℕ, ◌++◌, ◌+◌, ◌∷◌, ◌≡◌, ◌≤◌, ltb-false, ltb-true}
+use Rattle.osi_blameless.proofs.transport.Vocabulary.{append-nil}
+use Rattle.osi_blameless.proofs.transport.Vocabulary.{data0, Value, Ends, Flow, Drained, drained_by, drained_within, left_to_give}
+use Rattle.osi_blameless.proofs.transport.Vocabulary.{longest_tsdu, Given}
 use Rattle.osi_blameless.proofs.transport.Vocabulary.{given_part, next_by, part0, Standing, unit_of, give, Part}
 use Rattle.osi_class.specs.Giving.{drained}
 use Rattle.osi_blameless.proofs.transport.lines.what_a_link_does.{AreShort, HaveRoom, begun_by, front_fits, rest_is}

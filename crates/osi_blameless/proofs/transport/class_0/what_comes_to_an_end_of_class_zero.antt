@@ -1,10 +1,15 @@
 -- A unit of the other side passes at the judge of a called end that selects class 0, before the CC has passed, and after it.
 -- For the law on a whole called end.
-use Rattle.osi_blameless.proofs.transport.Vocabulary.{[], ap, arith, asks_by, Bool, Broke, Class, Connect, Connection, connection_after, Course}
-use Rattle.osi_blameless.proofs.transport.Vocabulary.{disconnected, false, Finding, first_failed, found_on, Half, has_broken, inl, inr, is_applied}
-use Rattle.osi_blameless.proofs.transport.Vocabulary.{is_named, is_over, is_over_by, is_refused, Kept, Left, List, list_all, Local, None, not, one_told}
-use Rattle.osi_blameless.proofs.transport.Vocabulary.{Option, Outcome, position, Reach, reach_of, reached, refl, request, request_tests, Right, route}
-use Rattle.osi_blameless.proofs.transport.Vocabulary.{route_in, routed, set, slice_get, Some, State, subst, suc, sym, takes, Test, Traffic, true}
+use Rattle.osi_blameless.proofs.transport.Vocabulary.{[], ap, arith, asks_by, Bool, Broke, Class, Connect, Connection, connection_after}
+use Rattle.osi_blameless.proofs.transport.Vocabulary.{Course}
+use Rattle.osi_blameless.proofs.transport.Vocabulary.{disconnected, false, Finding, first_failed, found_on, Half, has_broken, inl, inr}
+use Rattle.osi_blameless.proofs.transport.Vocabulary.{is_applied}
+use Rattle.osi_blameless.proofs.transport.Vocabulary.{is_named, is_over, is_over_by, is_refused, Kept, Left, List, list_all, Local, None}
+use Rattle.osi_blameless.proofs.transport.Vocabulary.{not, one_told}
+use Rattle.osi_blameless.proofs.transport.Vocabulary.{Option, Outcome, position, Reach, reach_of, reached, refl, request, request_tests}
+use Rattle.osi_blameless.proofs.transport.Vocabulary.{Right, route}
+use Rattle.osi_blameless.proofs.transport.Vocabulary.{route_in, routed, set, slice_get, Some, State, subst, suc, sym, takes, Test, Traffic}
+use Rattle.osi_blameless.proofs.transport.Vocabulary.{true}
 use Rattle.osi_blameless.proofs.transport.Vocabulary.{unit as passing, Value, Whole, zero, ℕ, ◌&&◌, ◌++◌, ◌||◌, ◌∙◌, ◌∷◌, ◌≡◌, ◌⊎◌}
 use Rattle.osi_rules.specs.declared.findings.Rule.TheVariants as rule
 use Rattle.osi_blameless.proofs.transport.small_facts_that_many_lemmas_use.{and_first, and_second, differ, item_is, set_other}
@@ -13,11 +18,13 @@ use Rattle.osi_blameless.proofs.transport.called.what_comes_to_a_called_end.{ope
 use Rattle.osi_blameless.proofs.transport.names.what_keeps_names_apart.{AreApart}
 use Rattle.osi_blameless.proofs.transport.requests.what_lasts_at_the_judge.{lasts_passing}
 use Rattle.osi_blameless.proofs.transport.connections.what_stays_of_each_connection.{right_then}
-use Rattle.osi_blameless.proofs.transport.connections.which_unit_of_the_other_side_passes.{Came, IsCalm, asks_so as asks_came, calm_before, came_so, for_one}
+use Rattle.osi_blameless.proofs.transport.connections.which_unit_of_the_other_side_passes.{Came, IsCalm, asks_so as asks_came, calm_before}
+use Rattle.osi_blameless.proofs.transport.connections.which_unit_of_the_other_side_passes.{came_so, for_one}
 use Rattle.osi_blameless.proofs.transport.connections.which_unit_of_the_other_side_passes.{lost}
 use Rattle.osi_blameless.proofs.transport.requests.while_no_class_is_selected.{after_change}
 use Rattle.osi_blameless.proofs.transport.class_0.a_called_end_selects_class_zero.{Selecting}
-use Rattle.osi_blameless.proofs.transport.class_0.an_end_goes_on_in_class_zero.{After, IsEarly, IsZeroed, at_name, comes_by, comes_so, to_none}
+use Rattle.osi_blameless.proofs.transport.class_0.an_end_goes_on_in_class_zero.{After, IsEarly, IsZeroed, at_name, comes_by, comes_so}
+use Rattle.osi_blameless.proofs.transport.class_0.an_end_goes_on_in_class_zero.{to_none}
 use Rattle.osi_rules.specs.Traffic.{route_before}
 
 -- ---- small facts

@@ -1,10 +1,15 @@
 -- A line since its connection was opened, at either side: what happens goes on, and a unit of the end passes, be the connection judged or
 -- not. For the laws on whole ends.
-use Rattle.osi_blameless.proofs.transport.Vocabulary.{[], Act, ActsAlong, after_finding, ap, arith, Bool, class_for, Connection, course_after}
-use Rattle.osi_blameless.proofs.transport.Vocabulary.{destination_of, Direction, eq-eqb, false, Finding, finding_of, found, found_on, if◌then◌else◌}
-use Rattle.osi_blameless.proofs.transport.Vocabulary.{is_named, is_open, is_silent, is_stopped, IsAtPlace, IsOpened, IsRight, Kept, Left, Line, List, None}
-use Rattle.osi_blameless.proofs.transport.Vocabulary.{NotJudged, one_told, other, Outcome, own, passes_own, position, position_or_len, refl, Right, seen}
-use Rattle.osi_blameless.proofs.transport.Vocabulary.{sent_on, set, slice_get, Some, Standing, subst, sym, takes, Traffic, true, Two, uses_source, Value}
+use Rattle.osi_blameless.proofs.transport.Vocabulary.{[], Act, ActsAlong, after_finding, ap, arith, Bool, class_for, Connection}
+use Rattle.osi_blameless.proofs.transport.Vocabulary.{course_after}
+use Rattle.osi_blameless.proofs.transport.Vocabulary.{destination_of, Direction, eq-eqb, false, Finding, finding_of, found, found_on}
+use Rattle.osi_blameless.proofs.transport.Vocabulary.{if◌then◌else◌}
+use Rattle.osi_blameless.proofs.transport.Vocabulary.{is_named, is_open, is_silent, is_stopped, IsAtPlace, IsOpened, IsRight, Kept, Left}
+use Rattle.osi_blameless.proofs.transport.Vocabulary.{Line, List, None}
+use Rattle.osi_blameless.proofs.transport.Vocabulary.{NotJudged, one_told, other, Outcome, own, passes_own, position, position_or_len, refl}
+use Rattle.osi_blameless.proofs.transport.Vocabulary.{Right, seen}
+use Rattle.osi_blameless.proofs.transport.Vocabulary.{sent_on, set, slice_get, Some, Standing, subst, sym, takes, Traffic, true, Two}
+use Rattle.osi_blameless.proofs.transport.Vocabulary.{uses_source, Value}
 use Rattle.osi_blameless.proofs.transport.Vocabulary.{ℕ, ◌++◌, ◌∙◌, ◌∷◌, ◌≡◌, ◌≢◌}
 use Rattle.osi_blameless.proofs.transport.small_facts_that_many_lemmas_use.{differ, judged_same, no_list, name_so}
 use Rattle.osi_blameless.proofs.transport.names.a_right_unit_is_not_blamed.{first_there, is_first, named_of}

@@ -1,16 +1,23 @@
 -- Each connection of a calling end that is open at the judge has its line: what that says, and that it stays so as packets begin.
 -- For the law on a whole end.
-use Rattle.osi_blameless.proofs.transport.Vocabulary.{[], agreed_size, AllByRecursion, ap, arith, asked, asked_by, begins, begins_elsewhere, Bool, Class}
-use Rattle.osi_blameless.proofs.transport.Vocabulary.{closing, confirm, Connect, Connection, destination_of, Direction, disconnected, false, is_closing}
-use Rattle.osi_blameless.proofs.transport.Vocabulary.{is_open, is_silent, is_some, Left, Line, linked, List, Live, Local, map, None, opened_half}
-use Rattle.osi_blameless.proofs.transport.Vocabulary.{opened_link, Option, option_map, packet_begins, refl, request, Right, silent_half, slice_get}
-use Rattle.osi_blameless.proofs.transport.Vocabulary.{slice_get-map, Some, Standing, State, subst, sym, Traffic, true, Two, Value, value_at, Whole}
+use Rattle.osi_blameless.proofs.transport.Vocabulary.{[], agreed_size, AllByRecursion, ap, arith, asked, asked_by, begins, begins_elsewhere}
+use Rattle.osi_blameless.proofs.transport.Vocabulary.{Bool, Class}
+use Rattle.osi_blameless.proofs.transport.Vocabulary.{closing, confirm, Connect, Connection, destination_of, Direction, disconnected, false}
+use Rattle.osi_blameless.proofs.transport.Vocabulary.{is_closing}
+use Rattle.osi_blameless.proofs.transport.Vocabulary.{is_open, is_silent, is_some, Left, Line, linked, List, Live, Local, map, None}
+use Rattle.osi_blameless.proofs.transport.Vocabulary.{opened_half}
+use Rattle.osi_blameless.proofs.transport.Vocabulary.{opened_link, Option, option_map, packet_begins, refl, request, Right, silent_half}
+use Rattle.osi_blameless.proofs.transport.Vocabulary.{slice_get}
+use Rattle.osi_blameless.proofs.transport.Vocabulary.{slice_get-map, Some, Standing, State, subst, sym, Traffic, true, Two, Value, value_at}
+use Rattle.osi_blameless.proofs.transport.Vocabulary.{Whole}
 use Rattle.osi_blameless.proofs.transport.Vocabulary.{window_units, ℕ, ◌&&◌, ◌++◌, ◌==◌, ◌||◌, ◌∙◌, ◌∷◌, ◌≡◌, ◌≢◌, ◌≤◌, ◌⊎◌}
 use Rattle.osi_blameless.specs.transport.Lines.{begins_other, begins_own}
-use Rattle.osi_blameless.proofs.transport.small_facts_that_many_lemmas_use.{and_first, begins_judged, begun_left, begun_right, course_class, is_false}
+use Rattle.osi_blameless.proofs.transport.small_facts_that_many_lemmas_use.{and_first, begins_judged, begun_left, begun_right, course_class}
+use Rattle.osi_blameless.proofs.transport.small_facts_that_many_lemmas_use.{is_false}
 use Rattle.osi_blameless.proofs.transport.small_facts_that_many_lemmas_use.{no_list}
 use Rattle.osi_blameless.proofs.transport.names.what_holds_of_one_item.{HoldsOfEach, after_map}
-use Rattle.osi_blameless.proofs.transport.connections.which_units_are_for_a_connection.{IsDc, IsOf, is_dc, is_ours, leads, ours, those, picked_first}
+use Rattle.osi_blameless.proofs.transport.connections.which_units_are_for_a_connection.{IsDc, IsOf, is_dc, is_ours, leads, ours, those}
+use Rattle.osi_blameless.proofs.transport.connections.which_units_are_for_a_connection.{picked_first}
 use Rattle.osi_blameless.proofs.transport.connections.a_line_since_its_connection_opened.{Tracks, close_waits, tracks_keep, tracks_on}
 
 -- ---- the connections at the judge

@@ -1,7 +1,9 @@
 -- Of the connections that are open at the judge of a calling end, be they judged or not, no two have the same reference of the other side.
 -- For the law on a whole end.
-use Rattle.osi_blameless.proofs.transport.Vocabulary.{arith, [], false, List, refl, Some, suc, true, zero, ℕ, ◌++◌, ◌∷◌, ◌≡◌, eq-eqb, slice_get, ◌||◌}
-use Rattle.osi_blameless.proofs.transport.Vocabulary.{is_closing, is_open, is_over, is_silent, uses, Traffic, Connection, Left, Right, Phase}
+use Rattle.osi_blameless.proofs.transport.Vocabulary.{arith, [], false, List, refl, Some, suc, true, zero, ℕ, ◌++◌, ◌∷◌, ◌≡◌, eq-eqb}
+use Rattle.osi_blameless.proofs.transport.Vocabulary.{slice_get, ◌||◌}
+use Rattle.osi_blameless.proofs.transport.Vocabulary.{is_closing, is_open, is_over, is_silent, uses, Traffic, Connection, Left, Right}
+use Rattle.osi_blameless.proofs.transport.Vocabulary.{Phase}
 use Rattle.osi_blameless.proofs.transport.small_facts_that_many_lemmas_use.{and_first, and_second, name_so}
 use Rattle.osi_blameless.proofs.transport.connections.each_connection_has_its_line.{is_tracked}
 use Rattle.osi_blameless.proofs.transport.names.what_keeps_names_apart.{Sound}

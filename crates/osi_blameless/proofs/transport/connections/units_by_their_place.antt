@@ -1,6 +1,7 @@
 -- Units in order, each with the place at the judge of the connection that it is of: the units of one place.
 -- For the law on a whole called end.
-use Rattle.osi_blameless.proofs.transport.Vocabulary.{arith, [], ap, Bool, false, List, None, Option, refl, Some, true, ℕ, ◌++◌, ◌∙◌, ◌∷◌, ◌≡◌, eq-eqb}
+use Rattle.osi_blameless.proofs.transport.Vocabulary.{arith, [], ap, Bool, false, List, None, Option, refl, Some, true, ℕ, ◌++◌, ◌∙◌, ◌∷◌}
+use Rattle.osi_blameless.proofs.transport.Vocabulary.{◌≡◌, eq-eqb}
 use Rattle.osi_blameless.proofs.transport.Vocabulary.{◌==◌, Value}
 use Rattle.osi_blameless.proofs.transport.small_facts_that_many_lemmas_use.{unequal}
 use Rattle.osi_blameless.proofs.transport.connections.which_units_are_for_a_connection.{keep, names_in}

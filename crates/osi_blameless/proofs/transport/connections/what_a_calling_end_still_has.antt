@@ -1,11 +1,17 @@
 -- Which connections a calling end of class 2 still has after a unit or a call: all but the one that a DR, DC or ER names.
 -- For the law on DRs.
-use Rattle.osi_blameless.proofs.transport.Vocabulary.{[], acknowledge, ap, arith, asked, before_class, Bool, Class, closed_on, closing, confirm, confirmed}
-use Rattle.osi_blameless.proofs.transport.Vocabulary.{Connect, connects, data2, disconnect, disconnected, EndReason, eq-eqb, eqb-true, error, false}
-use Rattle.osi_blameless.proofs.transport.Vocabulary.{if◌then◌else◌, in_two, is_some, leaves, Left, linked, LinkFault, List, Live as Connection, Local}
-use Rattle.osi_blameless.proofs.transport.Vocabulary.{None, open_link, opens, Option, proposal, proposal_by, put, put_here, put_other, refl, request}
-use Rattle.osi_blameless.proofs.transport.Vocabulary.{Result, Rows, sent, sent_all, Some, Standing, State, taking, to_asked, to_closing, to_connection}
-use Rattle.osi_blameless.proofs.transport.Vocabulary.{to_linked, true, Two, user_does, UserCall, Value, value_at, without, without_other, Zero, ℕ, ◌&&◌}
+use Rattle.osi_blameless.proofs.transport.Vocabulary.{[], acknowledge, ap, arith, asked, before_class, Bool, Class, closed_on, closing}
+use Rattle.osi_blameless.proofs.transport.Vocabulary.{confirm, confirmed}
+use Rattle.osi_blameless.proofs.transport.Vocabulary.{Connect, connects, data2, disconnect, disconnected, EndReason, eq-eqb, eqb-true}
+use Rattle.osi_blameless.proofs.transport.Vocabulary.{error, false}
+use Rattle.osi_blameless.proofs.transport.Vocabulary.{if◌then◌else◌, in_two, is_some, leaves, Left, linked, LinkFault, List}
+use Rattle.osi_blameless.proofs.transport.Vocabulary.{Live as Connection, Local}
+use Rattle.osi_blameless.proofs.transport.Vocabulary.{None, open_link, opens, Option, proposal, proposal_by, put, put_here, put_other, refl}
+use Rattle.osi_blameless.proofs.transport.Vocabulary.{request}
+use Rattle.osi_blameless.proofs.transport.Vocabulary.{Result, Rows, sent, sent_all, Some, Standing, State, taking, to_asked, to_closing}
+use Rattle.osi_blameless.proofs.transport.Vocabulary.{to_connection}
+use Rattle.osi_blameless.proofs.transport.Vocabulary.{to_linked, true, Two, user_does, UserCall, Value, value_at, without, without_other}
+use Rattle.osi_blameless.proofs.transport.Vocabulary.{Zero, ℕ, ◌&&◌}
 use Rattle.osi_blameless.proofs.transport.Vocabulary.{◌++◌, ◌+◌, ◌==◌, ◌∙◌, ◌∷◌, ◌≡◌, ◌⊎◌}
 use Rattle.osi_carrier.specs.Calls.{sent_on}
 unfoldable use Rattle.osi_carrier.specs.React.{react}

@@ -1,16 +1,22 @@
 -- What holds of a line, be its connection judged or not: its units have its references, and the judge knows that of the other side.
 -- For the laws on whole ends.
-use Rattle.osi_blameless.proofs.transport.Vocabulary.{[], ack, acknowledge, Act, Acts, ActsAlong, answers, ap, arith, begins, begins_elsewhere, Bool}
-use Rattle.osi_blameless.proofs.transport.Vocabulary.{closes_with as closes, confirm, Connect, Connection, connection_after, Course, data0, data2}
-use Rattle.osi_blameless.proofs.transport.Vocabulary.{Direction, disconnect, disconnected, eq-eqb, error, false, finding_of, Flow, give_out, Half, hand_in}
-use Rattle.osi_blameless.proofs.transport.Vocabulary.{hand_out, ignores, is_applied, is_silent, IsOpened, Line, List, Move, Moves, moves, None, Option}
-use Rattle.osi_blameless.proofs.transport.Vocabulary.{other, part0, part2, Reach, reach_of, refl, request, Right, seen, Some, Standing, subst, sym}
+use Rattle.osi_blameless.proofs.transport.Vocabulary.{[], ack, acknowledge, Act, Acts, ActsAlong, answers, ap, arith, begins}
+use Rattle.osi_blameless.proofs.transport.Vocabulary.{begins_elsewhere, Bool}
+use Rattle.osi_blameless.proofs.transport.Vocabulary.{closes_with as closes, confirm, Connect, Connection, connection_after, Course, data0}
+use Rattle.osi_blameless.proofs.transport.Vocabulary.{data2}
+use Rattle.osi_blameless.proofs.transport.Vocabulary.{Direction, disconnect, disconnected, eq-eqb, error, false, finding_of, Flow, give_out}
+use Rattle.osi_blameless.proofs.transport.Vocabulary.{Half, hand_in}
+use Rattle.osi_blameless.proofs.transport.Vocabulary.{hand_out, ignores, is_applied, is_silent, IsOpened, Line, List, Move, Moves, moves}
+use Rattle.osi_blameless.proofs.transport.Vocabulary.{None, Option}
+use Rattle.osi_blameless.proofs.transport.Vocabulary.{other, part0, part2, Reach, reach_of, refl, request, Right, seen, Some, Standing}
+use Rattle.osi_blameless.proofs.transport.Vocabulary.{subst, sym}
 use Rattle.osi_blameless.proofs.transport.Vocabulary.{take_in, taken_flow, theirs, true, Two, units_put, Value, ℕ, ◌++◌, ◌∙◌, ◌∷◌, ◌≡◌, ◌≢◌}
 use Rattle.osi_blameless.proofs.transport.small_facts_that_many_lemmas_use.{no_list}
 use Rattle.osi_blameless.proofs.transport.lines.what_a_link_does.{gives_so, takes_so}
 use Rattle.osi_blameless.specs.transport.Lines.{begins_other, begins_own, passes_other, passes_own}
 use Rattle.osi_blameless.proofs.transport.small_facts_that_many_lemmas_use.{half_keeps, half_started}
-use Rattle.osi_blameless.proofs.transport.connections.what_stays_of_each_connection.{left_judged, left_own, left_then, right_judged, right_own, right_then}
+use Rattle.osi_blameless.proofs.transport.connections.what_stays_of_each_connection.{left_judged, left_own, left_then, right_judged}
+use Rattle.osi_blameless.proofs.transport.connections.what_stays_of_each_connection.{right_own, right_then}
 use Rattle.osi_blameless.proofs.transport.connections.which_units_are_for_a_connection.{AllOurs}
 
 -- what the judge knows of the other side, and what the end knew of it as its packet began

@@ -1,12 +1,19 @@
 -- What a unit of the other side does to its connection at the judge of a calling end: one that is open stays so, one that waits is
 -- opened or refused. For the law on a whole end.
-use Rattle.osi_blameless.proofs.transport.Vocabulary.{[], acknowledge, ap, arith, Bool, Broke, class_for, code_named, confirm, Connect, Connection}
-use Rattle.osi_blameless.proofs.transport.Vocabulary.{connection_after, Course, course_after, data0, data2, destination_of, disconnect, disconnected}
-use Rattle.osi_blameless.proofs.transport.Vocabulary.{error, false, Finding, first_failed, found, found_on, given_again, half_after, if◌then◌else◌, inl}
-use Rattle.osi_blameless.proofs.transport.Vocabulary.{inr, is_applied, is_closing, is_due, is_inside, is_named, is_of_connection, is_offered, is_open}
-use Rattle.osi_blameless.proofs.transport.Vocabulary.{is_refused, is_silent, Kept, List, nat_le, None, not, noted, NotJudged, one_told, Outcome, Outside}
-use Rattle.osi_blameless.proofs.transport.Vocabulary.{passes_over, Reach, reach_of, reached, refl, request, Right, Rule, slice_get, Some, sym, takes, Test}
-use Rattle.osi_blameless.proofs.transport.Vocabulary.{TooMany, Traffic, true, Two, uses_source, Value, Zero, ℕ, ◌==◌, ◌||◌, ◌∙◌, ◌∷◌, ◌≡◌, ◌⊎◌}
+use Rattle.osi_blameless.proofs.transport.Vocabulary.{[], acknowledge, ap, arith, Bool, Broke, class_for, code_named, confirm, Connect}
+use Rattle.osi_blameless.proofs.transport.Vocabulary.{Connection}
+use Rattle.osi_blameless.proofs.transport.Vocabulary.{connection_after, Course, course_after, data0, data2, destination_of, disconnect}
+use Rattle.osi_blameless.proofs.transport.Vocabulary.{disconnected}
+use Rattle.osi_blameless.proofs.transport.Vocabulary.{error, false, Finding, first_failed, found, found_on, given_again, half_after}
+use Rattle.osi_blameless.proofs.transport.Vocabulary.{if◌then◌else◌, inl}
+use Rattle.osi_blameless.proofs.transport.Vocabulary.{inr, is_applied, is_closing, is_due, is_inside, is_named, is_of_connection}
+use Rattle.osi_blameless.proofs.transport.Vocabulary.{is_offered, is_open}
+use Rattle.osi_blameless.proofs.transport.Vocabulary.{is_refused, is_silent, Kept, List, nat_le, None, not, noted, NotJudged, one_told}
+use Rattle.osi_blameless.proofs.transport.Vocabulary.{Outcome, Outside}
+use Rattle.osi_blameless.proofs.transport.Vocabulary.{passes_over, Reach, reach_of, reached, refl, request, Right, Rule, slice_get, Some}
+use Rattle.osi_blameless.proofs.transport.Vocabulary.{sym, takes, Test}
+use Rattle.osi_blameless.proofs.transport.Vocabulary.{TooMany, Traffic, true, Two, uses_source, Value, Zero, ℕ, ◌==◌, ◌||◌, ◌∙◌, ◌∷◌, ◌≡◌}
+use Rattle.osi_blameless.proofs.transport.Vocabulary.{◌⊎◌}
 use Rattle.osi_rules.specs.declared.findings.Rule.TheVariants as rule
 use Rattle.osi_blameless.proofs.transport.small_facts_that_many_lemmas_use.{and_first, and_second, differ, judged_same, open_or_closing}
 use Rattle.osi_blameless.proofs.transport.connections.no_two_open_connections_have_one_peer.{left_open, right_there, there_not_silent}
@@ -14,7 +21,8 @@ use Rattle.osi_blameless.proofs.transport.connections.each_connection_has_its_li
 use Rattle.osi_blameless.proofs.transport.names.what_keeps_names_apart.{Sound}
 use Rattle.osi_blameless.proofs.transport.connections.what_stays_of_each_connection.{right_judged, right_own}
 use Rattle.osi_blameless.proofs.transport.requests.what_lasts_at_the_judge.{IsCalm, calm_noted}
-use Rattle.osi_blameless.proofs.transport.connections.which_unit_of_the_other_side_passes.{Came, IsIdle, asks_so, came_so, for_one, lost, not_calm}
+use Rattle.osi_blameless.proofs.transport.connections.which_unit_of_the_other_side_passes.{Came, IsIdle, asks_so, came_so, for_one, lost}
+use Rattle.osi_blameless.proofs.transport.connections.which_unit_of_the_other_side_passes.{not_calm}
 use Rattle.osi_blameless.proofs.transport.connections.which_units_are_for_a_connection.{is_dc}
 
 -- ---- for which connection it is

@@ -1,8 +1,11 @@
 -- As long as each DR has closed something: what the other side closes is live at an end until the end takes that unit.
 -- For the law on DRs, and for the law on a whole called end.
-use Rattle.osi_blameless.proofs.transport.Vocabulary.{[], AllByRecursion, arith, begins, Bool, confirm, Connect, Connection, Direction, disconnect}
-use Rattle.osi_blameless.proofs.transport.Vocabulary.{disconnected, error, Half, is_open, is_silent, is_some, Left, List, map, None, Option, own, request}
-use Rattle.osi_blameless.proofs.transport.Vocabulary.{Right, Some, State, subst, sym, theirs, true, Value, value_at, ℕ, ◌&&◌, ◌++◌, ◌<◌, ◌||◌, ◌∙◌, ◌∷◌}
+use Rattle.osi_blameless.proofs.transport.Vocabulary.{[], AllByRecursion, arith, begins, Bool, confirm, Connect, Connection, Direction}
+use Rattle.osi_blameless.proofs.transport.Vocabulary.{disconnect}
+use Rattle.osi_blameless.proofs.transport.Vocabulary.{disconnected, error, Half, is_open, is_silent, is_some, Left, List, map, None, Option}
+use Rattle.osi_blameless.proofs.transport.Vocabulary.{own, request}
+use Rattle.osi_blameless.proofs.transport.Vocabulary.{Right, Some, State, subst, sym, theirs, true, Value, value_at, ℕ, ◌&&◌, ◌++◌, ◌<◌}
+use Rattle.osi_blameless.proofs.transport.Vocabulary.{◌||◌, ◌∙◌, ◌∷◌}
 use Rattle.osi_blameless.proofs.transport.Vocabulary.{◌≡◌, ◌≤◌}
 use Rattle.osi_rules.specs.Traffic.{of_side}
 use Rattle.osi_blameless.proofs.transport.small_facts_that_many_lemmas_use.{all_add, number_is}

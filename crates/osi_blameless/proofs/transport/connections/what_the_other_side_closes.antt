@@ -1,23 +1,32 @@
 -- What the other side closes at the judge of a calling end: if a DR closed something, the end had the connection open there.
 -- For the law on DRs.
-use Rattle.osi_blameless.proofs.transport.Vocabulary.{ap, arith, at_found, Bool, Broke, Class, class_for, confirm, Connect, Connection, connection_after}
-use Rattle.osi_blameless.proofs.transport.Vocabulary.{Course, course_after, destination_of, disconnect, disconnected, eqb-true, error, false, Finding}
-use Rattle.osi_blameless.proofs.transport.Vocabulary.{found, found_on, Half, half_after, if◌then◌else◌, inl, inr, is_applied, is_closed, is_closing}
-use Rattle.osi_blameless.proofs.transport.Vocabulary.{is_named, is_of_connection, is_open, is_refused, is_silent, is_stray, knows_disconnect, Left, List}
-use Rattle.osi_blameless.proofs.transport.Vocabulary.{None, not, noted, NotJudged, one_told, Option, Outcome, passes_over, Phase, Reach, reach_of, reached}
-use Rattle.osi_blameless.proofs.transport.Vocabulary.{refl, Right, Rule, set, slice_get, Some, subst, sym, takes, theirs, Traffic as State, true, Two}
+use Rattle.osi_blameless.proofs.transport.Vocabulary.{ap, arith, at_found, Bool, Broke, Class, class_for, confirm, Connect, Connection}
+use Rattle.osi_blameless.proofs.transport.Vocabulary.{connection_after}
+use Rattle.osi_blameless.proofs.transport.Vocabulary.{Course, course_after, destination_of, disconnect, disconnected, eqb-true, error}
+use Rattle.osi_blameless.proofs.transport.Vocabulary.{false, Finding}
+use Rattle.osi_blameless.proofs.transport.Vocabulary.{found, found_on, Half, half_after, if◌then◌else◌, inl, inr, is_applied, is_closed}
+use Rattle.osi_blameless.proofs.transport.Vocabulary.{is_closing}
+use Rattle.osi_blameless.proofs.transport.Vocabulary.{is_named, is_of_connection, is_open, is_refused, is_silent, is_stray}
+use Rattle.osi_blameless.proofs.transport.Vocabulary.{knows_disconnect, Left, List}
+use Rattle.osi_blameless.proofs.transport.Vocabulary.{None, not, noted, NotJudged, one_told, Option, Outcome, passes_over, Phase, Reach}
+use Rattle.osi_blameless.proofs.transport.Vocabulary.{reach_of, reached}
+use Rattle.osi_blameless.proofs.transport.Vocabulary.{refl, Right, Rule, set, slice_get, Some, subst, sym, takes, theirs, Traffic as State}
+use Rattle.osi_blameless.proofs.transport.Vocabulary.{true, Two}
 use Rattle.osi_blameless.proofs.transport.Vocabulary.{uses_source, Value, Zero, ℕ, ◌&&◌, ◌==◌, ◌||◌, ◌≡◌, ◌⊎◌}
 use Rattle.osi_rules.specs.declared.findings.Reach.TheVariants as reach
 use Rattle.osi_rules.specs.declared.findings.Rule.TheVariants as rule
-use Rattle.osi_blameless.proofs.transport.small_facts_that_many_lemmas_use.{and_first, both, closing_shuts, differ, not_not, or_last, or_left}
+use Rattle.osi_blameless.proofs.transport.small_facts_that_many_lemmas_use.{and_first, both, closing_shuts, differ, not_not, or_last}
+use Rattle.osi_blameless.proofs.transport.small_facts_that_many_lemmas_use.{or_left}
 use Rattle.osi_blameless.proofs.transport.small_facts_that_many_lemmas_use.{or_right}
 use Rattle.osi_blameless.proofs.transport.names.all_are_judged_unless_one_broke.{AreJudged}
 use Rattle.osi_blameless.proofs.transport.names.what_holds_of_one_item.{HoldsOfEach, each_set}
 use Rattle.osi_blameless.proofs.transport.names.what_keeps_names_apart.{AreApart, Sound}
 use Rattle.osi_blameless.proofs.transport.requests.while_no_class_is_selected.{after_change}
 use Rattle.osi_blameless.proofs.transport.connections.what_is_live_at_an_end.{IsLively, Less, dr_for, is_there, shuts_of}
-use Rattle.osi_blameless.proofs.transport.connections.which_unit_of_the_other_side_passes.{Came as Passes, asks_so, came_so, for_one, lost as spared}
-use Rattle.osi_blameless.proofs.transport.connections.what_stays_of_each_connection.{AreDistinct, IsStarted, left_then, right_judged, right_own}
+use Rattle.osi_blameless.proofs.transport.connections.which_unit_of_the_other_side_passes.{Came as Passes, asks_so, came_so, for_one}
+use Rattle.osi_blameless.proofs.transport.connections.which_unit_of_the_other_side_passes.{lost as spared}
+use Rattle.osi_blameless.proofs.transport.connections.what_stays_of_each_connection.{AreDistinct, IsStarted, left_then, right_judged}
+use Rattle.osi_blameless.proofs.transport.connections.what_stays_of_each_connection.{right_own}
 use Rattle.osi_blameless.proofs.transport.names.names_stay_apart_though_one_is_lost.{AreNamedApart, each_sound}
 use Rattle.osi_blameless.proofs.transport.requests.what_lasts_at_the_judge.{IsCalm, calm_noted}
 pub use Rattle.osi_blameless.proofs.transport.small_facts_that_many_lemmas_use.{judged_same}

@@ -1,12 +1,19 @@
 -- Which unit of the other side passes at the judge of an end, if both sides are still judged after it: a CR that is right, a unit for a
 -- connection, or a DC that answers nothing. For the laws on whole ends.
-use Rattle.osi_blameless.proofs.transport.Vocabulary.{[], acknowledge, ap, arith, Asks, asks_by, asks_kept, asks_of, at_found, at_place, Bool, Broke}
-use Rattle.osi_blameless.proofs.transport.Vocabulary.{Class, class_for, confirm, Connect, Connection, Course, data0, data2, destination_of, Direction}
-use Rattle.osi_blameless.proofs.transport.Vocabulary.{disconnect, disconnected, error, false, Finding, first_failed, has_broken, has_erred, if◌then◌else◌}
-use Rattle.osi_blameless.proofs.transport.Vocabulary.{inl, inr, is_free, is_named, is_of_connection, is_stopped, Kept, Left, may_answer, Named, None}
-use Rattle.osi_blameless.proofs.transport.Vocabulary.{none_told, NotJudged, one_told, Option, other, Outcome, passes_over, position, reach_by, reach_of}
-use Rattle.osi_blameless.proofs.transport.Vocabulary.{reached, refl, request, request_tests, Right, Route, route, route_in, routed, Rule, slice_get, Some}
-use Rattle.osi_blameless.proofs.transport.Vocabulary.{subst, sym, takes, TooMany, Traffic, true, Two, Unnamed, unnamed_told, Value, ℕ, ◌∷◌, ◌≡◌, ◌⊎◌}
+use Rattle.osi_blameless.proofs.transport.Vocabulary.{[], acknowledge, ap, arith, Asks, asks_by, asks_kept, asks_of, at_found, at_place}
+use Rattle.osi_blameless.proofs.transport.Vocabulary.{Bool, Broke}
+use Rattle.osi_blameless.proofs.transport.Vocabulary.{Class, class_for, confirm, Connect, Connection, Course, data0, data2, destination_of}
+use Rattle.osi_blameless.proofs.transport.Vocabulary.{Direction}
+use Rattle.osi_blameless.proofs.transport.Vocabulary.{disconnect, disconnected, error, false, Finding, first_failed, has_broken, has_erred}
+use Rattle.osi_blameless.proofs.transport.Vocabulary.{if◌then◌else◌}
+use Rattle.osi_blameless.proofs.transport.Vocabulary.{inl, inr, is_free, is_named, is_of_connection, is_stopped, Kept, Left, may_answer}
+use Rattle.osi_blameless.proofs.transport.Vocabulary.{Named, None}
+use Rattle.osi_blameless.proofs.transport.Vocabulary.{none_told, NotJudged, one_told, Option, other, Outcome, passes_over, position}
+use Rattle.osi_blameless.proofs.transport.Vocabulary.{reach_by, reach_of}
+use Rattle.osi_blameless.proofs.transport.Vocabulary.{reached, refl, request, request_tests, Right, Route, route, route_in, routed, Rule}
+use Rattle.osi_blameless.proofs.transport.Vocabulary.{slice_get, Some}
+use Rattle.osi_blameless.proofs.transport.Vocabulary.{subst, sym, takes, TooMany, Traffic, true, Two, Unnamed, unnamed_told, Value, ℕ, ◌∷◌}
+use Rattle.osi_blameless.proofs.transport.Vocabulary.{◌≡◌, ◌⊎◌}
 use Rattle.osi_rules.specs.Traffic.{route_before, route_two}
 use Rattle.osi_rules.specs.declared.findings.Reach.TheVariants as reach
 use Rattle.osi_rules.specs.declared.findings.Rule.TheVariants as rule

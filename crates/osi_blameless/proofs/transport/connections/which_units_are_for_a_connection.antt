@@ -1,7 +1,9 @@
 -- Which units of a list are for a connection, by their references; and those that the line of a connection has put.
 -- For the law on a whole end.
-use Rattle.osi_blameless.proofs.transport.Vocabulary.{[], AllByRecursion, ap, append-nil, arith, Bool, destination_of, disconnected, eq-eqb, false, Half}
-use Rattle.osi_blameless.proofs.transport.Vocabulary.{is_open, Line, List, None, Option, refl, Some, Standing, theirs, true, Value, ℕ, ◌&&◌, ◌++◌}
+use Rattle.osi_blameless.proofs.transport.Vocabulary.{[], AllByRecursion, ap, append-nil, arith, Bool, destination_of, disconnected, eq-eqb}
+use Rattle.osi_blameless.proofs.transport.Vocabulary.{false, Half}
+use Rattle.osi_blameless.proofs.transport.Vocabulary.{is_open, Line, List, None, Option, refl, Some, Standing, theirs, true, Value, ℕ, ◌&&◌}
+use Rattle.osi_blameless.proofs.transport.Vocabulary.{◌++◌}
 use Rattle.osi_blameless.proofs.transport.Vocabulary.{◌==◌, ◌∙◌, ◌∷◌, ◌≡◌}
 use Rattle.osi_blameless.proofs.transport.small_facts_that_many_lemmas_use.{and_not, both, no_two, unequal}
 use Rattle.osi_blameless.proofs.transport.lines.what_holds_of_a_line.{Holds, PutsAt, Tally}

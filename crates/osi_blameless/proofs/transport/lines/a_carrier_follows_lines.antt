@@ -1,13 +1,20 @@
 -- What a carrier of class 2 does to a connection is acts of its line: for a unit that arrives, a TSDU, and a close.
 -- For the law of that name.
-use Rattle.osi_blameless.proofs.transport.Vocabulary.{arith, [], ap, append_assoc, Bool, Err, if◌then◌else◌, is_some, length, List, map, None, Ok, Option}
-use Rattle.osi_blameless.proofs.transport.Vocabulary.{refl, Result, Some, subst, sym, ℕ, ◌++◌, ◌∙◌, ◌∷◌, ◌≡◌, ◌≤◌, flat_map-append, append-nil}
-use Rattle.osi_blameless.proofs.transport.Vocabulary.{AllByRecursion, flat_map, destination_of, disconnect, Value, drained_moves, all_given, longest_tsdu}
-use Rattle.osi_blameless.proofs.transport.Vocabulary.{Given, Standing, taken, unit_of, with_tsdu, give_out, hand_in, hand_out, Move, MovesAlong, take_in}
-use Rattle.osi_blameless.proofs.transport.Vocabulary.{LinkFault, Class, Two, put_here, without_here, closed_with, link_of, open_link, sent, RiseFrom}
+use Rattle.osi_blameless.proofs.transport.Vocabulary.{arith, [], ap, append_assoc, Bool, Err, if◌then◌else◌, is_some, length, List, map}
+use Rattle.osi_blameless.proofs.transport.Vocabulary.{None, Ok, Option}
+use Rattle.osi_blameless.proofs.transport.Vocabulary.{refl, Result, Some, subst, sym, ℕ, ◌++◌, ◌∙◌, ◌∷◌, ◌≡◌, ◌≤◌, flat_map-append}
+use Rattle.osi_blameless.proofs.transport.Vocabulary.{append-nil}
+use Rattle.osi_blameless.proofs.transport.Vocabulary.{AllByRecursion, flat_map, destination_of, disconnect, Value, drained_moves, all_given}
+use Rattle.osi_blameless.proofs.transport.Vocabulary.{longest_tsdu}
+use Rattle.osi_blameless.proofs.transport.Vocabulary.{Given, Standing, taken, unit_of, with_tsdu, give_out, hand_in, hand_out, Move}
+use Rattle.osi_blameless.proofs.transport.Vocabulary.{MovesAlong, take_in}
+use Rattle.osi_blameless.proofs.transport.Vocabulary.{LinkFault, Class, Two, put_here, without_here, closed_with, link_of, open_link, sent}
+use Rattle.osi_blameless.proofs.transport.Vocabulary.{RiseFrom}
 use Rattle.osi_blameless.proofs.transport.Vocabulary.{pumped, written_by, handed_out, leaves, taking, to_linked, put, value_at, closing}
-use Rattle.osi_blameless.proofs.transport.Vocabulary.{Live as Connection, linked, packets, Direction, Follows, link_now, Act, ActsAlong, answers}
-use Rattle.osi_blameless.proofs.transport.Vocabulary.{closes_with as closes, HandsInShort, ignores, Line, moves, units_put, units_taken, put_closing}
+use Rattle.osi_blameless.proofs.transport.Vocabulary.{Live as Connection, linked, packets, Direction, Follows, link_now, Act, ActsAlong}
+use Rattle.osi_blameless.proofs.transport.Vocabulary.{answers}
+use Rattle.osi_blameless.proofs.transport.Vocabulary.{closes_with as closes, HandsInShort, ignores, Line, moves, units_put, units_taken}
+use Rattle.osi_blameless.proofs.transport.Vocabulary.{put_closing}
 use Rattle.osi_blameless.proofs.transport.Vocabulary.{put_for, put_sent, State, outcome, to_closing, to_connection, CarrierOutcome}
 use Rattle.osi_carrier.specs.Calls.{sent_on}
 unfoldable use Rattle.osi_carrier.specs.React.{react}

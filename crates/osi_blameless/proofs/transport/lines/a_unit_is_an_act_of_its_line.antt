@@ -1,7 +1,9 @@
 -- Of a unit in class 2 that names a connection the rules of transport find what the line of that connection says.
 -- For the law of that name.
-use Rattle.osi_blameless.proofs.transport.Vocabulary.{[], after_finding, ap, arith, begins, Connection, destination_of, Direction, finding_of, IsAtPlace}
-use Rattle.osi_blameless.proofs.transport.Vocabulary.{List, map, Named, one_told, option_map, Outcome, packet_begins, refl, route_two, slice_get}
+use Rattle.osi_blameless.proofs.transport.Vocabulary.{[], after_finding, ap, arith, begins, Connection, destination_of, Direction}
+use Rattle.osi_blameless.proofs.transport.Vocabulary.{finding_of, IsAtPlace}
+use Rattle.osi_blameless.proofs.transport.Vocabulary.{List, map, Named, one_told, option_map, Outcome, packet_begins, refl, route_two}
+use Rattle.osi_blameless.proofs.transport.Vocabulary.{slice_get}
 use Rattle.osi_blameless.proofs.transport.Vocabulary.{slice_set, Some, suc, takes, Traffic as State, uses_source, Value, zero, ℕ, ◌∷◌, ◌≡◌}
 
 pub route_is : (d : Direction) (v : Value) (n : ℕ) → destination_of v ≡ Some n → route_two d v ≡ Named n

@@ -1,6 +1,7 @@
 -- An end puts nothing on a connection after the unit that closes it, and the other side keeps its reference.
 -- For the law of that name.
-use Rattle.osi_blameless.proofs.transport.Vocabulary.{arith, [], List, true, ℕ, ◌≡◌, ◌≢◌, is_open, own, theirs, Direction, Left, Right, Act, ActsAlong}
+use Rattle.osi_blameless.proofs.transport.Vocabulary.{arith, [], List, true, ℕ, ◌≡◌, ◌≢◌, is_open, own, theirs, Direction, Left, Right, Act}
+use Rattle.osi_blameless.proofs.transport.Vocabulary.{ActsAlong}
 use Rattle.osi_blameless.proofs.transport.Vocabulary.{IsOpened, Line}
 use Rattle.osi_blameless.proofs.transport.lines.what_holds_of_a_line.{Holds}
 use Rattle.osi_blameless.proofs.transport.lines.an_open_end_is_fair.{all_keep, all_turned, opened_holds, turned_line}

@@ -1,16 +1,21 @@
 -- An open end of class 2 is fair, over every list of what happens to it and to the judge: at left, and then at right, which is left
 -- with the sides of the judge exchanged.
 -- For the law of that name.
-use Rattle.osi_blameless.proofs.transport.Vocabulary.{[], Act, Acts, ActsAlong, after_finding, answers, ap, arith, begins_elsewhere, Bool, Broke}
-use Rattle.osi_blameless.proofs.transport.Vocabulary.{closes_with as closes, Connection, Course, Direction, Disconnects, false, Finding, finding_of, found}
-use Rattle.osi_blameless.proofs.transport.Vocabulary.{fresh_two, Half, ignores, inl, inr, is_open, IsFair, IsOpened, IsRightNow, Kept, Left, Line, List}
-use Rattle.osi_blameless.proofs.transport.Vocabulary.{moves, other, Right, sent_on, subst, sym, true, two_standing, Value, ℕ, ◌-◌, ◌∙◌, ◌∷◌, ◌≡◌}
+use Rattle.osi_blameless.proofs.transport.Vocabulary.{[], Act, Acts, ActsAlong, after_finding, answers, ap, arith, begins_elsewhere, Bool}
+use Rattle.osi_blameless.proofs.transport.Vocabulary.{Broke}
+use Rattle.osi_blameless.proofs.transport.Vocabulary.{closes_with as closes, Connection, Course, Direction, Disconnects, false, Finding}
+use Rattle.osi_blameless.proofs.transport.Vocabulary.{finding_of, found}
+use Rattle.osi_blameless.proofs.transport.Vocabulary.{fresh_two, Half, ignores, inl, inr, is_open, IsFair, IsOpened, IsRightNow, Kept, Left}
+use Rattle.osi_blameless.proofs.transport.Vocabulary.{Line, List}
+use Rattle.osi_blameless.proofs.transport.Vocabulary.{moves, other, Right, sent_on, subst, sym, true, two_standing, Value, ℕ, ◌-◌, ◌∙◌, ◌∷◌}
+use Rattle.osi_blameless.proofs.transport.Vocabulary.{◌≡◌}
 use Rattle.osi_blameless.proofs.transport.Vocabulary.{◌⊎◌}
 use Rattle.osi_rules.specs.declared.findings.Rule.TheVariants as rule
 use Rattle.osi_blameless.specs.transport.Lines.{begins_own, passes_own, begins_other, passes_other}
 use Rattle.osi_blameless.proofs.transport.lines.what_holds_of_a_line.{Holds, Tally, is_there}
 use Rattle.osi_blameless.proofs.transport.lines.what_an_end_does_to_a_line.{moves_hold, closes_hold, answers_hold}
-use Rattle.osi_blameless.proofs.transport.lines.what_passes_of_an_end.{begins_other_holds, first_is as line_first, is_kept, passes_own_holds}
+use Rattle.osi_blameless.proofs.transport.lines.what_passes_of_an_end.{begins_other_holds, first_is as line_first, is_kept}
+use Rattle.osi_blameless.proofs.transport.lines.what_passes_of_an_end.{passes_own_holds}
 use Rattle.osi_blameless.proofs.transport.small_facts_that_many_lemmas_use.{judged_same}
 use Rattle.osi_blameless.proofs.transport.lines.what_each_unit_of_the_other_side_does.{passes_other_holds}
 use Rattle.osi_blameless.proofs.transport.lines.what_begins_to_pass_is_right.{first_right}

@@ -1,8 +1,10 @@
 -- What follows the acts of a line twice, one after the other, follows them; so TSDUs that are sent together are acts too.
 -- For the law on carriers and their lines.
 use Rattle.osi_blameless.proofs.transport.Vocabulary.{arith, [], append_assoc, length, List, Option, refl, Some, ℕ, ◌++◌, ◌∙◌, ◌∷◌, ◌≡◌}
-use Rattle.osi_blameless.proofs.transport.Vocabulary.{◌≤◌, flat_map-append, append-nil, AllByRecursion, Value, longest_tsdu, Standing, with_tsdu, put_here}
-use Rattle.osi_blameless.proofs.transport.Vocabulary.{open_link, sent, sent_all, pumped, value_at, Follows, link_now, Line, put_sent, put_together, State}
+use Rattle.osi_blameless.proofs.transport.Vocabulary.{◌≤◌, flat_map-append, append-nil, AllByRecursion, Value, longest_tsdu, Standing}
+use Rattle.osi_blameless.proofs.transport.Vocabulary.{with_tsdu, put_here}
+use Rattle.osi_blameless.proofs.transport.Vocabulary.{open_link, sent, sent_all, pumped, value_at, Follows, link_now, Line, put_sent}
+use Rattle.osi_blameless.proofs.transport.Vocabulary.{put_together, State}
 use Rattle.osi_blameless.proofs.transport.lines.a_carrier_follows_lines.{follows_sent, open_is}
 use Rattle.osi_blameless.proofs.transport.lines.what_is_put_before_the_cc_passes.{acts_join}
 

@@ -1,9 +1,13 @@
 -- A CC of a called end is right, and after a CC of class 2 the connection is open as a line begins.
 -- For the law of that name.
-use Rattle.osi_blameless.proofs.transport.Vocabulary.{ap, arith, Bool, false, IfSome, List, None, Option, option_map, refl, Some, true, ℕ, ◌^◌, ◌≡◌, ◌≤◌}
-use Rattle.osi_blameless.proofs.transport.Vocabulary.{pow-le-pow_right, ◌&&◌, ◌||◌, window_units, confirm, Connect, IsConnect, accept, proposes}
-use Rattle.osi_blameless.proofs.transport.Vocabulary.{selected_by, selected_size, Class, Two, Zero, Local, acceptance, agreed_size, opened_link, proposal}
-use Rattle.osi_blameless.proofs.transport.Vocabulary.{proposal_by, unit_octets, asked_by, found, offer_of, sent_on, silent_half, Connection, Course, Left}
+use Rattle.osi_blameless.proofs.transport.Vocabulary.{ap, arith, Bool, false, IfSome, List, None, Option, option_map, refl, Some, true, ℕ}
+use Rattle.osi_blameless.proofs.transport.Vocabulary.{◌^◌, ◌≡◌, ◌≤◌}
+use Rattle.osi_blameless.proofs.transport.Vocabulary.{pow-le-pow_right, ◌&&◌, ◌||◌, window_units, confirm, Connect, IsConnect, accept}
+use Rattle.osi_blameless.proofs.transport.Vocabulary.{proposes}
+use Rattle.osi_blameless.proofs.transport.Vocabulary.{selected_by, selected_size, Class, Two, Zero, Local, acceptance, agreed_size}
+use Rattle.osi_blameless.proofs.transport.Vocabulary.{opened_link, proposal}
+use Rattle.osi_blameless.proofs.transport.Vocabulary.{proposal_by, unit_octets, asked_by, found, offer_of, sent_on, silent_half, Connection}
+use Rattle.osi_blameless.proofs.transport.Vocabulary.{Course, Left}
 use Rattle.osi_blameless.proofs.transport.Vocabulary.{Right, Kept, IsOpened, opened_half, opened_line}
 use Rattle.osi_blameless.proofs.transport.small_facts_that_many_lemmas_use.{and_first, and_second}
 use Rattle.osi_blameless.proofs.transport.lines.what_is_right_passes_each_test.{is_right}

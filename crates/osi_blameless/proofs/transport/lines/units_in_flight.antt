@@ -1,7 +1,9 @@
 -- Units that an end has put and that have not passed, and units that have passed and that the end has not taken. For the laws
 -- on a line: DTs and AKs are counted, and their numbers are those counts modulo 128.
-use Rattle.osi_blameless.proofs.transport.Vocabulary.{[], arith, Bool, false, length, List, sym, true, ℕ, ◌%◌, ◌++◌, ◌+◌, ◌<◌, ◌∙◌, ◌∷◌, ◌≡◌, ◌≤◌}
-use Rattle.osi_blameless.proofs.transport.Vocabulary.{acknowledge, data2, disconnect, disconnected, Value, longest_tsdu, is_closing, is_open, Phase}
+use Rattle.osi_blameless.proofs.transport.Vocabulary.{[], arith, Bool, false, length, List, sym, true, ℕ, ◌%◌, ◌++◌, ◌+◌, ◌<◌, ◌∙◌, ◌∷◌}
+use Rattle.osi_blameless.proofs.transport.Vocabulary.{◌≡◌, ◌≤◌}
+use Rattle.osi_blameless.proofs.transport.Vocabulary.{acknowledge, data2, disconnect, disconnected, Value, longest_tsdu, is_closing}
+use Rattle.osi_blameless.proofs.transport.Vocabulary.{is_open, Phase}
 use Rattle.osi_blameless.proofs.transport.Vocabulary.{request, confirm, data0, error}
 use Rattle.osi_blameless.proofs.transport.lines.what_a_link_does.{begun_by}
 

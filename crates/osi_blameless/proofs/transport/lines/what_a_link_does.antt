@@ -1,9 +1,13 @@
 -- What a call of a link of class 2 does to its numbers and to what it has still to send.
 -- For the laws on a line.
-use Rattle.osi_blameless.proofs.transport.Vocabulary.{[], arith, Bool, drop, false, IfSome, length, length-drop, length-take, List, nat_lt, None, Ok}
-use Rattle.osi_blameless.proofs.transport.Vocabulary.{Option, refl, Some, take, true, ℕ, ◌++◌, ◌+◌, ◌-◌, ◌<◌, ◌∷◌, ◌≡◌, ◌≤◌, ltb-false, ltb-true}
-use Rattle.osi_blameless.proofs.transport.Vocabulary.{acknowledge, data2, Value, at_ok, at_some, choose_some, Ends, ack_number, after_acked, Flow}
-use Rattle.osi_blameless.proofs.transport.Vocabulary.{steps_before, longest_tsdu, ack, Given, given_part, next, next_by, part0, part2, sent_flow, Standing}
+use Rattle.osi_blameless.proofs.transport.Vocabulary.{[], arith, Bool, drop, false, IfSome, length, length-drop, length-take, List, nat_lt}
+use Rattle.osi_blameless.proofs.transport.Vocabulary.{None, Ok}
+use Rattle.osi_blameless.proofs.transport.Vocabulary.{Option, refl, Some, take, true, ℕ, ◌++◌, ◌+◌, ◌-◌, ◌<◌, ◌∷◌, ◌≡◌, ◌≤◌, ltb-false}
+use Rattle.osi_blameless.proofs.transport.Vocabulary.{ltb-true}
+use Rattle.osi_blameless.proofs.transport.Vocabulary.{acknowledge, data2, Value, at_ok, at_some, choose_some, Ends, ack_number, after_acked}
+use Rattle.osi_blameless.proofs.transport.Vocabulary.{Flow}
+use Rattle.osi_blameless.proofs.transport.Vocabulary.{steps_before, longest_tsdu, ack, Given, given_part, next, next_by, part0, part2}
+use Rattle.osi_blameless.proofs.transport.Vocabulary.{sent_flow, Standing}
 use Rattle.osi_blameless.proofs.transport.Vocabulary.{taken, taken_flow, give, Part}
 
 -- ---- TSDUs that are not too long

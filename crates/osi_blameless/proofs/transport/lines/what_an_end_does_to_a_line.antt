@@ -1,13 +1,18 @@
 -- What an end does keeps what holds of its line: a call of its link, and the close of the connection.
 -- For the laws on a line.
-use Rattle.osi_blameless.proofs.transport.Vocabulary.{[], ap, arith, Bool, false, length, List, None, Ok, Option, refl, Some, subst, sym, true, ℕ, ◌%◌}
-use Rattle.osi_blameless.proofs.transport.Vocabulary.{◌++◌, ◌+◌, ◌∙◌, ◌∷◌, ◌≡◌, ◌≤◌, acknowledge, data2, disconnect, Value, longest_tsdu, ack, Hands, next}
-use Rattle.osi_blameless.proofs.transport.Vocabulary.{part0, part2, Standing, taken, with_tsdu, give_out, hand_in, hand_out, Move, Moves, take_in}
-use Rattle.osi_blameless.proofs.transport.Vocabulary.{is_closing, Connection, Left, Half, Acts, answers, closes_with as closes, HandsInShort, Line, moves}
+use Rattle.osi_blameless.proofs.transport.Vocabulary.{[], ap, arith, Bool, false, length, List, None, Ok, Option, refl, Some, subst, sym}
+use Rattle.osi_blameless.proofs.transport.Vocabulary.{true, ℕ, ◌%◌}
+use Rattle.osi_blameless.proofs.transport.Vocabulary.{◌++◌, ◌+◌, ◌∙◌, ◌∷◌, ◌≡◌, ◌≤◌, acknowledge, data2, disconnect, Value, longest_tsdu}
+use Rattle.osi_blameless.proofs.transport.Vocabulary.{ack, Hands, next}
+use Rattle.osi_blameless.proofs.transport.Vocabulary.{part0, part2, Standing, taken, with_tsdu, give_out, hand_in, hand_out, Move, Moves}
+use Rattle.osi_blameless.proofs.transport.Vocabulary.{take_in}
+use Rattle.osi_blameless.proofs.transport.Vocabulary.{is_closing, Connection, Left, Half, Acts, answers, closes_with as closes}
+use Rattle.osi_blameless.proofs.transport.Vocabulary.{HandsInShort, Line, moves}
 use Rattle.osi_blameless.proofs.transport.Vocabulary.{units_put, units_taken}
 use Rattle.osi_blameless.proofs.transport.lines.what_a_link_does.{HaveRoom, room_more, gives_so, takes_so}
 use Rattle.osi_blameless.proofs.transport.lines.units_in_flight.{Puts, puts_more, comes_within}
-use Rattle.osi_blameless.proofs.transport.lines.what_holds_of_a_line.{Tally, Ordered, linked, PutsAt, TakesAt, Holds, bounds_of, came_of, shut, ends_so}
+use Rattle.osi_blameless.proofs.transport.lines.what_holds_of_a_line.{Tally, Ordered, linked, PutsAt, TakesAt, Holds, bounds_of, came_of}
+use Rattle.osi_blameless.proofs.transport.lines.what_holds_of_a_line.{shut, ends_so}
 use Rattle.osi_blameless.proofs.transport.lines.what_holds_of_a_line.{as_judged}
 
 -- a call of the link that makes what was put this

@@ -1,7 +1,9 @@
 -- A unit of an end is right by all that has passed of the other side when its packet begins.
 -- For the laws on a line.
-use Rattle.osi_blameless.proofs.transport.Vocabulary.{[], arith, Bool, IfSome, List, Option, true, ℕ, ◌+◌, ◌≡◌, ◌≢◌, ◌≤◌, eq-eqb, le-leb, lt-ltb, not}
-use Rattle.osi_blameless.proofs.transport.Vocabulary.{Value, fits_size, begins, is_named, is_open, is_silent, Connection, Left, Phase, IsRightNow}
+use Rattle.osi_blameless.proofs.transport.Vocabulary.{[], arith, Bool, IfSome, List, Option, true, ℕ, ◌+◌, ◌≡◌, ◌≢◌, ◌≤◌, eq-eqb, le-leb}
+use Rattle.osi_blameless.proofs.transport.Vocabulary.{lt-ltb, not}
+use Rattle.osi_blameless.proofs.transport.Vocabulary.{Value, fits_size, begins, is_named, is_open, is_silent, Connection, Left, Phase}
+use Rattle.osi_blameless.proofs.transport.Vocabulary.{IsRightNow}
 use Rattle.osi_blameless.proofs.transport.small_facts_that_many_lemmas_use.{or_last}
 use Rattle.osi_blameless.proofs.transport.lines.what_is_right_passes_each_test.{is_right}
 use Rattle.osi_blameless.proofs.transport.lines.units_in_flight.{Puts}

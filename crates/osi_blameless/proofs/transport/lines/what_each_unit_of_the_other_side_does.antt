@@ -1,10 +1,15 @@
 -- Each unit of the other side, by what is found of it: it has its effect, or none, or the connection is not judged any more.
 -- For the laws on a line.
-use Rattle.osi_blameless.proofs.transport.Vocabulary.{arith, [], ap, Bool, false, if◌then◌else◌, inl, inr, List, Option, Some, subst, sym, true, ℕ, ◌++◌}
-use Rattle.osi_blameless.proofs.transport.Vocabulary.{◌<◌, ◌∙◌, ◌∷◌, ◌≡◌, ◌≢◌, ◌⊎◌, not, ◌&&◌, ◌||◌, acknowledge, confirm, data2, destination_of}
-use Rattle.osi_blameless.proofs.transport.Vocabulary.{disconnect, disconnected, error, HasFieldsInRange, Value, Standing, Two, is_applied, reach_of}
-use Rattle.osi_blameless.proofs.transport.Vocabulary.{first_failed, has_passed, is_due, is_tellable, keeps_credit, Test, is_closing, is_open, is_silent}
-use Rattle.osi_blameless.proofs.transport.Vocabulary.{found, sent_on, Connection, Course, Left, Right, Finding, Broke, NotJudged, Phase, Acts}
+use Rattle.osi_blameless.proofs.transport.Vocabulary.{arith, [], ap, Bool, false, if◌then◌else◌, inl, inr, List, Option, Some, subst, sym}
+use Rattle.osi_blameless.proofs.transport.Vocabulary.{true, ℕ, ◌++◌}
+use Rattle.osi_blameless.proofs.transport.Vocabulary.{◌<◌, ◌∙◌, ◌∷◌, ◌≡◌, ◌≢◌, ◌⊎◌, not, ◌&&◌, ◌||◌, acknowledge, confirm, data2}
+use Rattle.osi_blameless.proofs.transport.Vocabulary.{destination_of}
+use Rattle.osi_blameless.proofs.transport.Vocabulary.{disconnect, disconnected, error, HasFieldsInRange, Value, Standing, Two, is_applied}
+use Rattle.osi_blameless.proofs.transport.Vocabulary.{reach_of}
+use Rattle.osi_blameless.proofs.transport.Vocabulary.{first_failed, has_passed, is_due, is_tellable, keeps_credit, Test, is_closing}
+use Rattle.osi_blameless.proofs.transport.Vocabulary.{is_open, is_silent}
+use Rattle.osi_blameless.proofs.transport.Vocabulary.{found, sent_on, Connection, Course, Left, Right, Finding, Broke, NotJudged, Phase}
+use Rattle.osi_blameless.proofs.transport.Vocabulary.{Acts}
 use Rattle.osi_blameless.proofs.transport.Vocabulary.{after_finding, finding_of, Line, passes_other}
 use Rattle.osi_rules.specs.declared.findings.Reach.TheVariants as reach
 use Rattle.osi_rules.specs.declared.findings.Rule.TheVariants as rule

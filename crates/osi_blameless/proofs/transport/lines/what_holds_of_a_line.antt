@@ -1,7 +1,9 @@
 -- What holds of a line all the time, as long as its connection is judged.
 -- For the laws on a line. The end is left: right is the same with the sides of the judge exchanged.
-use Rattle.osi_blameless.proofs.transport.Vocabulary.{[], Bool, false, IfSome, List, None, Option, Some, true, ℕ, ◌%◌, ◌+◌, ◌∷◌, ◌≡◌, ◌≤◌, not, ◌&&◌}
-use Rattle.osi_blameless.proofs.transport.Vocabulary.{Value, Flow, Standing, is_closing, is_open, is_refused, is_silent, Connection, Left, Half, Phase}
+use Rattle.osi_blameless.proofs.transport.Vocabulary.{[], Bool, false, IfSome, List, None, Option, Some, true, ℕ, ◌%◌, ◌+◌, ◌∷◌, ◌≡◌, ◌≤◌}
+use Rattle.osi_blameless.proofs.transport.Vocabulary.{not, ◌&&◌}
+use Rattle.osi_blameless.proofs.transport.Vocabulary.{Value, Flow, Standing, is_closing, is_open, is_refused, is_silent, Connection, Left}
+use Rattle.osi_blameless.proofs.transport.Vocabulary.{Half, Phase}
 use Rattle.osi_blameless.proofs.transport.Vocabulary.{IsRightNow, Line}
 use Rattle.osi_blameless.proofs.transport.lines.what_a_link_does.{HaveRoom}
 use Rattle.osi_blameless.proofs.transport.lines.units_in_flight.{Bounds, Came, Comes, Puts}

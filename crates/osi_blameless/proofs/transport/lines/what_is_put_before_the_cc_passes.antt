@@ -1,8 +1,11 @@
 -- What a called end puts before its CC has passed might as well have been put right after that.
 -- For the law of that name.
-use Rattle.osi_blameless.proofs.transport.Vocabulary.{arith, [], ap, Bool, false, List, refl, subst, ℕ, ◌++◌, ◌∙◌, ◌∷◌, ◌≡◌, AllByRecursion, Value}
-use Rattle.osi_blameless.proofs.transport.Vocabulary.{Standing, Connection, Course, Direction, Act, Acts, ActsAlong, answering_line, answers}
-use Rattle.osi_blameless.proofs.transport.Vocabulary.{begins_elsewhere, closes_with as closes, ignores, Line, moves, opened_line, PassesNone, units_put}
+use Rattle.osi_blameless.proofs.transport.Vocabulary.{arith, [], ap, Bool, false, List, refl, subst, ℕ, ◌++◌, ◌∙◌, ◌∷◌, ◌≡◌, AllByRecursion}
+use Rattle.osi_blameless.proofs.transport.Vocabulary.{Value}
+use Rattle.osi_blameless.proofs.transport.Vocabulary.{Standing, Connection, Course, Direction, Act, Acts, ActsAlong, answering_line}
+use Rattle.osi_blameless.proofs.transport.Vocabulary.{answers}
+use Rattle.osi_blameless.proofs.transport.Vocabulary.{begins_elsewhere, closes_with as closes, ignores, Line, moves, opened_line}
+use Rattle.osi_blameless.proofs.transport.Vocabulary.{PassesNone, units_put}
 use Rattle.osi_blameless.specs.transport.Lines.{begins_other, begins_own, passes_other, passes_own}
 use Rattle.osi_blameless.proofs.transport.small_facts_that_many_lemmas_use.{rest_is}
 use Rattle.osi_blameless.proofs.transport.Vocabulary.{disconnect, disconnected}

@@ -1,6 +1,7 @@
 -- A unit is right exactly if it passes each test of its row.
 -- For all laws of this crate.
-use Rattle.osi_blameless.proofs.transport.Vocabulary.{arith, [], Bool, false, List, refl, true, ◌∷◌, ◌≡◌, not, ◌&&◌, first_failed, Test, Finding, Kept}
+use Rattle.osi_blameless.proofs.transport.Vocabulary.{arith, [], Bool, false, List, refl, true, ◌∷◌, ◌≡◌, not, ◌&&◌, first_failed, Test}
+use Rattle.osi_blameless.proofs.transport.Vocabulary.{Finding, Kept}
 
 abbrev pub AllPass : List Test → Type 0
 AllPass [] = Unit {0}

@@ -1,8 +1,10 @@
 -- A unit of an end begins to pass and passes, and a packet of the other side begins: each keeps what holds of the line.
 -- For the laws on a line.
 use Rattle.osi_blameless.proofs.transport.Vocabulary.{[], ap, arith, Bool, false, List, None, Option, subst, sym, true, ℕ, ◌+◌, ◌<◌, ◌∙◌}
-use Rattle.osi_blameless.proofs.transport.Vocabulary.{◌∷◌, ◌≡◌, ◌≤◌, acknowledge, data2, Value, longest_tsdu, Standing, begins, is_open, begun_after}
-use Rattle.osi_blameless.proofs.transport.Vocabulary.{half_after, sent_on, Connection, Course, Left, Right, Finding, Kept, Half, Phase, Acts}
+use Rattle.osi_blameless.proofs.transport.Vocabulary.{◌∷◌, ◌≡◌, ◌≤◌, acknowledge, data2, Value, longest_tsdu, Standing, begins, is_open}
+use Rattle.osi_blameless.proofs.transport.Vocabulary.{begun_after}
+use Rattle.osi_blameless.proofs.transport.Vocabulary.{half_after, sent_on, Connection, Course, Left, Right, Finding, Kept, Half, Phase}
+use Rattle.osi_blameless.proofs.transport.Vocabulary.{Acts}
 use Rattle.osi_blameless.proofs.transport.Vocabulary.{after_finding, finding_of, IsRight, IsRightNow, Line}
 use Rattle.osi_blameless.specs.transport.Lines.{passes_own, begins_other}
 use Rattle.osi_blameless.proofs.transport.lines.what_a_link_does.{begun_by}

@@ -1,9 +1,12 @@
 -- A unit of the other side passes, whatever it is: either what holds of the line still holds, or its connection is not judged
 -- any more.
 -- For the laws on a line.
-use Rattle.osi_blameless.proofs.transport.Vocabulary.{[], arith, Bool, List, None, Option, Some, true, ℕ, ◌%◌, ◌++◌, ◌+◌, ◌<◌, ◌∷◌, ◌≡◌, ◌≤◌, leb-true}
-use Rattle.osi_blameless.proofs.transport.Vocabulary.{ltb-true, acknowledge, data2, Value, Standing, has_passed, is_tellable, keeps_credit, steps_from}
-use Rattle.osi_blameless.proofs.transport.Vocabulary.{is_closing, is_open, half_after, sent_on, Connection, Left, Right, Half, Phase, IsLater, IsRightNow}
+use Rattle.osi_blameless.proofs.transport.Vocabulary.{[], arith, Bool, List, None, Option, Some, true, ℕ, ◌%◌, ◌++◌, ◌+◌, ◌<◌, ◌∷◌, ◌≡◌}
+use Rattle.osi_blameless.proofs.transport.Vocabulary.{◌≤◌, leb-true}
+use Rattle.osi_blameless.proofs.transport.Vocabulary.{ltb-true, acknowledge, data2, Value, Standing, has_passed, is_tellable, keeps_credit}
+use Rattle.osi_blameless.proofs.transport.Vocabulary.{steps_from}
+use Rattle.osi_blameless.proofs.transport.Vocabulary.{is_closing, is_open, half_after, sent_on, Connection, Left, Right, Half, Phase}
+use Rattle.osi_blameless.proofs.transport.Vocabulary.{IsLater, IsRightNow}
 use Rattle.osi_blameless.proofs.transport.lines.what_was_right_stays_right.{passed_stays}
 use Rattle.osi_blameless.proofs.transport.lines.units_in_flight.{Came, Comes, HasMoreCome, comes_more, puts_still}
 use Rattle.osi_blameless.proofs.transport.lines.what_holds_of_a_line.{Tally, Ordered, PutsAt, TakesAt, came_of, is_there, as_judged}

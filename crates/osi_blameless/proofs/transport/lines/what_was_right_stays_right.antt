@@ -1,7 +1,9 @@
 -- What was right stays right if more of the other side has passed: row by row.
 -- For the law of that name.
-use Rattle.osi_blameless.proofs.transport.Vocabulary.{arith, Bool, length, ℕ, ◌≡◌, lt-ltb, ltb-true, acknowledge, data2, disconnected, Value}
-use Rattle.osi_blameless.proofs.transport.Vocabulary.{data2_tests, first_failed, other, own, seen, theirs, found, Connection, Course, Direction, Left}
+use Rattle.osi_blameless.proofs.transport.Vocabulary.{arith, Bool, length, ℕ, ◌≡◌, lt-ltb, ltb-true, acknowledge, data2, disconnected}
+use Rattle.osi_blameless.proofs.transport.Vocabulary.{Value}
+use Rattle.osi_blameless.proofs.transport.Vocabulary.{data2_tests, first_failed, other, own, seen, theirs, found, Connection, Course}
+use Rattle.osi_blameless.proofs.transport.Vocabulary.{Direction, Left}
 use Rattle.osi_blameless.proofs.transport.Vocabulary.{Right, Kept, Half, IsLater, knows}
 use Rattle.osi_rules.specs.Sides.{sends}
 use Rattle.osi_blameless.proofs.transport.lines.what_is_right_passes_each_test.{passes_each, is_right}

@@ -1,14 +1,23 @@
 -- A reference names one connection at most of those that are judged, whatever passes.
 -- For the law of that name. By the way that a unit takes, as in a_unit_is_an_act_of_its_line.
-use Rattle.osi_blameless.proofs.transport.Vocabulary.{arith, [], Bool, false, if◌then◌else◌, List, None, Option, option_map, refl, Some, subst, sym, true}
-use Rattle.osi_blameless.proofs.transport.Vocabulary.{ℕ, ◌^◌, ◌∙◌, ◌∷◌, ◌≡◌, eqb-true, list_any, nat_le, not, position, slice_get, slice_set, ◌&&◌, ◌||◌}
-use Rattle.osi_blameless.proofs.transport.Vocabulary.{confirm, Connect, disconnect, disconnected, error, request, Value, Class, is_applied, reach_of}
-use Rattle.osi_blameless.proofs.transport.Vocabulary.{code_named, first_failed, given_again, is_inside, is_offered, is_closing, is_named, is_open, is_over}
-use Rattle.osi_blameless.proofs.transport.Vocabulary.{is_over_by, is_refused, is_silent, seen, uses, asked_by, asks_by, asks_kept, asks_of, at_found}
-use Rattle.osi_blameless.proofs.transport.Vocabulary.{at_place, class_for, closing_phase, connection_after, found, found_on, fresh, half_after, is_stopped}
-use Rattle.osi_blameless.proofs.transport.Vocabulary.{judged_on, none_told, Outcome, request_tests, route, routed, sent_on, Traffic as State, uses_source}
-use Rattle.osi_blameless.proofs.transport.Vocabulary.{Connection, Course, Direction, Left, Right, Finding, Broke, Kept, NotJudged, Outside, Reach, Half}
-use Rattle.osi_blameless.proofs.transport.Vocabulary.{Closed, Refused, Route, Asks, Named, Only, Unnamed, all_passed, HoldsOfOne, packet, passes, Passing}
+use Rattle.osi_blameless.proofs.transport.Vocabulary.{arith, [], Bool, false, if◌then◌else◌, List, None, Option, option_map, refl, Some}
+use Rattle.osi_blameless.proofs.transport.Vocabulary.{subst, sym, true}
+use Rattle.osi_blameless.proofs.transport.Vocabulary.{ℕ, ◌^◌, ◌∙◌, ◌∷◌, ◌≡◌, eqb-true, list_any, nat_le, not, position, slice_get}
+use Rattle.osi_blameless.proofs.transport.Vocabulary.{slice_set, ◌&&◌, ◌||◌}
+use Rattle.osi_blameless.proofs.transport.Vocabulary.{confirm, Connect, disconnect, disconnected, error, request, Value, Class, is_applied}
+use Rattle.osi_blameless.proofs.transport.Vocabulary.{reach_of}
+use Rattle.osi_blameless.proofs.transport.Vocabulary.{code_named, first_failed, given_again, is_inside, is_offered, is_closing, is_named}
+use Rattle.osi_blameless.proofs.transport.Vocabulary.{is_open, is_over}
+use Rattle.osi_blameless.proofs.transport.Vocabulary.{is_over_by, is_refused, is_silent, seen, uses, asked_by, asks_by, asks_kept, asks_of}
+use Rattle.osi_blameless.proofs.transport.Vocabulary.{at_found}
+use Rattle.osi_blameless.proofs.transport.Vocabulary.{at_place, class_for, closing_phase, connection_after, found, found_on, fresh}
+use Rattle.osi_blameless.proofs.transport.Vocabulary.{half_after, is_stopped}
+use Rattle.osi_blameless.proofs.transport.Vocabulary.{judged_on, none_told, Outcome, request_tests, route, routed, sent_on}
+use Rattle.osi_blameless.proofs.transport.Vocabulary.{Traffic as State, uses_source}
+use Rattle.osi_blameless.proofs.transport.Vocabulary.{Connection, Course, Direction, Left, Right, Finding, Broke, Kept, NotJudged, Outside}
+use Rattle.osi_blameless.proofs.transport.Vocabulary.{Reach, Half}
+use Rattle.osi_blameless.proofs.transport.Vocabulary.{Closed, Refused, Route, Asks, Named, Only, Unnamed, all_passed, HoldsOfOne, packet}
+use Rattle.osi_blameless.proofs.transport.Vocabulary.{passes, Passing}
 use Rattle.osi_blameless.proofs.transport.Vocabulary.{rubbish, unit, ap, is_live}
 use Rattle.osi_rules.specs.declared.findings.Reach.TheVariants as reach
 use Rattle.osi_rules.specs.declared.findings.Rule.TheVariants as rule
@@ -16,7 +25,8 @@ use Rattle.osi_blameless.proofs.transport.small_facts_that_many_lemmas_use.{and_
 use Rattle.osi_blameless.proofs.transport.lines.what_is_right_passes_each_test.{passes_each}
 use Rattle.osi_blameless.proofs.transport.names.what_holds_of_one_item.{first_true, none_true}
 use Rattle.osi_blameless.proofs.transport.names.when_a_connection_has_a_name.{HalfMoves, earlier_same}
-use Rattle.osi_blameless.proofs.transport.names.what_keeps_names_apart.{AreApart, Lessens, Sound, apart_add, apart_begins, apart_opens, apart_put, apart_set}
+use Rattle.osi_blameless.proofs.transport.names.what_keeps_names_apart.{AreApart, Lessens, Sound, apart_add, apart_begins, apart_opens}
+use Rattle.osi_blameless.proofs.transport.names.what_keeps_names_apart.{apart_put, apart_set}
 use Rattle.osi_blameless.proofs.transport.names.what_keeps_names_apart.{lessens_on, right_lessens, same_lessens}
 pub use Rattle.osi_blameless.proofs.transport.small_facts_that_many_lemmas_use.{differ}
 

@@ -1,9 +1,13 @@
 -- A unit that is right on a connection is not blamed, however many connections there are.
 -- For the law of that name.
-use Rattle.osi_blameless.proofs.transport.Vocabulary.{[], all_passed, arith, Bool, class_for, Connection, destination_of, Direction, fails_before_first}
-use Rattle.osi_blameless.proofs.transport.Vocabulary.{false, Finding, fresh, get_or_from_slice_get, HoldsOfOne, IfSome, is_named, is_stopped, IsAtPlace}
-use Rattle.osi_blameless.proofs.transport.Vocabulary.{IsRight, Kept, length, List, lt-ltb, NotJudged, Option, Passing, position, position-Some}
-use Rattle.osi_blameless.proofs.transport.Vocabulary.{position_or_len, refl, slice_get, slice_get_within, Some, subst, suc, sym, takes, Traffic as State}
+use Rattle.osi_blameless.proofs.transport.Vocabulary.{[], all_passed, arith, Bool, class_for, Connection, destination_of, Direction}
+use Rattle.osi_blameless.proofs.transport.Vocabulary.{fails_before_first}
+use Rattle.osi_blameless.proofs.transport.Vocabulary.{false, Finding, fresh, get_or_from_slice_get, HoldsOfOne, IfSome, is_named}
+use Rattle.osi_blameless.proofs.transport.Vocabulary.{is_stopped, IsAtPlace}
+use Rattle.osi_blameless.proofs.transport.Vocabulary.{IsRight, Kept, length, List, lt-ltb, NotJudged, Option, Passing, position}
+use Rattle.osi_blameless.proofs.transport.Vocabulary.{position-Some}
+use Rattle.osi_blameless.proofs.transport.Vocabulary.{position_or_len, refl, slice_get, slice_get_within, Some, subst, suc, sym, takes}
+use Rattle.osi_blameless.proofs.transport.Vocabulary.{Traffic as State}
 use Rattle.osi_blameless.proofs.transport.Vocabulary.{true, Two, Value, zero, ℕ, ◌<◌, ◌∷◌, ◌≡◌, ◌⊎◌}
 use Rattle.osi_blameless.proofs.transport.names.a_reference_names_one_connection.{names_one}
 use Rattle.osi_blameless.proofs.transport.lines.a_unit_is_an_act_of_its_line.{found_is}

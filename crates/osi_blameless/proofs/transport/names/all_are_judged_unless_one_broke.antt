@@ -1,11 +1,16 @@
 -- While no side has broken a rule for which a connection is not judged any more, each is judged, and a name has one place.
 -- For the law on places.
-use Rattle.osi_blameless.proofs.transport.Vocabulary.{arith, [], ap, Bool, false, if◌then◌else◌, List, None, Option, refl, Some, sym, true, ℕ, ◌∙◌, ◌∷◌}
-use Rattle.osi_blameless.proofs.transport.Vocabulary.{◌≡◌, position_or_len, position, slice_get, Connect, Value, is_applied, reach_of, begins, is_live}
-use Rattle.osi_blameless.proofs.transport.Vocabulary.{is_named, asked_by, asks_by, asks_kept, at_found, at_place, class_for, connection_after}
+use Rattle.osi_blameless.proofs.transport.Vocabulary.{arith, [], ap, Bool, false, if◌then◌else◌, List, None, Option, refl, Some, sym, true}
+use Rattle.osi_blameless.proofs.transport.Vocabulary.{ℕ, ◌∙◌, ◌∷◌}
+use Rattle.osi_blameless.proofs.transport.Vocabulary.{◌≡◌, position_or_len, position, slice_get, Connect, Value, is_applied, reach_of}
+use Rattle.osi_blameless.proofs.transport.Vocabulary.{begins, is_live}
+use Rattle.osi_blameless.proofs.transport.Vocabulary.{is_named, asked_by, asks_by, asks_kept, at_found, at_place, class_for}
+use Rattle.osi_blameless.proofs.transport.Vocabulary.{connection_after}
 use Rattle.osi_blameless.proofs.transport.Vocabulary.{course_after}
-use Rattle.osi_blameless.proofs.transport.Vocabulary.{found_on, fresh, is_stopped, none_told, one_told, Outcome, route, routed, Traffic as State}
-use Rattle.osi_blameless.proofs.transport.Vocabulary.{unnamed_told, Connection, Course, Direction, Finding, NotJudged, Route, Asks, Named, Only, Unnamed}
+use Rattle.osi_blameless.proofs.transport.Vocabulary.{found_on, fresh, is_stopped, none_told, one_told, Outcome, route, routed}
+use Rattle.osi_blameless.proofs.transport.Vocabulary.{Traffic as State}
+use Rattle.osi_blameless.proofs.transport.Vocabulary.{unnamed_told, Connection, Course, Direction, Finding, NotJudged, Route, Asks, Named}
+use Rattle.osi_blameless.proofs.transport.Vocabulary.{Only, Unnamed}
 use Rattle.osi_blameless.proofs.transport.Vocabulary.{all_passed, packet, passes, Passing, rubbish, unit}
 use Rattle.osi_blameless.proofs.transport.small_facts_that_many_lemmas_use.{begins_judged, sized_judged}
 use Rattle.osi_blameless.proofs.transport.names.what_holds_of_one_item.{HoldsOfEach, each_add, each_map, each_set, first_true}

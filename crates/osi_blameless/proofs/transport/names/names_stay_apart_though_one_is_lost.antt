@@ -1,17 +1,23 @@
 -- The references that a side gives stay apart too if a connection has lost its judgement, since that side broke a rule of it in class 2.
 -- For the laws on whole ends. To a called end left gives references, by its CRs; to a calling end right does, by its CCs.
-use Rattle.osi_blameless.proofs.transport.Vocabulary.{arith, [], ap, Bool, false, inl, inr, length, List, map, None, Option, refl, set, Some, subst, sym}
-use Rattle.osi_blameless.proofs.transport.Vocabulary.{true, ℕ, ◌++◌, ◌∙◌, ◌∷◌, ◌≡◌, ◌⊎◌, eqb-true, list_any, nat_le, not, slice_get, ◌&&◌, ◌==◌, confirm}
-use Rattle.osi_blameless.proofs.transport.Vocabulary.{Connect, Value, Class, is_applied, reach_of, begins, code_named, is_inside, is_named, is_offered}
-use Rattle.osi_blameless.proofs.transport.Vocabulary.{is_over, is_over_by, is_silent, other, own, seen, uses, asked_by, connection_after, found, found_on}
-use Rattle.osi_blameless.proofs.transport.Vocabulary.{judged_on, placed, sent_on, Traffic as State, uses_source, Connection, Direction, Left, Right}
+use Rattle.osi_blameless.proofs.transport.Vocabulary.{arith, [], ap, Bool, false, inl, inr, length, List, map, None, Option, refl, set}
+use Rattle.osi_blameless.proofs.transport.Vocabulary.{Some, subst, sym}
+use Rattle.osi_blameless.proofs.transport.Vocabulary.{true, ℕ, ◌++◌, ◌∙◌, ◌∷◌, ◌≡◌, ◌⊎◌, eqb-true, list_any, nat_le, not, slice_get, ◌&&◌}
+use Rattle.osi_blameless.proofs.transport.Vocabulary.{◌==◌, confirm}
+use Rattle.osi_blameless.proofs.transport.Vocabulary.{Connect, Value, Class, is_applied, reach_of, begins, code_named, is_inside, is_named}
+use Rattle.osi_blameless.proofs.transport.Vocabulary.{is_offered}
+use Rattle.osi_blameless.proofs.transport.Vocabulary.{is_over, is_over_by, is_silent, other, own, seen, uses, asked_by, connection_after}
+use Rattle.osi_blameless.proofs.transport.Vocabulary.{found, found_on}
+use Rattle.osi_blameless.proofs.transport.Vocabulary.{judged_on, placed, sent_on, Traffic as State, uses_source, Connection, Direction}
+use Rattle.osi_blameless.proofs.transport.Vocabulary.{Left, Right}
 use Rattle.osi_blameless.proofs.transport.Vocabulary.{Finding, Reach}
 use Rattle.osi_rules.specs.declared.findings.Reach.TheVariants as reach
 use Rattle.osi_blameless.proofs.transport.small_facts_that_many_lemmas_use.{differ}
 use Rattle.osi_blameless.proofs.transport.names.what_holds_of_one_item.{HoldsOfEach, after_add, after_map, after_set, none_true}
 use Rattle.osi_blameless.proofs.transport.names.when_a_connection_has_a_name.{earlier_same}
 use Rattle.osi_blameless.proofs.transport.names.what_keeps_names_apart.{AreApart, Lessens, Sound}
-use Rattle.osi_blameless.proofs.transport.names.a_reference_names_one_connection.{applied_found, applied_judged, confirm_test, left_sent, not_true, right_goes}
+use Rattle.osi_blameless.proofs.transport.names.a_reference_names_one_connection.{applied_found, applied_judged, confirm_test, left_sent}
+use Rattle.osi_blameless.proofs.transport.names.a_reference_names_one_connection.{not_true, right_goes}
 
 -- ---- what holds
 

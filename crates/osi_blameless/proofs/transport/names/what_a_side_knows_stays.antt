@@ -1,12 +1,19 @@
 -- A connection that is not over for a side keeps its place. What the side knows of the other stays known, and what it closed is closed.
 -- For the law on places.
-use Rattle.osi_blameless.proofs.transport.Vocabulary.{ap, arith, Bool, false, if◌then◌else◌, inl, inr, length, List, map, None, Option, refl, Some, sym}
-use Rattle.osi_blameless.proofs.transport.Vocabulary.{true, ℕ, ◌∙◌, ◌≡◌, ◌⊎◌, eqb-true, slice_get_within, not, position, slice_get, slice_set, ◌&&◌, ◌==◌}
-use Rattle.osi_blameless.proofs.transport.Vocabulary.{◌||◌, Connect, request, Value, is_applied, reach_of, first_failed, begins, is_free, is_live}
-use Rattle.osi_blameless.proofs.transport.Vocabulary.{is_named, is_open, is_over, is_silent, other, own, seen, asked_by, asks_by, asks_of, at_found}
-use Rattle.osi_blameless.proofs.transport.Vocabulary.{at_place, class_for, connection_after, found_on, fresh, is_stopped, none_told, Outcome, placed}
-use Rattle.osi_blameless.proofs.transport.Vocabulary.{request_tests, route, routed, Traffic as State, Connection, Direction, Finding, Kept, NotJudged}
-use Rattle.osi_blameless.proofs.transport.Vocabulary.{Reach, Half, Route, Asks, Named, Only, Unnamed, all_passed, packet, passes, Passing, rubbish, unit}
+use Rattle.osi_blameless.proofs.transport.Vocabulary.{ap, arith, Bool, false, if◌then◌else◌, inl, inr, length, List, map, None, Option}
+use Rattle.osi_blameless.proofs.transport.Vocabulary.{refl, Some, sym}
+use Rattle.osi_blameless.proofs.transport.Vocabulary.{true, ℕ, ◌∙◌, ◌≡◌, ◌⊎◌, eqb-true, slice_get_within, not, position, slice_get}
+use Rattle.osi_blameless.proofs.transport.Vocabulary.{slice_set, ◌&&◌, ◌==◌}
+use Rattle.osi_blameless.proofs.transport.Vocabulary.{◌||◌, Connect, request, Value, is_applied, reach_of, first_failed, begins, is_free}
+use Rattle.osi_blameless.proofs.transport.Vocabulary.{is_live}
+use Rattle.osi_blameless.proofs.transport.Vocabulary.{is_named, is_open, is_over, is_silent, other, own, seen, asked_by, asks_by, asks_of}
+use Rattle.osi_blameless.proofs.transport.Vocabulary.{at_found}
+use Rattle.osi_blameless.proofs.transport.Vocabulary.{at_place, class_for, connection_after, found_on, fresh, is_stopped, none_told}
+use Rattle.osi_blameless.proofs.transport.Vocabulary.{Outcome, placed}
+use Rattle.osi_blameless.proofs.transport.Vocabulary.{request_tests, route, routed, Traffic as State, Connection, Direction, Finding, Kept}
+use Rattle.osi_blameless.proofs.transport.Vocabulary.{NotJudged}
+use Rattle.osi_blameless.proofs.transport.Vocabulary.{Reach, Half, Route, Asks, Named, Only, Unnamed, all_passed, packet, passes, Passing}
+use Rattle.osi_blameless.proofs.transport.Vocabulary.{rubbish, unit}
 use Rattle.osi_blameless.proofs.transport.small_facts_that_many_lemmas_use.{and_first, and_second, differ}
 use Rattle.osi_blameless.proofs.transport.names.what_holds_of_one_item.{HoldsOfEach, after_add, after_map, after_set, first_true}
 use Rattle.osi_blameless.proofs.transport.names.when_a_connection_has_a_name.{IsEarlier, earlier_same, three, three_make}

@@ -1,8 +1,11 @@
 -- A DR that refuses a CR is right, and after a DR that closed nothing no DC is blamed.
 -- For the law of that name.
-use Rattle.osi_blameless.proofs.transport.Vocabulary.{arith, asks_of, Bool, class_for, Connection, Course, Direction, disconnect, disconnected, false}
-use Rattle.osi_blameless.proofs.transport.Vocabulary.{Finding, found, is_named, is_silent, is_stopped, Kept, List, may_answer, None, none_told, Outcome}
-use Rattle.osi_blameless.proofs.transport.Vocabulary.{passes, Passing, position, Reach, reach_of, reached, Right, Route, routed, Some, takes}
+use Rattle.osi_blameless.proofs.transport.Vocabulary.{arith, asks_of, Bool, class_for, Connection, Course, Direction, disconnect}
+use Rattle.osi_blameless.proofs.transport.Vocabulary.{disconnected, false}
+use Rattle.osi_blameless.proofs.transport.Vocabulary.{Finding, found, is_named, is_silent, is_stopped, Kept, List, may_answer, None}
+use Rattle.osi_blameless.proofs.transport.Vocabulary.{none_told, Outcome}
+use Rattle.osi_blameless.proofs.transport.Vocabulary.{passes, Passing, position, Reach, reach_of, reached, Right, Route, routed, Some}
+use Rattle.osi_blameless.proofs.transport.Vocabulary.{takes}
 use Rattle.osi_blameless.proofs.transport.Vocabulary.{Traffic as State, true, Two, Value, ℕ, ◌≡◌}
 use Rattle.osi_blameless.proofs.transport.small_facts_that_many_lemmas_use.{or_first}
 use Rattle.osi_blameless.proofs.transport.lines.what_is_right_passes_each_test.{is_right}

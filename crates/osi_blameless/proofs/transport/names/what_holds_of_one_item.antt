@@ -1,7 +1,9 @@
 -- What holds of one item of a list at most, after an item is changed or added, or all are.
 -- For the law on references.
-use Rattle.osi_blameless.proofs.transport.Vocabulary.{arith, [], ap, Bool, false, inl, inr, length, List, map, refl, set, Some, subst, suc, sym, true}
-use Rattle.osi_blameless.proofs.transport.Vocabulary.{zero, ℕ, ◌++◌, ◌∙◌, ◌∷◌, ◌≡◌, ◌⊎◌, position-Some, get_or_from_slice_get, list_any, position}
+use Rattle.osi_blameless.proofs.transport.Vocabulary.{arith, [], ap, Bool, false, inl, inr, length, List, map, refl, set, Some, subst, suc}
+use Rattle.osi_blameless.proofs.transport.Vocabulary.{sym, true}
+use Rattle.osi_blameless.proofs.transport.Vocabulary.{zero, ℕ, ◌++◌, ◌∙◌, ◌∷◌, ◌≡◌, ◌⊎◌, position-Some, get_or_from_slice_get, list_any}
+use Rattle.osi_blameless.proofs.transport.Vocabulary.{position}
 use Rattle.osi_blameless.proofs.transport.Vocabulary.{slice_get, Connection, HoldsOfOne}
 use Rattle.osi_blameless.proofs.transport.small_facts_that_many_lemmas_use.{or_right, some_same}
 

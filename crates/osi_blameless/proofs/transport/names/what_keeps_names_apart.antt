@@ -1,10 +1,14 @@
 -- What keeps the names of connections apart: each change of one connection, and a packet that begins.
 -- For the law on references.
-use Rattle.osi_blameless.proofs.transport.Vocabulary.{arith, [], Bool, false, List, map, Option, set, Some, true, ℕ, ◌++◌, ◌∷◌, ◌≡◌, slice_get, ◌==◌, ◌||◌}
-use Rattle.osi_blameless.proofs.transport.Vocabulary.{begins, is_closed, is_closing, is_named, is_over_by, is_refused, is_silent, uses, judged_on}
+use Rattle.osi_blameless.proofs.transport.Vocabulary.{arith, [], Bool, false, List, map, Option, set, Some, true, ℕ, ◌++◌, ◌∷◌, ◌≡◌}
+use Rattle.osi_blameless.proofs.transport.Vocabulary.{slice_get, ◌==◌, ◌||◌}
+use Rattle.osi_blameless.proofs.transport.Vocabulary.{begins, is_closed, is_closing, is_named, is_over_by, is_refused, is_silent, uses}
+use Rattle.osi_blameless.proofs.transport.Vocabulary.{judged_on}
 use Rattle.osi_blameless.proofs.transport.Vocabulary.{Connection, Direction, Left, Right, Reach, Half, HoldsOfOne}
-use Rattle.osi_blameless.proofs.transport.names.what_holds_of_one_item.{HoldsOfEach, each_add, each_map, each_set, one_added, one_changed, one_mapped, one_put}
-use Rattle.osi_blameless.proofs.transport.names.when_a_connection_has_a_name.{HalfMoves, IsEarlier, earlier_moves, earlier_same, named_by, named_is_used}
+use Rattle.osi_blameless.proofs.transport.names.what_holds_of_one_item.{HoldsOfEach, each_add, each_map, each_set, one_added, one_changed}
+use Rattle.osi_blameless.proofs.transport.names.what_holds_of_one_item.{one_mapped, one_put}
+use Rattle.osi_blameless.proofs.transport.names.when_a_connection_has_a_name.{HalfMoves, IsEarlier, earlier_moves, earlier_same, named_by}
+use Rattle.osi_blameless.proofs.transport.names.when_a_connection_has_a_name.{named_is_used}
 use Rattle.osi_blameless.proofs.transport.names.when_a_connection_has_a_name.{named_still, still_closing, used_before, used_by, used_still}
 
 -- what each side knows is of before, and a DC answers a DR

@@ -1,6 +1,7 @@
 -- When a reference names a connection, or is in use for it, after its sides have sent more: by the phases of the sides.
 -- For the law on references.
-use Rattle.osi_blameless.proofs.transport.Vocabulary.{arith, Bool, false, refl, true, ℕ, ◌≡◌, ◌⊎◌, not, ◌&&◌, ◌==◌, ◌||◌, is_closed, is_closing, is_open}
+use Rattle.osi_blameless.proofs.transport.Vocabulary.{arith, Bool, false, refl, true, ℕ, ◌≡◌, ◌⊎◌, not, ◌&&◌, ◌==◌, ◌||◌, is_closed}
+use Rattle.osi_blameless.proofs.transport.Vocabulary.{is_closing, is_open}
 use Rattle.osi_blameless.proofs.transport.Vocabulary.{is_over_by, is_refused, is_silent, Half}
 use Rattle.osi_blameless.proofs.transport.small_facts_that_many_lemmas_use.{differ}
 

@@ -1,7 +1,9 @@
 -- After a DR no DC is blamed, unless the DR just closes an open connection that is judged.
 -- For the law on answers without an open connection.
-use Rattle.osi_blameless.proofs.transport.Vocabulary.{arith, Bool, false, List, Option, Some, true, ℕ, ◌≡◌, ◌⊎◌, eqb-true, not, position, slice_get, ◌||◌}
-use Rattle.osi_blameless.proofs.transport.Vocabulary.{disconnect, Two, is_applied, is_named, at_found, class_for, found_on, is_stopped, is_stray, Outcome}
+use Rattle.osi_blameless.proofs.transport.Vocabulary.{arith, Bool, false, List, Option, Some, true, ℕ, ◌≡◌, ◌⊎◌, eqb-true, not, position}
+use Rattle.osi_blameless.proofs.transport.Vocabulary.{slice_get, ◌||◌}
+use Rattle.osi_blameless.proofs.transport.Vocabulary.{disconnect, Two, is_applied, is_named, at_found, class_for, found_on, is_stopped}
+use Rattle.osi_blameless.proofs.transport.Vocabulary.{is_stray, Outcome}
 use Rattle.osi_blameless.proofs.transport.Vocabulary.{Traffic as State, takes, Connection, Direction, JustCloses}
 use Rattle.osi_blameless.proofs.transport.names.a_reference_names_one_connection.{applied_judged}
 use Rattle.osi_blameless.proofs.transport.names.what_belongs_to_no_open_connection.{Strays, reached_strays}

@@ -1,9 +1,13 @@
 -- What a carrier does with a packet, with or without enough memory, or with several, and what its user does, is events of its whole end.
 -- For the law of that name.
-use Rattle.osi_blameless.proofs.transport.Vocabulary.{arith, [], ap, append_assoc, Err, inl, inr, List, None, Ok, refl, Result, subst, sym, ℕ, ◌++◌, ◌∙◌}
-use Rattle.osi_blameless.proofs.transport.Vocabulary.{◌∷◌, ◌≡◌, ◌⊎◌, flat_map-append, append-nil, packet_of, units_of, Value, written, TpduFault, acts_by}
-use Rattle.osi_blameless.proofs.transport.Vocabulary.{RunsOut, react, reacts, breaks, user_does, UserCall, ends, packets, Tpdu, EndReason, Fault, NoMemory}
-use Rattle.osi_blameless.proofs.transport.Vocabulary.{Direction, units_by, put_by, put_for, arrives, Becomes, calls, Event, HappenAlong, MayCall, Whole}
+use Rattle.osi_blameless.proofs.transport.Vocabulary.{arith, [], ap, append_assoc, Err, inl, inr, List, None, Ok, refl, Result, subst, sym}
+use Rattle.osi_blameless.proofs.transport.Vocabulary.{ℕ, ◌++◌, ◌∙◌}
+use Rattle.osi_blameless.proofs.transport.Vocabulary.{◌∷◌, ◌≡◌, ◌⊎◌, flat_map-append, append-nil, packet_of, units_of, Value, written}
+use Rattle.osi_blameless.proofs.transport.Vocabulary.{TpduFault, acts_by}
+use Rattle.osi_blameless.proofs.transport.Vocabulary.{RunsOut, react, reacts, breaks, user_does, UserCall, ends, packets, Tpdu, EndReason}
+use Rattle.osi_blameless.proofs.transport.Vocabulary.{Fault, NoMemory}
+use Rattle.osi_blameless.proofs.transport.Vocabulary.{Direction, units_by, put_by, put_for, arrives, Becomes, calls, Event, HappenAlong}
+use Rattle.osi_blameless.proofs.transport.Vocabulary.{MayCall, Whole}
 use Rattle.osi_blameless.proofs.transport.Vocabulary.{State, call_written, unit_written}
 use Rattle.osi_carrier.specs.Packets.{Acts}
 

@@ -1,11 +1,14 @@
 -- What a carrier does with a piece of its stream is events of its whole end, as it takes the packets that the piece completes.
 -- For the law on packets.
 use Rattle.osi_blameless.proofs.transport.Vocabulary.{[], ap, append_assoc, arith, Bool, false, inl, inr, is_some, length, List, None}
-use Rattle.osi_blameless.proofs.transport.Vocabulary.{Option, refl, subst, sym, take, true, ℕ, ◌++◌, ◌∙◌, ◌∷◌, ◌≡◌, ◌⊎◌, append-nil, take_all, ◌||◌}
-use Rattle.osi_blameless.proofs.transport.Vocabulary.{ArePackets, Fed, Value, Happening, Carrying, Feeds, FindsNoMemory, FindsNoRoom, Goes, RunsDry}
+use Rattle.osi_blameless.proofs.transport.Vocabulary.{Option, refl, subst, sym, take, true, ℕ, ◌++◌, ◌∙◌, ◌∷◌, ◌≡◌, ◌⊎◌, append-nil}
+use Rattle.osi_blameless.proofs.transport.Vocabulary.{take_all, ◌||◌}
+use Rattle.osi_blameless.proofs.transport.Vocabulary.{ArePackets, Fed, Value, Happening, Carrying, Feeds, FindsNoMemory, FindsNoRoom, Goes}
+use Rattle.osi_blameless.proofs.transport.Vocabulary.{RunsDry}
 use Rattle.osi_blameless.proofs.transport.Vocabulary.{Starves, StopsBehind, waits, put_back, EndReason, Direction, IsFed, units_in, Whole}
 use Rattle.osi_blameless.proofs.transport.pieces.a_packet_is_events.{becomes_then}
-use Rattle.osi_blameless.proofs.transport.pieces.what_is_in_front_of_a_whole_end.{Comes, after_all, all_come, none_come, runs_out_front, same_front, takes_front}
+use Rattle.osi_blameless.proofs.transport.pieces.what_is_in_front_of_a_whole_end.{Comes, after_all, all_come, none_come, runs_out_front}
+use Rattle.osi_blameless.proofs.transport.pieces.what_is_in_front_of_a_whole_end.{same_front, takes_front}
 use Rattle.osi_blameless.proofs.transport.pieces.what_is_in_front_of_a_whole_end.{units_in_range}
 use Rattle.osi_blameless.proofs.transport.small_facts_that_many_lemmas_use.{none_of, or_left}
 

@@ -1,9 +1,13 @@
 -- What a carrier does in calls, one after the other, is events of its whole end: one by one, up to the call after which it has ended,
 -- and then nothing. For the law on packets.
-use Rattle.osi_blameless.proofs.transport.Vocabulary.{arith, [], ap, append_assoc, is_some, List, None, Option, refl, Some, subst, sym, true}
-use Rattle.osi_blameless.proofs.transport.Vocabulary.{ℕ, ◌++◌, ◌∙◌, ◌∷◌, ◌≡◌, append-nil, take-append-drop, flat_map, packets_joined, ArePackets, Fed}
-use Rattle.osi_blameless.proofs.transport.Vocabulary.{Value, back_joined, Happening, Carrying, Feeds, Call, calling, Calls, carried_in, feeding, put_back}
-use Rattle.osi_blameless.proofs.transport.Vocabulary.{told_in, used_in, user_does, UserCall, EndReason, Direction, AreFedFrom, IsRun, MadeAlong, MayMake}
+use Rattle.osi_blameless.proofs.transport.Vocabulary.{arith, [], ap, append_assoc, is_some, List, None, Option, refl, Some, subst, sym}
+use Rattle.osi_blameless.proofs.transport.Vocabulary.{true}
+use Rattle.osi_blameless.proofs.transport.Vocabulary.{ℕ, ◌++◌, ◌∙◌, ◌∷◌, ◌≡◌, append-nil, take-append-drop, flat_map, packets_joined}
+use Rattle.osi_blameless.proofs.transport.Vocabulary.{ArePackets, Fed}
+use Rattle.osi_blameless.proofs.transport.Vocabulary.{Value, back_joined, Happening, Carrying, Feeds, Call, calling, Calls, carried_in}
+use Rattle.osi_blameless.proofs.transport.Vocabulary.{feeding, put_back}
+use Rattle.osi_blameless.proofs.transport.Vocabulary.{told_in, used_in, user_does, UserCall, EndReason, Direction, AreFedFrom, IsRun}
+use Rattle.osi_blameless.proofs.transport.Vocabulary.{MadeAlong, MayMake}
 use Rattle.osi_blameless.proofs.transport.Vocabulary.{units_in, Becomes, MayCall, Whole, State}
 use Rattle.osi_blameless.proofs.transport.small_facts_that_many_lemmas_use.{differ}
 use Rattle.osi_blameless.proofs.transport.pieces.a_packet_is_events.{then_so}

@@ -1,12 +1,17 @@
 -- The events of a whole end are the same with reported events and sent octets in front: as it takes units and packets, as its user
 -- makes a call, and as it ends. For the law on packets.
-use Rattle.osi_blameless.proofs.transport.Vocabulary.{arith, [], ap, append_assoc, List, None, Ok, refl, subst, suc, sym, ℕ, ◌++◌, ◌∙◌, ◌∷◌, ◌≡◌}
-use Rattle.osi_blameless.proofs.transport.Vocabulary.{AllByRecursion, IsOctets, IsPacket, units_fit, units_found, units_only, written_spells, units_of}
-use Rattle.osi_blameless.proofs.transport.Vocabulary.{Value, Fits, written, apart_all, Happening, acts_by, RunsOut, TakesPackets, react, reacts, arrived}
-use Rattle.osi_blameless.proofs.transport.Vocabulary.{put_back, user, user_does, UserCall, ends, EndReason, NoMemory, Direction, units_by, units_in}
+use Rattle.osi_blameless.proofs.transport.Vocabulary.{arith, [], ap, append_assoc, List, None, Ok, refl, subst, suc, sym, ℕ, ◌++◌, ◌∙◌, ◌∷◌}
+use Rattle.osi_blameless.proofs.transport.Vocabulary.{◌≡◌}
+use Rattle.osi_blameless.proofs.transport.Vocabulary.{AllByRecursion, IsOctets, IsPacket, units_fit, units_found, units_only}
+use Rattle.osi_blameless.proofs.transport.Vocabulary.{written_spells, units_of}
+use Rattle.osi_blameless.proofs.transport.Vocabulary.{Value, Fits, written, apart_all, Happening, acts_by, RunsOut, TakesPackets, react}
+use Rattle.osi_blameless.proofs.transport.Vocabulary.{reacts, arrived}
+use Rattle.osi_blameless.proofs.transport.Vocabulary.{put_back, user, user_does, UserCall, ends, EndReason, NoMemory, Direction, units_by}
+use Rattle.osi_blameless.proofs.transport.Vocabulary.{units_in}
 use Rattle.osi_blameless.proofs.transport.Vocabulary.{Becomes, MayCall, Whole, State}
 unfoldable use Rattle.osi_carrier.specs.Packets.{after_packet}
-use Rattle.osi_blameless.proofs.transport.pieces.a_packet_is_events.{all_units, becomes_over, becomes_then, call_so, packet_so, same_so, then_so}
+use Rattle.osi_blameless.proofs.transport.pieces.a_packet_is_events.{all_units, becomes_over, becomes_then, call_so, packet_so, same_so}
+use Rattle.osi_blameless.proofs.transport.pieces.a_packet_is_events.{then_so}
 use Rattle.osi_blameless.proofs.transport.small_facts_that_many_lemmas_use.{none_of, or_left}
 
 -- with these in front the end comes to this state; unless it ends, this is left to come

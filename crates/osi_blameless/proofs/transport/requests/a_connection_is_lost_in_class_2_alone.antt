@@ -1,8 +1,11 @@
 -- A connection loses its judgement only in class 2, and left knows the class only once right has selected it.
 -- For the law on a whole called end: in class 0, and while no class is selected, each connection is judged.
-use Rattle.osi_blameless.proofs.transport.Vocabulary.{arith, false, None, Option, Some, true, ℕ, ◌≡◌, ◌⊎◌, Value, Class, Two, is_applied, reach_of}
-use Rattle.osi_blameless.proofs.transport.Vocabulary.{asks_of, at_found, class_for, course_after, course_after_none, found_on, none_told, Outcome, reached}
-use Rattle.osi_blameless.proofs.transport.Vocabulary.{routed, Traffic as State, takes, unnamed_told, Connection, Course, Direction, Finding, Reach, Route}
+use Rattle.osi_blameless.proofs.transport.Vocabulary.{arith, false, None, Option, Some, true, ℕ, ◌≡◌, ◌⊎◌, Value, Class, Two, is_applied}
+use Rattle.osi_blameless.proofs.transport.Vocabulary.{reach_of}
+use Rattle.osi_blameless.proofs.transport.Vocabulary.{asks_of, at_found, class_for, course_after, course_after_none, found_on, none_told}
+use Rattle.osi_blameless.proofs.transport.Vocabulary.{Outcome, reached}
+use Rattle.osi_blameless.proofs.transport.Vocabulary.{routed, Traffic as State, takes, unnamed_told, Connection, Course, Direction, Finding}
+use Rattle.osi_blameless.proofs.transport.Vocabulary.{Reach, Route}
 use Rattle.osi_blameless.proofs.transport.Vocabulary.{passes, Passing, noted, disconnect, refl, sym, ◌∙◌}
 use Rattle.osi_rules.specs.Traffic.{unnamed}
 use Rattle.osi_rules.specs.declared.findings.Reach.TheVariants as reach

@@ -1,11 +1,17 @@
 -- A reference above those of all CRs that have passed is in use for no connection at the judge, and for none that is not judged.
 -- For the law of that name.
-use Rattle.osi_blameless.proofs.transport.Vocabulary.{[], arith, Bool, false, List, None, Option, refl, Some, subst, suc, sym, true, zero, ℕ, ◌++◌, ◌<◌}
-use Rattle.osi_blameless.proofs.transport.Vocabulary.{◌∷◌, ◌≡◌, ◌⊎◌, eqb-true, AllByRecursion, list_any, not, slice_get, ◌&&◌, ◌==◌, ◌||◌, Connect}
-use Rattle.osi_blameless.proofs.transport.Vocabulary.{request, Value, Class, Two, Local, fresh_state, is_applied, reach_of, begins, is_over, is_silent}
-use Rattle.osi_blameless.proofs.transport.Vocabulary.{uses, asked_by, asks_by, asks_kept, at_found, class_for, connection_after, found_on, fresh}
-use Rattle.osi_blameless.proofs.transport.Vocabulary.{is_not_judged, is_stopped, route_in, routed, Traffic as State, takes, Connection, Direction, Left}
-use Rattle.osi_blameless.proofs.transport.Vocabulary.{Right, Finding, Kept, TooMany, Reach, Route, all_asked, all_written, asked_as, asked_in, all_passed}
+use Rattle.osi_blameless.proofs.transport.Vocabulary.{[], arith, Bool, false, List, None, Option, refl, Some, subst, suc, sym, true, zero}
+use Rattle.osi_blameless.proofs.transport.Vocabulary.{ℕ, ◌++◌, ◌<◌}
+use Rattle.osi_blameless.proofs.transport.Vocabulary.{◌∷◌, ◌≡◌, ◌⊎◌, eqb-true, AllByRecursion, list_any, not, slice_get, ◌&&◌, ◌==◌, ◌||◌}
+use Rattle.osi_blameless.proofs.transport.Vocabulary.{Connect}
+use Rattle.osi_blameless.proofs.transport.Vocabulary.{request, Value, Class, Two, Local, fresh_state, is_applied, reach_of, begins, is_over}
+use Rattle.osi_blameless.proofs.transport.Vocabulary.{is_silent}
+use Rattle.osi_blameless.proofs.transport.Vocabulary.{uses, asked_by, asks_by, asks_kept, at_found, class_for, connection_after, found_on}
+use Rattle.osi_blameless.proofs.transport.Vocabulary.{fresh}
+use Rattle.osi_blameless.proofs.transport.Vocabulary.{is_not_judged, is_stopped, route_in, routed, Traffic as State, takes, Connection}
+use Rattle.osi_blameless.proofs.transport.Vocabulary.{Direction, Left}
+use Rattle.osi_blameless.proofs.transport.Vocabulary.{Right, Finding, Kept, TooMany, Reach, Route, all_asked, all_written, asked_as}
+use Rattle.osi_blameless.proofs.transport.Vocabulary.{asked_in, all_passed}
 use Rattle.osi_blameless.proofs.transport.Vocabulary.{packet, passes, Passing, rubbish, unit}
 use Rattle.osi_carrier.specs.Runs.{Act}
 use Rattle.osi_blameless.proofs.transport.names.what_holds_of_one_item.{HoldsOfEach, each_add, each_map, each_set}

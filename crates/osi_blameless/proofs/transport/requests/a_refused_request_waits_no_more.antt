@@ -1,7 +1,9 @@
 -- Once the CR that waits has been refused, and a packet of left has begun since, no connection waits: each is over for left.
 -- For the law on CRs that wait.
-use Rattle.osi_blameless.proofs.transport.Vocabulary.{arith, [], ap, Bool, false, List, map, None, refl, Some, subst, suc, sym, true, zero, ℕ, ◌∷◌, ◌≡◌}
-use Rattle.osi_blameless.proofs.transport.Vocabulary.{list_all, not, slice_get, begins, is_live, is_over, is_refused, fresh, packet_begins, Connection}
+use Rattle.osi_blameless.proofs.transport.Vocabulary.{arith, [], ap, Bool, false, List, map, None, refl, Some, subst, suc, sym, true, zero}
+use Rattle.osi_blameless.proofs.transport.Vocabulary.{ℕ, ◌∷◌, ◌≡◌}
+use Rattle.osi_blameless.proofs.transport.Vocabulary.{list_all, not, slice_get, begins, is_live, is_over, is_refused, fresh, packet_begins}
+use Rattle.osi_blameless.proofs.transport.Vocabulary.{Connection}
 use Rattle.osi_blameless.proofs.transport.Vocabulary.{Left, all_passed, Passing}
 use Rattle.osi_blameless.proofs.transport.small_facts_that_many_lemmas_use.{both}
 use Rattle.osi_blameless.proofs.transport.names.what_holds_of_one_item.{HoldsOfEach, after_map}

@@ -1,13 +1,18 @@
 -- The CRs that a whole calling end has put and that have not passed have references above those of all that have passed.
 -- For the law on requests.
-use Rattle.osi_blameless.proofs.transport.Vocabulary.{[], AllByRecursion, ap, append-nil, arith, arrives, asked_in, begins_other, begins_own, calls}
-use Rattle.osi_blameless.proofs.transport.Vocabulary.{Connect, connection_of, effect, Event, false, flat_map-append, Happens, is_not_judged, Left, List}
-use Rattle.osi_blameless.proofs.transport.Vocabulary.{list_any, packet, passes, passes_rubbish, put_by, react, request, Right, State, subst, suc, sym}
-use Rattle.osi_blameless.proofs.transport.Vocabulary.{Traffic, unit as passing, user_does, UserCall, uses, Value, Whole, ℕ, ◌++◌, ◌+◌, ◌<◌, ◌∙◌, ◌∷◌, ◌≡◌}
+use Rattle.osi_blameless.proofs.transport.Vocabulary.{[], AllByRecursion, ap, append-nil, arith, arrives, asked_in, begins_other}
+use Rattle.osi_blameless.proofs.transport.Vocabulary.{begins_own, calls}
+use Rattle.osi_blameless.proofs.transport.Vocabulary.{Connect, connection_of, effect, Event, false, flat_map-append, Happens, is_not_judged}
+use Rattle.osi_blameless.proofs.transport.Vocabulary.{Left, List}
+use Rattle.osi_blameless.proofs.transport.Vocabulary.{list_any, packet, passes, passes_rubbish, put_by, react, request, Right, State, subst}
+use Rattle.osi_blameless.proofs.transport.Vocabulary.{suc, sym}
+use Rattle.osi_blameless.proofs.transport.Vocabulary.{Traffic, unit as passing, user_does, UserCall, uses, Value, Whole, ℕ, ◌++◌, ◌+◌, ◌<◌}
+use Rattle.osi_blameless.proofs.transport.Vocabulary.{◌∙◌, ◌∷◌, ◌≡◌}
 use Rattle.osi_blameless.proofs.transport.Vocabulary.{◌≤◌}
 use Rattle.osi_blameless.specs.transport.Wholes.{passes_other, passes_own}
 use Rattle.osi_blameless.proofs.transport.requests.a_new_reference_is_not_in_use.{AreBelow, FewAsked, all_unlike, still_below, unused}
-use Rattle.osi_blameless.proofs.transport.requests.references_of_requests_rise.{Rise, all_gives, closed_gives, ended_gives, not_less, rise_from, rises_by}
+use Rattle.osi_blameless.proofs.transport.requests.references_of_requests_rise.{Rise, all_gives, closed_gives, ended_gives, not_less}
+use Rattle.osi_blameless.proofs.transport.requests.references_of_requests_rise.{rise_from, rises_by}
 use Rattle.osi_blameless.proofs.transport.requests.references_of_requests_rise.{sent_gives}
 use Rattle.osi_blameless.proofs.transport.requests.which_requests_are_put.{asked_among, call_asks, unit_asks}
 

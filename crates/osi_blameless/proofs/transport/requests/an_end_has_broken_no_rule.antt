@@ -1,6 +1,7 @@
 -- A side that has broken no rule has broken none after a unit of the other side, or after one of its own that breaks none; and what
 -- is noted of a unit. For the laws on whole ends.
-use Rattle.osi_blameless.proofs.transport.Vocabulary.{arith, breaks_are_noted, Course, Direction, false, Finding, has_erred, is_break, Kept, noted}
+use Rattle.osi_blameless.proofs.transport.Vocabulary.{arith, breaks_are_noted, Course, Direction, false, Finding, has_erred, is_break, Kept}
+use Rattle.osi_blameless.proofs.transport.Vocabulary.{noted}
 use Rattle.osi_blameless.proofs.transport.Vocabulary.{NotJudged, other, refused, takes, TooMany, Traffic as State, Value, ◌∙◌, ◌≡◌, ◌⊎◌}
 
 -- ---- what is noted of a unit

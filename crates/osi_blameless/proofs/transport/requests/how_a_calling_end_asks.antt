@@ -1,11 +1,17 @@
 -- What a calling end does while no class is selected: it asks for one connection, and for no other.
 -- For the law on requests.
-use Rattle.osi_blameless.proofs.transport.Vocabulary.{arith, [], ap, Bool, false, if◌then◌else◌, is_some, List, None, Option, refl, Some, subst, sym, true}
-use Rattle.osi_blameless.proofs.transport.Vocabulary.{ℕ, ◌+◌, ◌∙◌, ◌∷◌, ◌≡◌, eq-eqb, not, ◌||◌, Connect, disconnect, disconnected, error, request, Value}
-use Rattle.osi_blameless.proofs.transport.Vocabulary.{Standing, Local, class_error, link_of, may_connect, open_link, sent_all, proposal, before_class}
-use Rattle.osi_blameless.proofs.transport.Vocabulary.{to_connection, Rows, value_at, breaks, closes_call as closes, connects, sends, sends_all}
-use Rattle.osi_blameless.proofs.transport.Vocabulary.{user as by_user, user_does, UserCall, asked, Live as Connection, ends, EndReason, OpenError}
-use Rattle.osi_blameless.proofs.transport.Vocabulary.{offer_of, Offer, asks_with, put_by, put_for, put_together, MayCall, outcome, CarrierOutcome}
+use Rattle.osi_blameless.proofs.transport.Vocabulary.{arith, [], ap, Bool, false, if◌then◌else◌, is_some, List, None, Option, refl, Some}
+use Rattle.osi_blameless.proofs.transport.Vocabulary.{subst, sym, true}
+use Rattle.osi_blameless.proofs.transport.Vocabulary.{ℕ, ◌+◌, ◌∙◌, ◌∷◌, ◌≡◌, eq-eqb, not, ◌||◌, Connect, disconnect, disconnected, error}
+use Rattle.osi_blameless.proofs.transport.Vocabulary.{request, Value}
+use Rattle.osi_blameless.proofs.transport.Vocabulary.{Standing, Local, class_error, link_of, may_connect, open_link, sent_all, proposal}
+use Rattle.osi_blameless.proofs.transport.Vocabulary.{before_class}
+use Rattle.osi_blameless.proofs.transport.Vocabulary.{to_connection, Rows, value_at, breaks, closes_call as closes, connects, sends}
+use Rattle.osi_blameless.proofs.transport.Vocabulary.{sends_all}
+use Rattle.osi_blameless.proofs.transport.Vocabulary.{user as by_user, user_does, UserCall, asked, Live as Connection, ends, EndReason}
+use Rattle.osi_blameless.proofs.transport.Vocabulary.{OpenError}
+use Rattle.osi_blameless.proofs.transport.Vocabulary.{offer_of, Offer, asks_with, put_by, put_for, put_together, MayCall, outcome}
+use Rattle.osi_blameless.proofs.transport.Vocabulary.{CarrierOutcome}
 use Rattle.osi_blameless.proofs.transport.Vocabulary.{puts_none}
 unfoldable use Rattle.osi_carrier.specs.React.{react}
 use Rattle.osi_carrier.specs.State.{State}

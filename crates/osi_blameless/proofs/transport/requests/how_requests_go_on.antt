@@ -1,11 +1,17 @@
 -- The stages of a whole calling end: no connection is asked for, a CR waits to pass, or for its answer, then class 0 or class 2.
 -- For the laws on requests and on whole calling ends.
-use Rattle.osi_blameless.proofs.transport.Vocabulary.{[], AllByRecursion, ap, append_assoc, arith, arrives, begins, begins_other, begins_own, Bool, calls}
-use Rattle.osi_blameless.proofs.transport.Vocabulary.{confirm, Connect, Connection, Disconnects, disconnects_begin, Event, false, first_failed, Happens}
-use Rattle.osi_blameless.proofs.transport.Vocabulary.{HasFieldsInRange, inl, inr, is_inside, is_offered, is_some, IsConnect, Left, List, Live, Local, map}
-use Rattle.osi_blameless.proofs.transport.Vocabulary.{MayCall, None, not, Offer, offer_of, packet, packet_begins, passes_rubbish, put_by, put_for, react}
-use Rattle.osi_blameless.proofs.transport.Vocabulary.{refl, refused as not_read, request, request_tests, Right, Rows, Some, State, subst, sym, takes}
-use Rattle.osi_blameless.proofs.transport.Vocabulary.{Traffic, true, Two, unit as passing, user_does, UserCall, Value, Whole, ℕ, ◌++◌, ◌==◌, ◌||◌, ◌∙◌}
+use Rattle.osi_blameless.proofs.transport.Vocabulary.{[], AllByRecursion, ap, append_assoc, arith, arrives, begins, begins_other}
+use Rattle.osi_blameless.proofs.transport.Vocabulary.{begins_own, Bool, calls}
+use Rattle.osi_blameless.proofs.transport.Vocabulary.{confirm, Connect, Connection, Disconnects, disconnects_begin, Event, false}
+use Rattle.osi_blameless.proofs.transport.Vocabulary.{first_failed, Happens}
+use Rattle.osi_blameless.proofs.transport.Vocabulary.{HasFieldsInRange, inl, inr, is_inside, is_offered, is_some, IsConnect, Left, List}
+use Rattle.osi_blameless.proofs.transport.Vocabulary.{Live, Local, map}
+use Rattle.osi_blameless.proofs.transport.Vocabulary.{MayCall, None, not, Offer, offer_of, packet, packet_begins, passes_rubbish, put_by}
+use Rattle.osi_blameless.proofs.transport.Vocabulary.{put_for, react}
+use Rattle.osi_blameless.proofs.transport.Vocabulary.{refl, refused as not_read, request, request_tests, Right, Rows, Some, State, subst}
+use Rattle.osi_blameless.proofs.transport.Vocabulary.{sym, takes}
+use Rattle.osi_blameless.proofs.transport.Vocabulary.{Traffic, true, Two, unit as passing, user_does, UserCall, Value, Whole, ℕ, ◌++◌, ◌==◌}
+use Rattle.osi_blameless.proofs.transport.Vocabulary.{◌||◌, ◌∙◌}
 use Rattle.osi_blameless.proofs.transport.Vocabulary.{◌∷◌, ◌≡◌, ◌≢◌, ◌⊎◌}
 use Rattle.osi_blameless.specs.transport.Wholes.{passes_other, passes_own}
 use Rattle.osi_blameless.proofs.transport.small_facts_that_many_lemmas_use.{differ}
@@ -14,13 +20,17 @@ use Rattle.osi_blameless.proofs.transport.requests.a_refused_request_waits_no_mo
 use Rattle.osi_blameless.proofs.transport.requests.a_request_of_a_whole_end_is_new.{IsUnused, Newer, next_unused}
 use Rattle.osi_blameless.proofs.transport.class_0.a_calling_end_takes_a_cc_of_class_zero.{confirmed_so}
 use Rattle.osi_blameless.proofs.transport.class_0.an_end_goes_on_in_class_zero.{IsZeroed, zeroed_begins, zeroed_calls, zeroed_comes}
-use Rattle.osi_blameless.proofs.transport.class_0.an_end_goes_on_in_class_zero.{zeroed_elsewhere, zeroed_passes, zeroed_refused, zeroed_takes}
-use Rattle.osi_blameless.proofs.transport.requests.how_a_calling_end_asks.{Calls, Idle, IsCalling, IsOver, Offers, asks_one, broke, dc_ends, idles, none_calls, one}
+use Rattle.osi_blameless.proofs.transport.class_0.an_end_goes_on_in_class_zero.{zeroed_elsewhere, zeroed_passes, zeroed_refused}
+use Rattle.osi_blameless.proofs.transport.class_0.an_end_goes_on_in_class_zero.{zeroed_takes}
+use Rattle.osi_blameless.proofs.transport.requests.how_a_calling_end_asks.{Calls, Idle, IsCalling, IsOver, Offers, asks_one, broke, dc_ends}
+use Rattle.osi_blameless.proofs.transport.requests.how_a_calling_end_asks.{idles, none_calls, one}
 use Rattle.osi_blameless.proofs.transport.requests.how_a_calling_end_asks.{one_calls, over_calls, over_takes, refusal_takes, same}
 use Rattle.osi_blameless.proofs.transport.names.what_holds_of_one_item.{HoldsOfEach}
 use Rattle.osi_blameless.proofs.transport.requests.what_lasts_at_the_judge.{lasts_passing}
-use Rattle.osi_blameless.proofs.transport.requests.while_no_class_is_selected.{AllOver, Answer, Asked, GoesOn, IsDc, IsDone, IsRefusal, Waits, asks_passed}
-use Rattle.osi_blameless.proofs.transport.requests.while_no_class_is_selected.{calm_judge, confirmed_judge, confirms, done_begins, done_takes, over_begins}
+use Rattle.osi_blameless.proofs.transport.requests.while_no_class_is_selected.{AllOver, Answer, Asked, GoesOn, IsDc, IsDone, IsRefusal}
+use Rattle.osi_blameless.proofs.transport.requests.while_no_class_is_selected.{Waits, asks_passed}
+use Rattle.osi_blameless.proofs.transport.requests.while_no_class_is_selected.{calm_judge, confirmed_judge, confirms, done_begins}
+use Rattle.osi_blameless.proofs.transport.requests.while_no_class_is_selected.{done_takes, over_begins}
 use Rattle.osi_blameless.proofs.transport.requests.while_no_class_is_selected.{over_still, refuses, says_nothing, waits_begins, waits_takes}
 use Rattle.osi_blameless.proofs.transport.calling.a_dr_for_what_is_gone.{after_arriving, after_calling}
 

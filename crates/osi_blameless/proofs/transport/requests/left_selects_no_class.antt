@@ -1,6 +1,7 @@
 -- The class that right's CC selects stays as units of left pass.
 -- For the law on a whole end.
-use Rattle.osi_blameless.proofs.transport.Vocabulary.{arith, ◌≡◌, Value, reach_of, class_for, none_told, Outcome, reached, Traffic as State, takes, Course}
+use Rattle.osi_blameless.proofs.transport.Vocabulary.{arith, ◌≡◌, Value, reach_of, class_for, none_told, Outcome, reached, Traffic as State}
+use Rattle.osi_blameless.proofs.transport.Vocabulary.{takes, Course}
 use Rattle.osi_blameless.proofs.transport.Vocabulary.{Left, Finding, Reach}
 
 reached_class : (r : Reach) (c : Course) → (reached Left r c).class ≡ c.class

@@ -1,12 +1,15 @@
 -- No CR of a whole calling end is blamed, whatever happens.
 -- For the law of that name.
-use Rattle.osi_blameless.proofs.transport.Vocabulary.{[], arith, begin, Connect, Connection, Disconnects, Event, false, HappenAlong, Happens, is_stopped}
-use Rattle.osi_blameless.proofs.transport.Vocabulary.{Kept, Left, List, Local, no_disconnects, refl, request, subst, sym, takes, TooMany, Traffic, true}
+use Rattle.osi_blameless.proofs.transport.Vocabulary.{[], arith, begin, Connect, Connection, Disconnects, Event, false, HappenAlong}
+use Rattle.osi_blameless.proofs.transport.Vocabulary.{Happens, is_stopped}
+use Rattle.osi_blameless.proofs.transport.Vocabulary.{Kept, Left, List, Local, no_disconnects, refl, request, subst, sym, takes, TooMany}
+use Rattle.osi_blameless.proofs.transport.Vocabulary.{Traffic, true}
 use Rattle.osi_blameless.proofs.transport.Vocabulary.{Value, Whole, ◌∙◌, ◌∷◌, ◌≡◌, ◌⊎◌}
 use Rattle.osi_blameless.proofs.transport.requests.a_new_reference_is_not_in_use.{Passed}
 use Rattle.osi_blameless.proofs.transport.names.a_reference_names_one_connection.{no_item}
 use Rattle.osi_blameless.proofs.transport.requests.a_request_of_a_whole_end_is_new.{IsUnused, Newer, next_unused, still_newer}
-use Rattle.osi_blameless.proofs.transport.requests.how_requests_go_on.{Stage, asks, calm_passes, known, quiet, still_staged, zero, answered, ended, refused, waits}
+use Rattle.osi_blameless.proofs.transport.requests.how_requests_go_on.{Stage, asks, calm_passes, known, quiet, still_staged, zero, answered}
+use Rattle.osi_blameless.proofs.transport.requests.how_requests_go_on.{ended, refused, waits}
 use Rattle.osi_blameless.proofs.transport.class_0.what_an_end_does_in_class_zero.{anyhow, zero_puts}
 use Rattle.osi_blameless.proofs.transport.requests.what_lasts_at_the_judge.{lasts_happening}
 use Rattle.osi_blameless.proofs.transport.requests.while_no_class_is_selected.{AllOver, GoesOn, calm_judge}

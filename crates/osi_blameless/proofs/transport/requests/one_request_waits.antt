@@ -1,11 +1,16 @@
 -- While no class is selected, one connection at most is not over for left: that of the CR which waits for its answer.
 -- For the law of that name.
 use Rattle.osi_blameless.proofs.transport.Vocabulary.{arith, [], ap, Bool, false, is_some, List, None, Option, refl, Some, suc, sym, true}
-use Rattle.osi_blameless.proofs.transport.Vocabulary.{zero, ℕ, ◌∙◌, ◌∷◌, ◌≡◌, list_all, position, slice_get, ◌||◌, Connect, Value, Class, is_applied}
-use Rattle.osi_blameless.proofs.transport.Vocabulary.{reach_of, first_failed, begins, is_free, is_live, is_named, is_over, asks_by, asks_kept}
-use Rattle.osi_blameless.proofs.transport.Vocabulary.{at_place, class_for, connection_after, course_after, course_begins, found_on, fresh, one_told}
-use Rattle.osi_blameless.proofs.transport.Vocabulary.{reached, request_tests, routed, Traffic as State, unnamed_told, Connection, Course, Direction, Left}
-use Rattle.osi_blameless.proofs.transport.Vocabulary.{Finding, Kept, Reach, Route, Asks, Named, Only, Unnamed, all_passed, HoldsOfOne, packet, passes}
+use Rattle.osi_blameless.proofs.transport.Vocabulary.{zero, ℕ, ◌∙◌, ◌∷◌, ◌≡◌, list_all, position, slice_get, ◌||◌, Connect, Value, Class}
+use Rattle.osi_blameless.proofs.transport.Vocabulary.{is_applied}
+use Rattle.osi_blameless.proofs.transport.Vocabulary.{reach_of, first_failed, begins, is_free, is_live, is_named, is_over, asks_by}
+use Rattle.osi_blameless.proofs.transport.Vocabulary.{asks_kept}
+use Rattle.osi_blameless.proofs.transport.Vocabulary.{at_place, class_for, connection_after, course_after, course_begins, found_on, fresh}
+use Rattle.osi_blameless.proofs.transport.Vocabulary.{one_told}
+use Rattle.osi_blameless.proofs.transport.Vocabulary.{reached, request_tests, routed, Traffic as State, unnamed_told, Connection, Course}
+use Rattle.osi_blameless.proofs.transport.Vocabulary.{Direction, Left}
+use Rattle.osi_blameless.proofs.transport.Vocabulary.{Finding, Kept, Reach, Route, Asks, Named, Only, Unnamed, all_passed, HoldsOfOne}
+use Rattle.osi_blameless.proofs.transport.Vocabulary.{packet, passes}
 use Rattle.osi_blameless.proofs.transport.Vocabulary.{Passing, rubbish, unit}
 use Rattle.osi_blameless.proofs.transport.small_facts_that_many_lemmas_use.{and_first, and_second, differ}
 use Rattle.osi_blameless.proofs.transport.lines.what_is_right_passes_each_test.{passes_each}

@@ -1,7 +1,9 @@
 -- The CRs that a carrier writes have references that rise, and each is above those of the CRs before it.
 -- For the law on new references.
-use Rattle.osi_blameless.proofs.transport.Vocabulary.{[], arith, Bool, if◌then◌else◌, List, Option, refl, ℕ, ◌++◌, ◌<◌, ◌∙◌, ◌∷◌, ◌≡◌, ◌≤◌, AllByRecursion}
-use Rattle.osi_blameless.proofs.transport.Vocabulary.{Value, Standing, effect, How, closed_on, open_link, sent, sent_all, react, reacts, RiseBy, does}
+use Rattle.osi_blameless.proofs.transport.Vocabulary.{[], arith, Bool, if◌then◌else◌, List, Option, refl, ℕ, ◌++◌, ◌<◌, ◌∙◌, ◌∷◌, ◌≡◌, ◌≤◌}
+use Rattle.osi_blameless.proofs.transport.Vocabulary.{AllByRecursion}
+use Rattle.osi_blameless.proofs.transport.Vocabulary.{Value, Standing, effect, How, closed_on, open_link, sent, sent_all, react, reacts}
+use Rattle.osi_blameless.proofs.transport.Vocabulary.{RiseBy, does}
 use Rattle.osi_blameless.proofs.transport.Vocabulary.{ends, EndReason, all_written, asks_with, State}
 use Rattle.osi_carrier.specs.Calls.{sent_on}
 unfoldable use Rattle.osi_carrier.specs.Packets.{after_packet}

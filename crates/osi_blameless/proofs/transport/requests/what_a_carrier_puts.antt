@@ -1,10 +1,15 @@
 -- Of which units it is that a carrier puts as it takes a unit, and as its user makes a call.
 -- For what is found of the units of an end.
-use Rattle.osi_blameless.proofs.transport.Vocabulary.{arith, [], Bool, Err, List, map, None, Ok, Option, Result, Some, ℕ, ◌+◌, ◌∷◌, AllByRecursion}
-use Rattle.osi_blameless.proofs.transport.Vocabulary.{confirm, Connect, disconnect, disconnected, request, Value, Given, Standing, unit_of, Selection}
-use Rattle.osi_blameless.proofs.transport.Vocabulary.{LinkFault, Class, acceptance, open_link, sent, answers_by as answers, answers_request, before_class}
-use Rattle.osi_blameless.proofs.transport.Vocabulary.{in_two, in_zero, taking, to_connection, to_linked, to_only, Rows, UserCall, Live as Connection}
-use Rattle.osi_blameless.proofs.transport.Vocabulary.{put_by, put_for, put_sent, put_together, State, refl, ◌≡◌, false, if◌then◌else◌, true, accept}
+use Rattle.osi_blameless.proofs.transport.Vocabulary.{arith, [], Bool, Err, List, map, None, Ok, Option, Result, Some, ℕ, ◌+◌, ◌∷◌}
+use Rattle.osi_blameless.proofs.transport.Vocabulary.{AllByRecursion}
+use Rattle.osi_blameless.proofs.transport.Vocabulary.{confirm, Connect, disconnect, disconnected, request, Value, Given, Standing, unit_of}
+use Rattle.osi_blameless.proofs.transport.Vocabulary.{Selection}
+use Rattle.osi_blameless.proofs.transport.Vocabulary.{LinkFault, Class, acceptance, open_link, sent, answers_by as answers, answers_request}
+use Rattle.osi_blameless.proofs.transport.Vocabulary.{before_class}
+use Rattle.osi_blameless.proofs.transport.Vocabulary.{in_two, in_zero, taking, to_connection, to_linked, to_only, Rows, UserCall}
+use Rattle.osi_blameless.proofs.transport.Vocabulary.{Live as Connection}
+use Rattle.osi_blameless.proofs.transport.Vocabulary.{put_by, put_for, put_sent, put_together, State, refl, ◌≡◌, false, if◌then◌else◌, true}
+use Rattle.osi_blameless.proofs.transport.Vocabulary.{accept}
 use Rattle.osi_blameless.proofs.transport.Vocabulary.{refuse, selected_by, Two, Zero, denies, has_peer, is_full}
 use Rattle.osi_blameless.proofs.transport.small_facts_that_many_lemmas_use.{all_join}
 

@@ -1,10 +1,15 @@
 -- What is known at the judge stays known as more passes: that class 2 holds; and what is judged was judged before.
 -- For the law on requests.
-use Rattle.osi_blameless.proofs.transport.Vocabulary.{arith, arrives, asks_of, begins_other, begins_own, Bool, calls, class_for, confirm, Connect}
-use Rattle.osi_blameless.proofs.transport.Vocabulary.{Connection, Course, course_after, course_after_none, course_begins, Direction, disconnect, Event}
-use Rattle.osi_blameless.proofs.transport.Vocabulary.{false, Finding, found_on, Happens, if◌then◌else◌, is_applied, none_told, noted, NotJudged, other}
-use Rattle.osi_blameless.proofs.transport.Vocabulary.{Outcome, packet, passes, passes_rubbish, Passing, Reach, reach_of, reached, request, Route, routed}
-use Rattle.osi_blameless.proofs.transport.Vocabulary.{rubbish, Some, subst, sym, Traffic as State, true, Two, unit, unnamed_told, Value, Whole, ℕ, ◌≡◌}
+use Rattle.osi_blameless.proofs.transport.Vocabulary.{arith, arrives, asks_of, begins_other, begins_own, Bool, calls, class_for, confirm}
+use Rattle.osi_blameless.proofs.transport.Vocabulary.{Connect}
+use Rattle.osi_blameless.proofs.transport.Vocabulary.{Connection, Course, course_after, course_after_none, course_begins, Direction}
+use Rattle.osi_blameless.proofs.transport.Vocabulary.{disconnect, Event}
+use Rattle.osi_blameless.proofs.transport.Vocabulary.{false, Finding, found_on, Happens, if◌then◌else◌, is_applied, none_told, noted}
+use Rattle.osi_blameless.proofs.transport.Vocabulary.{NotJudged, other}
+use Rattle.osi_blameless.proofs.transport.Vocabulary.{Outcome, packet, passes, passes_rubbish, Passing, Reach, reach_of, reached, request}
+use Rattle.osi_blameless.proofs.transport.Vocabulary.{Route, routed}
+use Rattle.osi_blameless.proofs.transport.Vocabulary.{rubbish, Some, subst, sym, Traffic as State, true, Two, unit, unnamed_told, Value}
+use Rattle.osi_blameless.proofs.transport.Vocabulary.{Whole, ℕ, ◌≡◌}
 use Rattle.osi_blameless.specs.transport.Wholes.{passes_other, passes_own}
 use Rattle.osi_blameless.proofs.transport.small_facts_that_many_lemmas_use.{or_left}
 use Rattle.osi_blameless.proofs.transport.names.a_reference_names_one_connection.{applied_found}

@@ -1,6 +1,7 @@
 -- A carrier puts a CR only as its user calls for a connection, and gives it the next reference.
 -- For the law on requests.
-use Rattle.osi_blameless.proofs.transport.Vocabulary.{arith, [], List, ℕ, ◌∷◌, ◌≡◌, AllByRecursion, flat_map, Value, Given, unit_of, user as by_user}
+use Rattle.osi_blameless.proofs.transport.Vocabulary.{arith, [], List, ℕ, ◌∷◌, ◌≡◌, AllByRecursion, flat_map, Value, Given, unit_of}
+use Rattle.osi_blameless.proofs.transport.Vocabulary.{user as by_user}
 use Rattle.osi_blameless.proofs.transport.Vocabulary.{UserCall, asked_in, asks_with, put_by, put_for, State, refl}
 use Rattle.osi_blameless.proofs.transport.requests.what_a_carrier_puts.{accepts_any, confirms_any, put_for_so, sent_so, together_so}
 

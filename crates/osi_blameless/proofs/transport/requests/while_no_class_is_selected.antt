@@ -1,17 +1,23 @@
 -- What the other side may send a calling end while no class is selected: it answers the CR that waits, and a DC changes nothing.
 -- For the law on requests.
 use Rattle.osi_blameless.proofs.transport.Vocabulary.{arith, [], ap, Bool, false, inl, inr, length, List, map, None, Option, refl, set}
-use Rattle.osi_blameless.proofs.transport.Vocabulary.{Some, subst, suc, sym, true, zero, ℕ, ◌++◌, ◌∙◌, ◌∷◌, ◌≡◌, ◌⊎◌, slice_get-map, nat_le, not, position}
-use Rattle.osi_blameless.proofs.transport.Vocabulary.{slice_get, confirm, Connect, disconnect, disconnected, error, Value, is_applied, reach_of}
-use Rattle.osi_blameless.proofs.transport.Vocabulary.{code_named, first_failed, given_again, is_inside, is_offered, begins, is_free, is_named, is_over}
+use Rattle.osi_blameless.proofs.transport.Vocabulary.{Some, subst, suc, sym, true, zero, ℕ, ◌++◌, ◌∙◌, ◌∷◌, ◌≡◌, ◌⊎◌, slice_get-map, nat_le}
+use Rattle.osi_blameless.proofs.transport.Vocabulary.{not, position}
+use Rattle.osi_blameless.proofs.transport.Vocabulary.{slice_get, confirm, Connect, disconnect, disconnected, error, Value, is_applied}
+use Rattle.osi_blameless.proofs.transport.Vocabulary.{reach_of}
+use Rattle.osi_blameless.proofs.transport.Vocabulary.{code_named, first_failed, given_again, is_inside, is_offered, begins, is_free}
+use Rattle.osi_blameless.proofs.transport.Vocabulary.{is_named, is_over}
 use Rattle.osi_blameless.proofs.transport.Vocabulary.{is_refused, is_silent, asked_by, asks_by, at_found, at_place, class_of, closing_phase}
-use Rattle.osi_blameless.proofs.transport.Vocabulary.{Disconnects, connection_after, course_after, found, found_on, offer_of, Outcome, placed, reached}
+use Rattle.osi_blameless.proofs.transport.Vocabulary.{Disconnects, connection_after, course_after, found, found_on, offer_of, Outcome}
+use Rattle.osi_blameless.proofs.transport.Vocabulary.{placed, reached}
 use Rattle.osi_blameless.proofs.transport.Vocabulary.{sent_on}
-use Rattle.osi_blameless.proofs.transport.Vocabulary.{Traffic as State, takes, unnamed_told, uses_source, Connection, Offer, Course, Direction, Left}
+use Rattle.osi_blameless.proofs.transport.Vocabulary.{Traffic as State, takes, unnamed_told, uses_source, Connection, Offer, Course}
+use Rattle.osi_blameless.proofs.transport.Vocabulary.{Direction, Left}
 use Rattle.osi_blameless.proofs.transport.Vocabulary.{Right, Finding, Broke, Kept, Outside, TooMany, Open, Silent, noted, is_break}
 use Rattle.osi_rules.specs.declared.findings.Reach.TheVariants as reach
 use Rattle.osi_rules.specs.declared.findings.Rule.TheVariants as rule
-use Rattle.osi_blameless.proofs.transport.small_facts_that_many_lemmas_use.{begins_judged, begun_left, begun_right, judged_same, judged_so, some_same}
+use Rattle.osi_blameless.proofs.transport.small_facts_that_many_lemmas_use.{begins_judged, begun_left, begun_right, judged_same, judged_so}
+use Rattle.osi_blameless.proofs.transport.small_facts_that_many_lemmas_use.{some_same}
 use Rattle.osi_blameless.proofs.transport.names.what_holds_of_one_item.{HoldsOfEach, after_add, after_map, after_set, first_true}
 use Rattle.osi_blameless.proofs.transport.names.a_right_unit_is_not_blamed.{first_there}
 use Rattle.osi_blameless.proofs.transport.requests.a_refused_request_waits_no_more.{refused_over}
