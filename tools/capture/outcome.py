@@ -101,8 +101,8 @@ def unfollowed(pieces, fields):
 
 
 def said_of(fields):
-    """What a line of `osi judge` says of a break."""
-    return fields.get("what"), fields.get("rule")
+    """What a line of `osi judge` says of a break; of a unit with which a side leaves the profile, as of one that its state forbids."""
+    return fields.get("what"), "BadState" if fields.get("rule") == "Outside" else fields.get("rule")
 
 
 def first(names, *wanted):

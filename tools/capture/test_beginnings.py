@@ -92,7 +92,8 @@ class Again(unittest.TestCase):
     """A session on the transport connection of one that has ended: X.225 allows it, if the unit that ended it says so."""
 
     KEPT = (("0903110100", "0a00"), ("", "0c06110100320102"), ("0903110102", "0a02c100"), ("1903110102", "1a00"))
-    ENDED = (("0900", "0a00"), ("0903110101", "0a00"), ("", "0c03320102"), ("1903110103", "1a00"), ("0903110100", "0800"))
+    ENDED = (("0900", "0a00"), ("0903110101", "0a00"), ("", "0c03320102"), ("1903110103", "1a00"))
+    OPEN = "0903110100", "0800"
 
     @staticmethod
     def made(call, answer):
@@ -112,7 +113,8 @@ class Again(unittest.TestCase):
             self.assertEqual((report.status, report.judged.limit), (3, said), each)
         for each in self.ENDED:
             report = judged(self.made(*each)[0])
-            self.assertEqual((report.status, report.judged.limit), (1, None), each)
+            self.assertEqual((report.status, report.judged.limit), (3, None), each)
+        self.assertEqual(judged(self.made(*self.OPEN)[0]).status, 1)
 
     def test_a_watch_says_so(self):
         told, later = (mock.Mock(kind=mock.Mock(), rule=mock.Mock(), connection=None) for _ in range(2))
