@@ -13,7 +13,7 @@ PAGE = f"{TOP}/docs/LAWS.md"
 LAW = re.compile(r"((?:^///.*\n)+)(?:^#\[.*\]\n)*^pub fn (\w+)\([^)]*\)\n((?:^    .*\n)*)\{", re.M)
 HEAD = """# Laws
 
-Read this page if you need the exact statement behind a sentence of [PROVED.md](PROVED.md). A contract is about one call. A law is about what follows from contracts: over lists of calls, over pieces, or between two values. A law is a public function that does nothing but cite other laws. Its clauses are the law, and `rt check` proves them. `scripts/pages --write` makes this page from the comments above the laws.
+This page is for whoever needs the exact statement behind a sentence of [PROVED.md](PROVED.md). A contract says what one call does. A law says what follows from contracts, for example over any list of calls, or over a stream that arrives in any pieces. Each law is a public function that does nothing; `rt check` proves its clauses. `scripts/pages --write` takes the sentences below from the comments above the laws.
 """
 
 
