@@ -162,6 +162,20 @@ impl Standing {
         self.state.numbers
     }
 
+    /// The first number of the connection; 0 until the CN is accepted, or if no functional unit has points (X.225 section 5.9).
+    pub fn first_number(&self) -> u32
+        ensures { result ≡ self.now.state.base }
+    {
+        self.state.base
+    }
+
+    /// Whether the functional unit resynchronize is selected, or named by a CN that isn't answered yet.
+    pub fn has_resynchronize(&self) -> bool
+        ensures { result ≡ self.now.state.units.resynchronize }
+    {
+        self.state.units.resynchronize
+    }
+
     /// The called side, which waits for a CN.
     #[tactic(auto, using(crate::proofs::runs::the_invariant_in_memory::awaiting_sound))]
     pub fn called() -> Standing

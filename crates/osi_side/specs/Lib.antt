@@ -9,6 +9,7 @@ pub mod Runs
 pub mod Profiles
 pub mod Members
 pub mod Foremost
+pub mod LeftOut
 pub mod Nearest
 pub mod Kept
 pub mod Walking

@@ -9,16 +9,14 @@ use Rattle.osi_spdu.specs.declared.kinds.Kind.{Kind}
 use Rattle.osi_spdu.specs.Known.{Contents}
 use Rattle.osi_spdu.specs.Units.{said_by}
 use Rattle.osi_message.specs.Reading.{word, said_at}
-use Rattle.osi_message.specs.Meanings.{Meaning, CN, RS}
+use Rattle.osi_message.specs.Meanings.{Meaning}
 use Rattle.osi_message.specs.Words.{as_message}
-use Rattle.osi_session.specs.Respond.{is_restart}
 use Rattle.osi_session.specs.declared.breaches.Breach.{Breach}
 use Rattle.osi_session.specs.declared.breaches.Breach.TheVariants as breach
 use Rattle.osi_session.specs.declared.faults.CallError.{CallError}
 use Rattle.osi_session.specs.declared.faults.CallError.TheVariants as error
 use Rattle.osi_session.specs.Breaches.{breach_of}
 use Rattle.osi_session.specs.Joining.{respond_came}
-use Rattle.osi_session.specs.Phases.{is_ended}
 use Rattle.osi_session.specs.Standing.{Seen, Count, counted, listens, after_count}
 use Rattle.osi_side.specs.declared.members.Member.{Member}
 use Rattle.osi_side.specs.declared.rules.Break.{Break}
@@ -28,6 +26,7 @@ use Rattle.osi_side.specs.declared.rules.Question.TheVariants as question
 use Rattle.osi_side.specs.declared.rules.Rule.{Rule}
 use Rattle.osi_side.specs.declared.rules.Rule.TheVariants.{Breach as by_breach, Fault}
 use Rattle.osi_side.specs.Foremost.{is_before, first_of}
+use Rattle.osi_side.specs.LeftOut.{is_unit_left_out}
 
 -- ---- the rules, by the order in which they are tested
 
@@ -72,25 +71,9 @@ abbrev pub kind_in : Unsaid → Option Kind
 kind_in (a_unit unit octets) = Some unit.kind
 kind_in (unread fault) = None
 
--- a resynchronization of type abandon or set
-abbrev pub is_other_resync : Meaning → Bool
-is_other_resync (RS kind number wishes octets) = not (is_restart kind)
-is_other_resync m = false
-
--- a CN of a calling side whose session is over
-abbrev pub opens_again : Seen → Meaning → Bool
-opens_again s (CN version_2 requirements serial wishes calling called sizes octets) = s.state.is_caller && is_ended s.state.phase
-opens_again s m = false
-
--- The numbers that X.225 allows such a resynchronization are not those of a restart, so it leaves the profile whatever its
--- number. And X.225 lets another session follow on the transport connection of one that is over (section 6.2).
-abbrev pub profiled : (is_again is_other : Bool) → Breach → Breach
-profiled true is_other b = breach.Outside
-profiled false true (breach.Call error.BadNumber) = breach.Outside
-profiled false is_other b = b
-
+-- what X.225 allows and this product leaves out leaves the profile, whichever rule of this product it breaks
 abbrev pub told_as : Seen → Meaning → Breach → Breach
-told_as s m b = profiled (opens_again s m) (is_other_resync m) b
+told_as s m b = if is_unit_left_out s m b then breach.Outside else b
 
 abbrev pub told_of : Seen → Contents → Breach → Breach
 told_of s unit b = told_as s (as_message (word unit)) b

@@ -33,6 +33,7 @@ mod findings;
 mod first_places;
 mod heard;
 pub mod laws;
+mod left_out;
 mod members;
 mod outlines;
 mod profiles;

@@ -2,21 +2,21 @@
 
 ghost use Rattle.std.specs.Prelude.{◌≡◌, ◌≤◌, IfOk, List, length};
 ghost use Rattle.std.specs.List.{fold};
-ghost use Rattle.osi_message.specs.Meanings.{meant_by};
 ghost use Rattle.osi_spdu.specs.Groups.{units_of};
 ghost use Rattle.osi_spdu.specs.Units.{said_by};
 ghost use Rattle.osi_side.specs.declared.members.Member.{Member};
 ghost use Rattle.osi_side.specs.Breaking.{LeavesBehind, BreaksIn, BreaksAt, in_effect, selection_of};
 ghost use Rattle.osi_side.specs.Nearest.{call_place, place, is_nearer, a_unit, unsaid, kind_in, rule_for, tried, reached, far, nearest};
-ghost use Rattle.osi_side.specs.Nearest.{break_of, is_other_resync, opens_again, told_as, told_of};
+ghost use Rattle.osi_side.specs.Nearest.{break_of, told_of};
 
 use crate::heard::Heard;
+use crate::left_out::is_unit_left_out;
 use crate::members::{Member, none_is_left};
 use crate::standings::{Turn, first_of, foremost, is_before, take_next};
 use crate::telling::behind_unit;
 use osi_message::Message;
-use osi_session::{Breach, CallError, Phase, Standing};
-use osi_spdu::{Group, Kind, ResyncType, Spdu, SpduFault, read_group};
+use osi_session::{Breach, CallError, Standing};
+use osi_spdu::{Group, Kind, Spdu, SpduFault, read_group};
 use std::alloc::{AllocError, Global};
 
 /// Why a side may not send what it sent (X.225 sections 7 and 8).
@@ -56,47 +56,15 @@ impl Break {
     }
 }
 
-/// Whether a message is a resynchronization of type abandon or set.
-fn is_other_resync(message: &Message) -> bool
-    ensures { result ≡ is_other_resync (meant_by message.now) }
-{
-    match message {
-        Message::Restart { kind, .. } => !matches!(kind, ResyncType::Restart),
-        _ => false,
-    }
-}
-
-/// Whether a message is a CN of a calling side whose session is over.
-fn opens_again(standing: &Standing, message: &Message) -> bool
-    ensures { result ≡ opens_again standing.now (meant_by message.now) }
-{
-    match message {
-        Message::Connect { .. } => standing.is_caller() && matches!(standing.phase(), Phase::Ended),
-        _ => false,
-    }
-}
-
-/// The rule that is told of a message which breaks this one in this state.
-fn told_as(standing: &Standing, message: &Message, breach: Breach) -> Breach
-    ensures { result ≡ told_as standing.now (meant_by message.now) breach }
-{
-    if opens_again(standing, message) {
-        return Breach::Outside;
-    }
-    match breach {
-        Breach::Call(CallError::BadNumber) if is_other_resync(message) => Breach::Outside,
-        _ => breach,
-    }
-}
-
-/// The rule that is told of a unit which breaks this one in this state. A resynchronization of another type than a restart leaves
-/// the profile whatever its number, since X.225 allows it other numbers than a restart. So does a CN after the end of a session:
-/// X.225 lets another session follow on the same transport connection (section 6.2).
+/// The rule that is told of a unit which breaks this one in this state: what X.225 allows there leaves the profile.
 #[tactic(auto, using(crate::proofs::told::a_rule_is_told_of_the_message::told_word))]
 fn told_of(standing: &Standing, unit: &Spdu, breach: Breach) -> Breach
     ensures { result ≡ told_of standing.now (said_by unit.now) breach }
 {
-    told_as(standing, &Message::of(unit), breach)
+    if is_unit_left_out(standing, &Message::of(unit), breach) {
+        return Breach::Outside;
+    }
+    breach
 }
 
 /// What no session sends: a unit of a TSDU of this many octets, or a TSDU that is not session units.
