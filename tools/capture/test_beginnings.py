@@ -10,7 +10,7 @@ from ladders import judged as judged_by_ladders
 from . import annotating, asking, frames, judging, outcome, streams, texts, units, watching
 from .test_frames import AC, ACK, CC, CN, CR, DN, DT, FN, PUSH, SYN, Frames, Room, packet, pcap_of, stream_of, whole
 from .test_honest import Judge as Strict
-from .test_passing import call, judged, needs_osi
+from .test_passing import OSI, call, judged, needs_osi
 
 MIDDLE = "begins in the middle"
 # Units of class 2: two CRs, the second of which also offers class 0, what may answer them, and what is of an earlier connection.
@@ -159,7 +159,7 @@ class BothRelease(Room):
         rows = ("left", CR), ("right", CC), ("left", CN), ("right", AC), ("left", FN), ("right", FN), ("left", DN), ("right", DN)
         text = "".join("\t" * (side == "right") + octets.hex() + "\n" for side, octets in rows)
         stream = texts.read(self.write(text.encode(), "run"))
-        found = judging.Judged(stream, judged_by_ladders.runner(None, lambda name: lambda seconds: None))
+        found = judging.Judged(stream, judged_by_ladders.runner(OSI, lambda name: lambda seconds: None))
         said = "judged up to octet 35 of right, with which right asks for the release (FN), as the other side does"
         self.assertEqual((found.status(), found.limit), (3, said))
 
