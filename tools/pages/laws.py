@@ -10,6 +10,7 @@ import re
 
 TOP = os.path.dirname(os.path.dirname(os.path.dirname(os.path.abspath(__file__))))
 PAGE = f"{TOP}/docs/LAWS.md"
+LINK = re.compile(r"\[`([^`]+)`\]: (\S+)")
 LAW = re.compile(r"((?:^///.*\n)+)(?:^#\[.*\]\n)*^pub fn (\w+)\([^)]*\)\n((?:^    .*\n)*)\{", re.M)
 HEAD = """# Laws
 
@@ -37,7 +38,17 @@ def laws_of(crate, module):
     """The laws of a file of a crate: name, clauses and text."""
     for comment, name, clauses in LAW.findall(read(f"{TOP}/crates/{crate}/src/{module}")):
         text = " ".join(line.removeprefix("///").strip() for line in comment.splitlines())
-        yield name, re.findall(r"^    ensures (\w+) \{", clauses, re.M), text
+        yield name, re.findall(r"^    ensures (\w+) \{", clauses, re.M), linked(text, os.path.dirname(f"{TOP}/crates/{crate}/src/{module}"))
+
+
+def linked(text, folder):
+    """A comment as the page has it: a name with a file, as seen from a folder, is a link to that file, and any other is code."""
+    files = dict(LINK.findall(text))
+
+    def shown(found):
+        name = found[1].removeprefix("crate::")
+        return f"[`{name}`]({os.path.relpath(f'{folder}/{files[name]}', os.path.dirname(PAGE))})" if name in files else f"`{name}`"
+    return re.sub(r"\[`([^`]+)`\]", shown, LINK.sub("", text))
 
 
 def drawn():
