@@ -37,7 +37,7 @@ def modules_of(crate):
 def laws_of(crate, module):
     """The laws of a file of a crate: name, clauses and text."""
     for comment, name, clauses in LAW.findall(read(f"{TOP}/crates/{crate}/src/{module}")):
-        text = " ".join(line.removeprefix("///").strip() for line in comment.splitlines())
+        text = "\n".join(line.removeprefix("///").strip() for line in comment.splitlines())
         yield name, re.findall(r"^    ensures (\w+) \{", clauses, re.M), linked(text, os.path.dirname(f"{TOP}/crates/{crate}/src/{module}"))
 
 
@@ -63,7 +63,7 @@ def drawn():
                 heading = "\n"
             for name, clauses, text in laws:
                 named = f" ({', '.join(f'`{it}`' for it in clauses)})" if len(clauses) > 1 else ""
-                parts += ["\n", f"**`{name}`**{named}\n", *(f"{line}\n" for line in folded(text))]
+                parts += ["\n", f"**`{name}`**{named}\n", "\n\n".join("\n".join(folded(each)) for each in text.strip().split("\n\n")), "\n"]
     return "".join(parts)
 
 
