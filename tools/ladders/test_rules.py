@@ -94,7 +94,7 @@ class Rules(unittest.TestCase):
 
     def test_the_tables_of_the_page_have_the_clauses_of_the_sentences(self):
         with open(os.path.join(script.TOP, "docs", "TOOL.md"), encoding="utf-8") as page:
-            text = page.read().partition("**The session.** The clause")[2]
+            text = page.read().partition("### The rules of the session")[2]
         units, session, transport = text.partition("| RULE")[0], *text.split("| RULE")[1:3]
         for name, (long_name, number) in rules.UNITS.items():
             short = re.search(r"\((\w+)\)", long_name)[1]

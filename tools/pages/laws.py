@@ -10,6 +10,7 @@ import re
 
 TOP = os.path.dirname(os.path.dirname(os.path.dirname(os.path.abspath(__file__))))
 PAGE = f"{TOP}/docs/LAWS.md"
+LINK = re.compile(r"\[`([^`]+)`\]: (\S+)")
 LAW = re.compile(r"((?:^///.*\n)+)(?:^#\[.*\]\n)*^pub fn (\w+)\([^)]*\)\n((?:^    .*\n)*)\{", re.M)
 HEAD = """# Laws
 
@@ -36,8 +37,18 @@ def modules_of(crate):
 def laws_of(crate, module):
     """The laws of a file of a crate: name, clauses and text."""
     for comment, name, clauses in LAW.findall(read(f"{TOP}/crates/{crate}/src/{module}")):
-        text = " ".join(line.removeprefix("///").strip() for line in comment.splitlines())
-        yield name, re.findall(r"^    ensures (\w+) \{", clauses, re.M), text
+        text = "\n".join(line.removeprefix("///").strip() for line in comment.splitlines())
+        yield name, re.findall(r"^    ensures (\w+) \{", clauses, re.M), linked(text, os.path.dirname(f"{TOP}/crates/{crate}/src/{module}"))
+
+
+def linked(text, folder):
+    """A comment as the page has it: a name with a file, as seen from a folder, is a link to that file, and any other is code."""
+    files = dict(LINK.findall(text))
+
+    def shown(found):
+        name = found[1].removeprefix("crate::")
+        return f"[`{name}`]({os.path.relpath(f'{folder}/{files[name]}', os.path.dirname(PAGE))})" if name in files else f"`{name}`"
+    return re.sub(r"\[`([^`]+)`\]", shown, LINK.sub("", text))
 
 
 def drawn():
@@ -52,7 +63,7 @@ def drawn():
                 heading = "\n"
             for name, clauses, text in laws:
                 named = f" ({', '.join(f'`{it}`' for it in clauses)})" if len(clauses) > 1 else ""
-                parts += ["\n", f"**`{name}`**{named}\n", *(f"{line}\n" for line in folded(text))]
+                parts += ["\n", f"**`{name}`**{named}\n", "\n\n".join("\n".join(folded(each)) for each in text.strip().split("\n\n")), "\n"]
     return "".join(parts)
 
 

@@ -38,12 +38,12 @@ ghost use Rattle.osi_between.specs.Meeting.{Meeting, mirror, here, there, out, b
 ghost use Rattle.osi_between.specs.Messages.{Message, ask, message, bye};
 ghost use Rattle.osi_between.specs.Progress.{in_use};
 
-/// A connection of class 2 that both carriers have had open, seen from one of them. This carrier can always take the
-/// oldest unit in flight to it, without a fault and without ending: the unit is a DT or an AK that the link expects,
-/// one that a closing connection ignores, or the DR or DC that ends the connection here. In this step and in each call,
-/// what was in flight arrives in order and is reported, and what is put follows what stays in flight. A connection that
-/// is closed loses only TSDUs that it had not yet cut into units. No other connection changes. The same holds seen from
-/// the other carrier.
+/// A connection of class 2 that both carriers have had open, seen from one of them. This carrier can always take
+/// the oldest unit in flight to it, without a fault and without ending. The unit is a DT or an AK that the link
+/// expects, one that a closing connection ignores, or the DR or DC that ends the connection here. In this step and
+/// in each call, what was in flight to this carrier arrives in order and is reported, and what this carrier sends
+/// is in flight after what was in flight before. A connection that is closed loses only TSDUs that it had not yet
+/// cut into units. No other connection changes. The same holds seen from the other carrier.
 pub fn what_a_connection_carries()
     ensures taken { (n : ℕ) (s : State) (m : Meeting) (unit : Value) (rest : List Value) → IsAt n s m → back n m ≡ unit ∷ rest →
         Moves n m s (react unit s) (unit ∷ []) (answers_of (here n m) unit) }
@@ -57,10 +57,10 @@ pub fn what_a_connection_carries()
     ensures twice { (m : Meeting) → mirror (mirror m) ≡ m }
 {}
 
-/// The octets that a carrier holds of a packet, followed by those that its peer has still to hand over, are the packets
-/// of at most one list of units; units that the peer writes are added at its end. However many of these octets are fed,
-/// the carrier takes the units one after the other, up to one that stops it or that runs out of memory. The octets are
-/// never at fault.
+/// Take the octets of a packet that a carrier holds, followed by the octets that its peer has still to hand over.
+/// They are the packets of at most one list of units (`one`), and units that the peer then writes are added at its
+/// end (`more`). However many of these octets are fed, the carrier takes the units one after the other, up to one
+/// that stops it or at which memory runs out (`fed`). The octets are never at fault.
 pub fn what_was_written_is_taken()
     ensures one { (held outgoing : List ℕ) (us vs : List Value) → AreComing held outgoing us → AreComing held outgoing vs → us ≡ vs }
     ensures more { (held outgoing : List ℕ) (coming units : List Value) → AreComing held outgoing coming → AllByRecursion IsSendable units →
@@ -70,12 +70,12 @@ pub fn what_was_written_is_taken()
         TakesSome old outgoing coming fed.used new }
 {}
 
-/// Two carriers that both support class 2, from the beginning on, and the units in flight between them, seen from an
-/// end (`going` from it, `coming` to it; `end` is true for the caller). Whatever unit is taken, the oldest first, and
-/// whatever call is made, the two stay joined. So neither end ends because of what the other wrote: there is no fault
-/// of a link, no unknown reference, no bad answer and no unexpected unit; each CR is accepted, under the number that
-/// the caller gave; and `ActsFor` says what is in flight for each connection. If no unit is in flight, a connection
-/// that is open at both has nothing unfinished either.
+/// Two carriers that both support class 2, and the units in flight between them, seen from one of them: `going`
+/// away from it, `coming` to it; `end` is true for the caller. New ones are joined, and they stay so whatever unit
+/// is taken, the oldest first, and whatever call is made. So neither carrier ends because of what the other wrote:
+/// there is no fault of a link, no unknown reference, no bad answer and no unexpected unit, and each CR is
+/// accepted, under the number that the caller gave. `ActsFor` says what is in flight for each connection. If no
+/// unit is in flight, a connection that is open at both has nothing unfinished either.
 pub fn two_carriers_stay_joined()
     ensures begins { (caller called : Local) → caller.class2 ≡ true → called.class2 ≡ true →
         AreJoined (fresh_state true caller) (fresh_state false called) [] [] }
@@ -102,10 +102,10 @@ pub fn two_carriers_stay_joined()
         (under_way_for n caller called [] ≡ []) × (under_way_for n called caller [] ≡ []) }
 {}
 
-/// Two carriers that both support class 2, with the octets between them, seen from an end. New ones are linked. They
-/// stay linked after any number of octets of one is fed to the other, however they are cut into pieces, unless that
-/// carrier runs out of memory. They also stay linked after each call of [`two_carriers_stay_joined`], and after an
-/// event is reported. Feeding takes units, one after the other.
+/// The same with the octets between them in place of units. New carriers that both support class 2 are linked. They
+/// stay linked after any number of octets of one is fed to the other, in whatever pieces, unless that carrier runs
+/// out of memory; after each call of [`two_carriers_stay_joined`]; and after an event is reported. Feeding takes
+/// units, one after the other.
 pub fn two_carriers_stay_linked()
     ensures begins { (caller called : Carrying) (a b : Local) → a.class2 ≡ true → b.class2 ≡ true → caller.state ≡ fresh_state true a →
         called.state ≡ fresh_state false b → caller.held.octets ≡ [] → called.held.octets ≡ [] → AreLinked true caller called [] [] }
@@ -123,16 +123,19 @@ pub fn two_carriers_stay_linked()
         AreLinked end (with_events events this) other going coming }
 {}
 
-/// A caller's and a called end's carrier and the octets between them, whatever they agree on: class 2, class 0, or that
-/// each connection is refused. `AreBetween` holds of new ones. It still holds after the next packet that an end holds,
-/// after each call, when octets are handed over and events are reported, when an end ends for whatever reason, out of
-/// memory included, and when the byte connection breaks. A packet is one unit, and nothing that the other end wrote
-/// ends this end or is a fault. What was in flight to the acting end has arrived and was reported, or still is in
-/// flight; only an end that is closing drops octets, at the beginning of the first message. What is in flight from it
-/// stays, and what is put follows it, except for what a close discards. An end and a break discard the last part of
-/// what is in flight, and after a break nothing that is put arrives. A reference is given for each connection that is
-/// requested or accepted, and for no other; a CC, or a CR that is accepted, settles the class. In class 0 a close ends
-/// the carrier.
+/// The carriers of a caller and a called end, and the octets between them, whatever they agree on: class 2, class
+/// 0, or that each connection is refused. `AreBetween` holds of new ones. It still holds after the next packet that
+/// an end holds, after each call, when octets are handed over and events are reported, when an end ends for
+/// whatever reason, out of memory included, and when the byte connection breaks.
+///
+/// A packet is one unit, and nothing that the other end wrote ends this end or is a fault. What was in flight to
+/// the end that takes or calls has arrived and was reported, or is still in flight; only an end that is closing
+/// drops octets, at the beginning of the first message. What was in flight from it stays, and what it sends
+/// follows, except for what a close discards. If an end ends or the connection breaks, the last part of what is in
+/// flight is lost, and after a break nothing that is sent arrives.
+///
+/// A reference is given for each connection that is requested or accepted, and for no other. A CC, or a CR that is
+/// accepted, settles the class. In class 0 a close ends the carrier.
 pub fn whatever_becomes_of_two_carriers()
     ensures begins { (caller called : Local) →
         AreBetween (terms_of caller called) (fresh_both caller called) (fresh_between caller called) }
@@ -178,9 +181,10 @@ pub fn whatever_becomes_of_two_carriers()
         IsAllThere n both b x y }
 {}
 
-/// If an end has not ended, the octets that it holds, those that will still arrive and those that a break discarded are
-/// the packets of all units, with no fault of the stream. If memory runs out at the first packet that it holds, nothing
-/// of this packet was done. A packet is one unit; it acts, or does not act at all.
+/// Take an end that has not ended: the octets that it holds, those that will still arrive, and those that a break
+/// discarded. They are the packets of all units that are in flight to it or were lost (`coming`), and it finds no
+/// fault of the stream in them (`sound`). A packet is one unit; it takes effect, or memory runs out at it and
+/// nothing of it is done.
 pub fn what_an_end_holds()
     ensures coming { (terms : Terms) (end : Bool) (both : Both) (b : Between) →
         AreBetween terms both b → (side (not end) both).state.ended ≡ None →
@@ -197,11 +201,13 @@ pub fn what_an_end_holds()
 {}
 
 /// Over every list of what can happen to two new carriers: calls at both, octets handed over in whatever pieces,
-/// packets taken, events reported, ends and a break, in any possible order. For each connection, the TSDUs reported at
-/// one end are a prefix of those handed in at the other, in order and with their octets; seen from a later state, a
-/// prefix of those in flight followed by those handed in. `AreBetween` holds after it. An end has ended only for a
-/// reason that the list gives: a close of the connection of class 0, or an end of its own. So neither ends because of
-/// what the other wrote.
+/// packets taken, events reported, ends and a break, in any possible order. For each connection, the TSDUs that are
+/// reported at one end are a prefix of those handed in at the other, in order and with their octets (`told`). From
+/// a later state on they are a prefix of those in flight followed by those handed in (`told_on`). `AreBetween`
+/// holds after each such list (`stays`, `goes_on`).
+///
+/// An end has ended only for a reason that the list gives: a close of the connection of class 0, or an end of its
+/// own. So neither ends because of what the other wrote.
 pub fn what_no_list_of_calls_can_do()
     ensures stays { (caller called : Local) (moves : List Move) → MayAll moves (fresh_both caller called) →
         StayBetween (terms_of caller called) moves (fresh_both caller called) }
@@ -214,8 +220,8 @@ pub fn what_no_list_of_calls_can_do()
         StayBetween terms moves both }
 {}
 
-/// For a reference that the caller has not given, nothing is in flight, and the called end has given none that the
-/// caller has not. Before a class is agreed, each connection that is live at the caller awaits its answer.
+/// For a reference that the caller has not given, nothing is in flight, and the called end has given no reference
+/// that the caller has not. Before a class is agreed, each connection that is live at the caller awaits its answer.
 pub fn what_two_carriers_have()
     ensures ahead { (terms : Terms) (both : Both) (b : Between) (end : Bool) (n : ℕ) → AreBetween terms both b →
         b.caller.given < n → under_way end n both b ≡ [] }

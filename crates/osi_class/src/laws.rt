@@ -66,8 +66,9 @@ pub fn nothing_is_refused()
         d.sender.credit ≡ d.receiver.window }
 {}
 
-/// The protocol numbers units modulo 128, and the laws count them. The number after a count's number is that of the
-/// next count; and for counts less than 128 apart, the difference of their numbers is the difference of the counts.
+/// The protocol numbers units modulo 128, and the laws count them from the first one. The number of a unit is its
+/// count modulo 128: the number after it is that of the next count (`next`), and for counts less than 128 apart the
+/// distance of the numbers, modulo 128, is the distance of the counts (`earlier`, `between`).
 pub fn numbers_are_counts()
     ensures next { (count : ℕ) → (count % 128 + 1) % 128 ≡ (count + 1) % 128 }
     ensures earlier { (count ahead : ℕ) → ahead < 128 → steps_before ((count + ahead) % 128) ahead ≡ count % 128 }
@@ -139,15 +140,15 @@ pub fn many_go_as_one_by_one()
         drained (with_tsdus s tsdus) ≡ record { units = given_one_by_one s tsdus; link = one_by_one s tsdus } }
 {}
 
-/// All that a link gives has at most `most_given` octets, with this many octets of headers for each unit. In class 2
-/// this counts only units for which there is credit.
+/// All that a link gives has at most `most_given` octets, if the headers of each unit have a given number of
+/// octets. In class 2 this counts only units for which there is credit.
 pub fn what_units_take()
     ensures { (headers : ℕ) (s : Standing) → 0 < s.ends.limit →
         octets_in (all_given s) + length (all_given s) * headers ≤ most_given headers s }
 {}
 
-/// If all units of TSDUs may be given now, the first TSDU is given whole, in its parts, and then all units of the others
-/// may be given.
+/// Take TSDUs of which all units may be given now, with nothing to be sent before them. Then all octets of the
+/// first TSDU are given, and after that all units of the others may be given.
 pub fn all_go_at_once()
     ensures { (s : Standing) (tsdu : List ℕ) (others : List (List ℕ)) → 0 < s.ends.limit → AllGoAtOnce s (tsdu ∷ others) →
         GoesWhole s tsdu others }
@@ -175,7 +176,8 @@ pub fn no_tsdu_is_too_long()
         joined p.right.ends.joining end octets ≡ Ok (with_part p.right.ends.joining end octets) }
 {}
 
-/// A unit that a link gives, written for any reference, means to its peer's link what was given.
+/// A unit that a link gives can be written as a transport unit for any reference. The peer's link reads in that
+/// transport unit exactly the unit that was given.
 pub fn a_unit_says_what_was_given()
     ensures { (destination : ℕ) (unit : Given) → given_in (unit_of destination unit) ≡ unit ∷ [] }
 {}

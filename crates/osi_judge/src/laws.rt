@@ -21,8 +21,9 @@ ghost use Rattle.osi_judge.specs.States.{State, stream_of, octets_pass, after, b
 ghost use Rattle.osi_judge.specs.declared.rooms.Room.TheVariants.{Octets};
 ghost use Rattle.osi_judge.specs.declared.judge.Judge.{Judge};
 
-/// It doesn't matter in which pieces a capture passes. What comes to pass after a capture continues from what the part
-/// before it came to; and octets of one packet that pass at once come to the same as one after the other.
+/// It doesn't matter in which pieces a capture passes. If a capture has two parts, the second continues from what
+/// the first came to (`join`). And octets of one packet that pass at once come to the same as one after the other
+/// (`octets`).
 pub fn pieces_do_not_matter()
     ensures join { (a b : Capture) (s : State) → after (a ++ b) s ≡ after b (after a s) }
     ensures octets { (d : Side) (o : ℕ) (os : List ℕ) (s : State) → (stream_of d s).spent ≡ false → GoesOn (stream_of d s).held (o ∷ os)
@@ -54,11 +55,14 @@ pub fn the_first_break_is_the_earliest()
         × ((comes_to (capture ++ more)).course.past ≡ (comes_to capture).course.past ++ rest) }
 {}
 
-/// What a judge keeps. Of each direction at most a part of a packet, once all that passed is judged. Of a session that kept
-/// the protocol at most 4,096 sessions that explain it: beyond that it is not judged any further. And of what a side
-/// of a connection said no more than that: of each TSDU its outline, of equal outlines in a row only one, even if each
-/// counts for seven octets more than it has; and the octets of the unfinished TSDU. If each outline counts for 48 octets more, that
-/// is the room by which a bound counts (`room`).
+/// What a judge keeps. Once all that passed is judged, it keeps at most a part of a packet of each direction
+/// (`packets`). Of a session that kept the protocol it keeps at most 4,096 sessions that explain it; with more, the
+/// session is judged no further (`sessions`).
+///
+/// Of what a side of a connection sent, it keeps the outline of each TSDU, of equal outlines in a row only one, and
+/// the octets of the unfinished TSDU. That is no more than what the side sent, if for each outline and each TSDU
+/// the seven octets count with which a packet and a DT begin (`octets`). If each outline counts for 48 octets more
+/// than it has, that is the room by which a bound counts (`room`).
 pub fn no_more_is_kept_than_passed()
     ensures packets { (d : Side) (t : Judge) (s : State) → HoldsState t s → IsJudged t
         → IsPart (pick d (streamed t.left) (streamed t.right)) }
@@ -71,9 +75,10 @@ pub fn no_more_is_kept_than_passed()
         → room_in (once (line_in (other d) c).side.heard) + length (line_in d c).begun ≡ kept_of (spoken d j) }
 {}
 
-/// What is kept of a connection of a judge that has a bound for each ([`crate::Judge::within`]) is no more than the bound, whatever
-/// passes (`bound`): of both sides the outlines of the TSDUs, of equal ones in a row only one, each with 48 octets more, and the
-/// unfinished TSDUs. What passed does not count: a TSDU that has the outline of the one before it takes no room (`again`).
+/// If a judge has a bound for each connection ([`crate::Judge::within`]), it keeps no more of a connection than the
+/// bound, whatever passes (`bound`). What counts are the outlines of the TSDUs of both sides, of equal ones in a
+/// row only one, each with 48 octets more, and the unfinished TSDUs. A TSDU that has the outline of the one before
+/// it takes no room (`again`).
 pub fn a_connection_is_kept_within_its_bound()
     ensures bound { (capture : Capture) (most number : ℕ) (j : Joined)
         → numbered number (after capture (begin_within (Octets most))).course.sessions ≡ Some j → IsWithin most j }

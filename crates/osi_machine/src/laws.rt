@@ -27,10 +27,10 @@ ghost use Rattle.osi_machine.specs.Worlds.{Message, Terms, accepts, class_2};
 
 use osi_session::laws as session;
 
-/// Over every list of calls and units taken, in any order, from a CN in flight on, and whatever the other side does:
-/// V(A) and V(R) are between the base and V(M). V(M) is at most 1,000,000 and counts the points that this side has
-/// seen. If points are to be confirmed, points were taken last. A restart is requested only if it is selected, and with
-/// duplex only the caller requests release.
+/// Over every list of calls and units taken, in any order, from a CN in flight on, and whatever the other side
+/// does: V(A) and V(R) are between the base and V(M). V(M) is at most 1,000,000 and counts the points that this
+/// side has seen. This side owes the confirmation of a major point only if the last points that it saw came from
+/// the other side. A restart is requested only if it is selected, and with duplex only the caller requests release.
 pub fn what_is_true_of_each_side()
     ensures begins { (o : Offer) → CanBeOffered o → AreConsistent (core_start o) }
     ensures kept { (w : Core) (steps : List CoreStep) → AllByRecursion IsNumberedStep steps → AreConsistent w →
@@ -101,8 +101,8 @@ pub fn confirmed_is_seen()
 }
 
 /// The record of a side is what its user asked for and what it received. It tells what the side has seen: data and
-/// points are added, and restarts cut them. So with half-duplex the views of both records agree. The record also tells
-/// whether its side has requested a restart and has seen no answer.
+/// points add to it, and a restart cuts it back. So with half-duplex the views of both records agree: one is a
+/// prefix of the other. The record also tells whether its side has requested a restart and has seen no answer.
 pub fn what_a_record_tells()
     ensures told { (o : Offer) (steps : List CoreStep) → CanBeOffered o → is_profile o.requirements ≡ true →
         AllByRecursion IsNumberedStep steps → AreTold o steps }
@@ -163,9 +163,9 @@ pub fn the_tables_are_the_machine()
     session::an_empty_token_item_changes_nothing();
 }
 
-/// The connection at a reference of the tables: after one connection is replaced, the new one there, and elsewhere what
-/// was there; after a connection is added, the new one at the next reference; after the end of a side and after a
-/// break, what these leave of each connection.
+/// How the list of connections changes. If a connection is replaced, the new one is at its reference, and all
+/// others stay. If one is added, it is at the next reference. The end of a side and a break leave each connection
+/// at its reference, as they leave it.
 pub fn what_stands_at_a_reference()
     ensures same { (r : ℕ) (lines : List Line) (old new : Line) → connection_at r lines ≡ Some old →
         connection_at r (with_connection r new lines) ≡ Some new }
@@ -208,9 +208,9 @@ pub fn the_next_is_no_fault()
     session::an_empty_token_item_changes_nothing();
 }
 
-/// Over every list of steps, whatever is lost: data anywhere in flight to a side is no fault there once what is ahead
-/// of it was taken, whatever calls the user of that side makes before. Data is never a fault at a session that is over,
-/// whatever comes before it.
+/// Over every list of steps, whatever is lost: data anywhere in flight to a side is no fault there once the side
+/// has taken what is ahead of it, whatever calls its user makes before. At a session that is over, data is never a
+/// fault, whatever comes before it.
 pub fn data_is_no_fault_behind()
     ensures under_way { (t : Tables) → IsTableRun t → AtEachSide IsNoFaultBehind t }
     ensures over_now { (s : State) (ms : List Message) → is_over s.phase ≡ true → StaysCalm s ms }

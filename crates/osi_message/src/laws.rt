@@ -21,8 +21,8 @@ ghost use Rattle.osi_message.specs.Written.{spelled, written};
 
 use osi_spdu::laws;
 
-/// What is sent means what was to be sent: the octets in which a meaning is sent read back as its units, and these have
-/// that meaning, alone or after a GT with no token.
+/// A message arrives as it was meant: the octets in which it is sent read back as its units, and these units have
+/// the meaning that was to be sent, alone or after a GT that names no token.
 pub fn what_is_sent_is_read()
     ensures read { (m : Meaning) → IsSendable m → tsdu_at (written m) ≡ Ok (spelled m) }
     ensures said { (m : Meaning) → IsSendable m → said_by_units (spelled m) ≡ words_of m }
@@ -32,7 +32,7 @@ pub fn what_is_sent_is_read()
     laws::a_written_form_reads_back();
 }
 
-/// The octets of a part of a Data read back as that part, after a GT with no token.
+/// The octets in which a part of a Data is sent read back as that part, after a GT that names no token.
 pub fn what_a_part_says()
     ensures { (place : Place) (octets : List ℕ) →
         said_at (part_octets place octets) ≡ Ok (says (GT no_token) ∷ part place octets ∷ []) }
@@ -70,7 +70,7 @@ pub fn what_leaves_in_parts()
     what_is_sent_is_octets();
 }
 
-/// The numbers in a message are numbers that a point may have, and so are those in the units of a TSDU.
+/// Each number in a message is one that a point may have, and so is each number in the units of a TSDU.
 pub fn numbers_of_points()
     ensures message { (m : Message) → IsNumbered (meant_by m) }
     ensures units { (units : Units) → AreNumberedWords (said_by_units units) }

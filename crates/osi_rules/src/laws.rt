@@ -16,13 +16,16 @@ pub fn a_unit_changes_one_connection()
         → slice_get (takes d v s).state.connections i ≡ slice_get s.connections i }
 {}
 
-/// A stop is said: nothing more of a side is judged after a unit exactly if that was so before it, or its reach says so.
+/// With each unit it is told how much is judged no further after it (`Reach`): nothing, its connection, its side,
+/// or everything. Nothing more of a side is judged after a unit exactly if that was so before it, or if this reach
+/// includes the side.
 pub fn a_stop_is_said()
     ensures { (d : Direction) (v : Value) (s : State) (e : Direction)
         → is_stopped e (takes d v s).state.course ≡ (stops_by d (takes d v s).told.reach e || is_stopped e s.course) }
 {}
 
-/// A break is kept: a side has broken a rule after a unit exactly if it had before, or the unit is its own and breaks one.
+/// A break is never forgotten: a side has broken a rule after a unit exactly if it had before, or if the unit is
+/// its own and breaks one.
 pub fn a_break_is_kept()
     ensures { (d : Direction) (v : Value) (s : State) (e : Direction)
         → has_erred e (takes d v s).state.course ≡ has_erred e (noted d (takes d v s).told.finding s.course) }
@@ -35,7 +38,7 @@ pub fn an_er_after_a_break_is_no_break()
         → has_erred (other d) s.course ≡ true → is_break (takes d (error destination cause) s).told.finding ≡ false }
 {}
 
-/// A side of which nothing more is judged changes nothing.
+/// If nothing more of a side is judged, its units change nothing.
 pub fn a_stop_lasts()
     ensures { (d : Direction) (v : Value) (s : State) → is_stopped d s.course ≡ true → takes d v s ≡ none_told d Finding.NotJudged s }
 {}

@@ -59,8 +59,9 @@ ghost use Rattle.osi_message.specs.Tokens.{Token, has, is_disjoint, token_octet}
 ghost use Rattle.osi_session.specs.Openings.{asked_for};
 ghost use Rattle.osi_message.specs.Sendable.{IsSendable, said_of, words_of};
 
-/// What an accepted call sends can be written, and so can the answer to a TSDU, of whole messages and of words, and
-/// the CN that a caller asks for. So each of these reads back as [`osi_message::laws::what_is_sent_is_read`] says.
+/// A *word* is a message, or one part of a Data. What a session sends can always be written: what an accepted call
+/// sends, the answer to a TSDU, be it read as whole messages or as words, and the CN that a caller asks for. So
+/// each of these reads back as [`osi_message::laws::what_is_sent_is_read`] says.
 pub fn what_is_sent_can_be_sent()
     ensures called { (s : State) (c : Call) (x : Step) → IsSound s → HasSerial c → allowed s c ≡ Ok x → IsSendable x.sent }
     ensures replied { (s : State) (said : Said) (m : Meaning) → (respond s said).reply ≡ Some m → IsSendable m }
@@ -68,9 +69,11 @@ pub fn what_is_sent_can_be_sent()
     ensures asked { (o : Opening) → length o.user_data.now < 65000 → IsSendable (asked_for o) }
 {}
 
-/// If nothing is joined, messages do what the tables of whole messages say: one word, words one after the other, a
-/// TSDU, and each input of a session, over every list of inputs. All inputs other than the words of a TSDU also do the
-/// same if something is joined; the new phase decides whether it is kept or dropped.
+/// There are two tables: one for whole messages, and one for words, which also joins the parts of a Data. As long
+/// as nothing is joined, both do the same with messages: with one message, with several, with a TSDU, with each
+/// input of a session, and over every list of inputs. If something is joined, they still do the same with every
+/// input that is no TSDU; the phase that the session then has decides whether the joined octets are kept or dropped
+/// (`others`).
 #[tactic(auto, using(crate::proofs::tables::messages_act_as_the_table_says::plain_word, crate::proofs::tables::messages_act_as_the_table_says::plain_words, crate::proofs::tables::messages_act_as_the_table_says::plain_tsdu, crate::proofs::tables::messages_act_as_the_table_says::moves_as_whole, crate::proofs::tables::messages_act_as_the_table_says::run_as_whole, crate::proofs::tables::messages_act_as_the_table_says::others))]
 pub fn messages_do_what_they_did()
     ensures word { (s : State) (u : Meaning) → respond_word (record { state = s; joined = None }) (says u) ≡ heard None (respond_unit s u) }
@@ -85,9 +88,9 @@ pub fn messages_do_what_they_did()
         react l (in_words input) ≡ joins l.joined (whole.react (standing_of l) input) }
 {}
 
-/// The move of each input: for a call, for the words of a TSDU and for octets that are no session units, what the
-/// tables give. That the transport connection is open or was refused has an effect only while it is awaited. And the
-/// transport connection may be lost.
+/// What each kind of input does to a session. A call, the words of a TSDU, octets that are no session units, and
+/// the loss of the transport connection do what the tables say. The news that the transport connection is open, or
+/// was refused, has an effect only while the session waits for that news.
 #[tactic(auto, using(crate::proofs::moves::the_move_of_each_input::of_call, crate::proofs::moves::the_move_of_each_input::of_words, crate::proofs::moves::the_move_of_each_input::of_fault, crate::proofs::moves::the_move_of_each_input::of_opened, crate::proofs::moves::the_move_of_each_input::of_refused, crate::proofs::moves::the_move_of_each_input::of_broken, crate::proofs::moves::the_move_of_each_input::not_opened, crate::proofs::moves::the_move_of_each_input::not_refused))]
 pub fn what_each_input_does()
     ensures called { (l : Listener) (c : Call) → react l (called c) ≡ call_move l (allowed l.state c) }
@@ -100,9 +103,9 @@ pub fn what_each_input_does()
     ensures not_refused { (l : Listener) (reason : ℕ) → is_wait_transport l.state.phase ≡ false → react l (refused reason) ≡ rests l }
 {}
 
-/// What is sent is taken as it was meant, from the octets of a message to its effect as a word. This holds of what an
-/// accepted call sends, of the answer to a TSDU, and of the CN that a caller asks for. The octets of a part are taken
-/// as that part.
+/// What is sent is taken as it was meant: the octets of a message have the effect of that message, and the octets
+/// of a part have the effect of that part. This holds of what an accepted call sends, of the answer to a TSDU, and
+/// of the CN that a caller asks for.
 pub fn what_is_sent_is_taken()
     ensures message { (l : Listener) (m : Meaning) → IsSendable m →
         react l (came (written m)) ≡ moved l (respond_word (taker_of l) (says m)) }
@@ -119,9 +122,9 @@ pub fn what_is_sent_is_taken()
     osi_message::laws::what_a_part_says();
 }
 
-/// An input that closes the transport connection sends nothing and ends the session, which was waiting for it. It is a
-/// TSDU with RF, DN, AB or AA, and this unit is alone in its TSDU. (An AB that follows a DN would still be answered,
-/// but no octets spell that.) A call leaves the transport connection open.
+/// An input that closes the transport connection sends nothing, and ends the session. It is a TSDU with one unit,
+/// RF, DN, AB or AA, that comes while the session is connecting, releasing or aborting. (An AB that follows a DN
+/// would still be answered, but no octets spell both in one TSDU.) A call leaves the transport connection open.
 #[tactic(auto, using(crate::proofs::moves::what_closes_the_connection::unit_silent, crate::proofs::moves::what_closes_the_connection::words_silent, crate::proofs::moves::what_closes_the_connection::octets_alone, crate::proofs::moves::what_closes_the_connection::octets_silent, crate::proofs::moves::what_closes_the_connection::call_open, crate::proofs::moves::what_closes_the_connection::whole_ends, crate::proofs::moves::what_closes_the_connection::input_ends, crate::proofs::tsdu::the_answer_to_a_tsdu::octets_awaited))]
 pub fn what_closes_sends_nothing()
     ensures unit { (s : State) (u : Meaning) → (respond_unit s u).closes ≡ true → (respond_unit s u).reply ≡ None }
@@ -136,8 +139,8 @@ pub fn what_closes_sends_nothing()
     ensures awaited { (l : Listener) (octets : List ℕ) → (react l (came octets)).closes ≡ true → awaits_close l.state.phase ≡ true }
 {}
 
-/// A session that answers a TSDU is over: it sends RF and has ended, or sends AB and is aborted, or sends AA and has
-/// ended. An aborted session answers nothing, and one that has ended answers only AB, with AA.
+/// A session that answers a TSDU by itself is over: it sends RF and has ended, or sends AB and is aborted, or sends
+/// AA and has ended. After an abort it answers nothing more. After its end it answers only an AB, with AA.
 pub fn what_answers_is_over()
     ensures unit { (s : State) (u m : Meaning) → (respond_unit s u).reply ≡ Some m →
         (is_answer m ≡ true) × (is_over (respond_unit s u).next.phase ≡ true) }
@@ -161,9 +164,10 @@ pub fn where_a_call_is_accepted()
         (is_wait_transport (after_input l input).state.phase || is_over (after_input l input).state.phase) ≡ true }
 {}
 
-/// The first indication at a called side is a `Connect`: an input after which the user would be told of a loss of the
-/// transport connection, and before which it would not, indicates a `Connect`. Only a CN leads to it, and a CN is
-/// alone in its TSDU (X.225 section 6.3.7).
+/// The first indication at a called side is a `Connect`. While a CN is awaited, and after an abort or the end, the
+/// user isn't told of a loss of the transport connection. An input that leads from such a phase to one in which he
+/// is told indicates a `Connect` (`first`). Only a TSDU indicates one (`taken`), and it has a CN, alone in it
+/// (`asked`, X.225 section 6.3.7).
 #[tactic(auto, using(crate::proofs::runs::the_first_indication_is_a_connect::shown_first, crate::proofs::runs::the_first_indication_is_a_connect::only_taken, crate::proofs::runs::the_first_indication_is_a_connect::octets_ask))]
 pub fn what_a_user_is_shown_first()
     ensures first { (l : Listener) (input : Input) → shows_loss l.state.phase ≡ false →
@@ -174,16 +178,17 @@ pub fn what_a_user_is_shown_first()
         asks_for_connection (came octets) ≡ true }
 {}
 
-/// What happens to a unit: the table of units enacts its verdict. A unit that is not discarded, that the phase expects
-/// and that meets its conditions is good.
+/// A session first comes to a verdict on a unit and then carries it out; the table of units does nothing else
+/// (`enacted`). If the session isn't over and doesn't discard the unit, and the unit is one that the phase expects
+/// and that meets its conditions, the verdict is good (`good`).
 #[tactic(auto, using(crate::proofs::tables::the_verdict_on_a_unit::enacts, crate::proofs::tables::the_verdict_on_a_unit::good_is_fine))]
 pub fn what_becomes_of_a_unit()
     ensures enacted { (s : State) (u : Meaning) → respond_unit s u ≡ enacted s u (verdict s u) }
     ensures good { (s : State) (u : Meaning) → is_over s.phase ≡ false → drops s u ≡ false → IsGood s u → verdict s u ≡ fine }
 {}
 
-/// A token item that names no token changes nothing, in a TSDU of its own or before other units. So a unit after such
-/// an item has the effect of the unit alone.
+/// A GT or PT that names no token changes nothing, in a TSDU of its own or before other units. So a unit after it
+/// has the effect of the unit alone.
 #[tactic(auto, using(crate::proofs::tables::the_verdict_on_a_unit::no_effect, crate::proofs::tables::the_verdict_on_a_unit::in_front_of_all, crate::proofs::tables::the_verdict_on_a_unit::in_front, crate::proofs::tables::the_verdict_on_a_unit::of_said))]
 pub fn an_empty_token_item_changes_nothing()
     ensures item { (s : State) (item : Meaning) → has_no_effect item ≡ true → respond_unit s item ≡ nothing s }
@@ -193,8 +198,8 @@ pub fn an_empty_token_item_changes_nothing()
     ensures said { (s : State) (u : Meaning) → respond s (said_of u) ≡ respond_unit s u }
 {}
 
-/// A TSDU of one unit has the effect of that unit. Of two units, the token item takes effect after the other one, and
-/// not at all if the other one is an RS.
+/// A TSDU of one unit has the effect of that unit. In a TSDU of a GT or PT and another unit, the tokens are given
+/// or asked for after the other unit has taken effect, and not at all if the other unit is an RS.
 #[tactic(auto, using(crate::proofs::tables::the_verdict_on_a_unit::said_alone, crate::proofs::tables::the_verdict_on_a_unit::item_and_unit))]
 pub fn what_two_units_do()
     ensures alone { (s : State) (u : Meaning) → respond s (alone u) ≡ respond_unit s u }
@@ -202,7 +207,7 @@ pub fn what_two_units_do()
         (if is_resynchronize u then respond_unit s u else and_then (respond_unit s u) (respond_unit (respond_unit s u).next item)) }
 {}
 
-/// A TSDU has at most one indication for each of its words.
+/// A TSDU leads to at most one indication for each of its words.
 #[tactic(auto, using(crate::proofs::tsdu::how_many_indications::words_show))]
 pub fn what_a_tsdu_shows()
     ensures { (t : Taker) (words : Words) → length (respond_tsdu t words).shown ≤ length words }
@@ -216,10 +221,10 @@ pub fn what_an_accepted_call_passed()
     ensures accepted { (s : State) (c : Call) (x : Step) → Passed s c x → allowed s c ≡ Ok x }
 {}
 
-/// What a CN and an AC agree, in one direction: the AC that is sent names a size if the CN names one, and 0 if the CN
-/// has 0; the size is at most the CN's, and at most the answerer's unless that is 0. The side that takes the AC
-/// arrives at the same sizes. The TSDU of an accepted call, other than data, Accept and Refuse, is within the size of
-/// its direction, if there is one.
+/// What sizes of a TSDU a CN and an AC agree on, in one direction. The AC names a size if the CN names one, and
+/// none (0) if the CN names none. The size in the AC is at most that in the CN, and at most that of the answering
+/// user, unless this is 0. The side that takes the AC arrives at the same sizes. The TSDU of an accepted call,
+/// other than data, Accept and Refuse, is within the size of its direction, if there is one.
 #[tactic(auto, using(crate::proofs::values::what_sizes_are_agreed::answered_named, crate::proofs::values::what_sizes_are_agreed::answered_asked, crate::proofs::values::what_sizes_are_agreed::answered_given, crate::proofs::values::what_sizes_are_agreed::sizes_agreed, crate::proofs::values::what_sizes_are_agreed::sent_under))]
 pub fn what_sizes_are_agreed()
     ensures named { (a b : ℕ) → 0 < a → 0 < answered a b }
@@ -255,10 +260,10 @@ pub fn what_happens_has_numbers()
 {}
 
 /// Over every list of calls, TSDUs and events of the transport connection, from the first state of a called or a
-/// calling side: V(A) and V(R) are between the base and V(M), which is at most 1,000,000; an outstanding major point
-/// has a number, and so has a restart that is to be answered; tokens are held only in Ready, MajorAsked, MajorDue,
-/// Releasing and ReleaseDue; and each size is 0, or 64 to 65,535. This holds over whole messages, and over words.
-/// size is 0, or 64 to 65,535. So over whole messages, and over words.
+/// calling side: V(A) and V(R) are between the base and V(M), which is at most 1,000,000; an outstanding major
+/// point has a number, and so has a restart that is to be answered; tokens are held only in Ready, MajorAsked,
+/// MajorDue, Releasing and ReleaseDue; and each size is 0, or 64 to 65,535. This holds of both tables, of whole
+/// messages (`kept`) and of words (`heard`).
 #[tactic(auto, using(crate::proofs::runs::what_every_run_preserves::awaiting_fresh, crate::proofs::runs::what_every_run_preserves::asking_fresh, crate::proofs::runs::what_every_run_preserves::fresh_sound, crate::proofs::runs::what_every_run_preserves::whole_sound, crate::proofs::runs::what_every_run_preserves::inputs_sound))]
 pub fn numbers_stay_in_order()
     ensures called { IsFresh awaiting }
@@ -302,8 +307,8 @@ pub fn a_token_is_not_given_and_kept()
         (has s.held t || unit_gives s u t) ≡ true }
 {}
 
-/// Exactly which tokens are held after an accepted call, after a good unit, and after a bad one; and sets
-/// without a common token have octets without a common bit.
+/// Exactly which tokens a session holds after an accepted call, after a good unit, and after a bad unit (none). And
+/// if two sets of tokens have no token in common, the octets that stand for them have no bit in common (`octets`).
 #[tactic(auto, using(crate::proofs::moves::what_gives_a_token::call_holds_it, crate::proofs::moves::what_gives_a_token::unit_holds_it, crate::proofs::moves::what_gives_a_token::bad_holds_none, crate::proofs::values::sets_of_tokens::disjoint_octets))]
 pub fn what_is_held()
     ensures call { (s : State) (c : Call) (x : Step) (t : Token) → allowed s c ≡ Ok x → has x.next.held t ≡ call_holds s c t }
@@ -323,8 +328,9 @@ pub fn a_plan_is_its_call()
     ensures live { (call : Call) (plan : Planned) → IsPlanOf call plan → is_over plan.was.phase ≡ false }
 {}
 
-/// After a planned point, a session continues as after the call for it, whatever the call's user data. It does so
-/// exactly if the point has the right number and such a call would be accepted, apart from its lengths.
+/// A *planned point* is a minor point, or the confirmation of one, that is sent first and then noted in the
+/// session. After it the session continues as after the call for it, whatever user data the call has. It may be
+/// noted exactly if it has the right number and such a call would be accepted, apart from its lengths.
 #[tactic(auto, using(crate::proofs::tables::points_that_are_expected::point_steps, crate::proofs::tables::points_that_are_expected::point_may, crate::proofs::tables::points_that_are_expected::point_accepted))]
 pub fn a_point_is_its_call()
     ensures step { (l : Listener) (p : SentPoint) (confirm : Bool) (octets : List ℕ) → (react
@@ -372,10 +378,11 @@ pub fn what_is_confirmed_stays_confirmed()
         (respond_unit s (RS kind n wishes octets)).next.numbers ≡ s.numbers }
 {}
 
-/// What a session has joined. Whatever happens, something is joined only in a phase that keeps it, in which tokens may
-/// be held, and it has at most 1,048,572 octets. The receiver of the parts of one Data has joined their octets, or
-/// nothing if it discards data. Each call of its user preserves this, and so does the next part, if the whole data
-/// would be no fault there; and the last part has the effect that the whole data has there.
+/// What a session has joined of a Data that comes in parts. Whatever happens, it has joined something only in a
+/// phase that keeps it, in which tokens may be held, and at most 1,048,572 octets (`kept`, `held`). After some
+/// parts of one Data it has joined their octets, or nothing if it discards data. A call of its user preserves that
+/// (`called`), and so does the next part, if the whole Data would be no fault there (`begins`, `goes_on`). The last
+/// part then has the effect that the whole Data has there (`ends`).
 pub fn what_is_joined()
     ensures kept { (l : Listener) (inputs : List Input) → IsKept l → IsKept (after_inputs l inputs) }
     ensures held { (l : Listener) → IsKept l → is_some l.joined ≡ true → may_hold l.state.phase ≡ true }
@@ -443,9 +450,10 @@ pub fn what_is_refused_for_which_reason()
         is_in_place t.joined place ≡ false → word_verdict t (part place octets) ≡ faulty (BadEnclosure (si (DT octets))) }
 {}
 
-/// Take a side that may send a steady unit now, and may also send it after it took some TSDUs of its peer without an
-/// answer. If it sends the unit now and takes the TSDUs then, it arrives at the same state, and answers none of them
-/// either. So an observer need not ask whether the unit was sent before or after the TSDUs were taken.
+/// A unit is *steady* here if it is data or a part of it, a minor point or its confirmation, a PT, or a GT that
+/// names no token. Take a side that may send such a unit now, and may also send it after it took some TSDUs of its
+/// peer without an answer to them. Both orders lead to the same state, and if the unit is sent first, the TSDUs get
+/// no answer either. So an observer need not find out which came first.
 #[tactic(auto, using(crate::proofs::ahead::beside_one_that_has_not_sent_it::may_be_first))]
 pub fn what_may_be_said_first()
     ensures { (now later said said_later : Seen) (tsdus : List (List ℕ)) (w : Word) (n : ℕ) → is_steady w ≡ true →

@@ -30,9 +30,9 @@ ghost use Rattle.osi_side.specs.Outlines.{AreAlike, bare, outline, outlines};
 ghost use Rattle.osi_side.specs.Findings.{broke_session, is_judged, place_of};
 ghost use Rattle.osi_side.specs.Running.{IsSentFrom, IsHonest};
 
-/// Of a side one thing is found: that it kept the protocol, or at which of its TSDUs it broke the protocol or left the
-/// profile (`place`). So of a side that kept the protocol it is never found that it left the profile. And it is either
-/// found that too many sessions explain it, or one of the other findings (`judged`).
+/// What is found of a side is unique: that it kept the protocol, or at which of its TSDUs it broke the protocol or
+/// left the profile (`place`). So of a side that kept the protocol it is never found that it left the profile. And
+/// whether too many sessions explain the side, or one of these is found, is also unique (`judged`).
 pub fn a_side_is_found_in_one_way()
     ensures place { (begin : Seen) (us : List (List ℕ)) (told : List Told) (f g : Finding) → is_judged f ≡ true → is_judged g ≡ true
         → IsFound begin us told f → IsFound begin us told g → place_of f ≡ place_of g }
@@ -40,9 +40,10 @@ pub fn a_side_is_found_in_one_way()
         → IsFound begin us told g → HasRoom begin us told f → HasRoom begin us told g → is_judged f ≡ is_judged g }
 {}
 
-/// Of a side that kept the protocol the foremost of the sessions that explain it is told: no other comes before it. Of a side
-/// that broke the protocol the nearest is told, of all sessions that those become which explain what it sent before: none is
-/// nearer. And a session has one state after all that passed.
+/// Several sessions may explain what a side sent, and a judgement tells one of them. If the side kept the protocol,
+/// it is the foremost: no other comes before it. If the side broke the protocol, take all sessions that explain
+/// what it sent before, and all that these become by taking more of what had passed: it is the nearest of them to
+/// the break. And a session has only one state after all that passed (`stands`).
 pub fn a_side_is_told_by_one_session()
     ensures foremost { (members : List Member) → is_empty members ≡ false → IsForemost (foremost members) members }
     ensures nearest { (u : Unsaid) (us : List (List ℕ)) (before : ℕ) (members : List Member)
@@ -50,10 +51,10 @@ pub fn a_side_is_told_by_one_session()
     ensures stands { (us : List (List ℕ)) (m : Member) (s t : Stands) → StandsBehind us m s → StandsBehind us m t → s ≡ t }
 {}
 
-/// The outline of a TSDU has the same effect on every session as the TSDU itself, but for what is shown to its
-/// user. The user data of a message is not in it: the outline has at most as many octets as the message without
-/// user data is sent in. So data and parts of data, which a TSDU brings after an item that names no token, have
-/// one outline each for their place and length.
+/// The *outline* of a TSDU has no user data, and has the same effect on every session as the TSDU itself, but for
+/// what is shown to its user. It is no longer than the TSDU, and no longer than the octets in which the message is
+/// sent without user data. Data, and parts of data, come in a TSDU after an item that names no token. All data has
+/// one outline, and a part has one for its place and its length.
 pub fn an_outline_has_no_user_data()
     ensures alike { (tsdu : List ℕ) → AreAlike (outline tsdu) tsdu }
     ensures no_longer { (tsdu : List ℕ) → length (outline tsdu) ≤ length tsdu }
@@ -68,17 +69,17 @@ pub fn an_outline_has_no_user_data()
         → has_no_effect item ≡ true → 7 + length octets ≤ length tsdu → outline tsdu ≡ part_octets place (replicate (length octets) 0) }
 {}
 
-/// So the outlines of the TSDUs of the other side are enough to tell how a session of a side stands (`stands`), and by which
-/// rule the side broke the protocol (`rule`): what is told by them is told by the TSDUs themselves.
+/// So the outlines of the other side's TSDUs are enough to tell which state a session of a side has (`stands`), and
+/// by which rule the side broke the protocol (`rule`): both are the same by the TSDUs themselves.
 pub fn outlines_tell_what_the_tsdus_do()
     ensures stands { (us : List (List ℕ)) (m : Member) (s : Stands) → StandsBehind (outlines us) m s → StandsBehind us m s }
     ensures rule { (us : List (List ℕ)) (tsdu : List ℕ) (before : ℕ) (members at : List Member) (by : Break)
         → BreaksWith (outlines us) tsdu before members at by → BreaksWith us tsdu before members at by }
 {}
 
-/// An honest session is explained, whatever the other side sends and its own user calls, at whatever times: any
-/// octets and any calls, refusals, and a transport connection that is refused or lost at any time. It is explained
-/// up to each TSDU that it sent, by what it took of the other side until then.
+/// Take a session of this product. Whatever the other side sends, whatever calls its own user makes, at whatever
+/// times, and if its transport connection is refused or lost: what it sent is explained. That holds up to each TSDU
+/// that it sent, by what it had taken of the other side until then.
 pub fn an_honest_session_is_explained()
     ensures caller { (o : Opening) (us : List (List ℕ)) (told : List Told) → refusal_of o ≡ None → IsSentFrom (opens o) us told →
         IsExplained seen_calling us told }
@@ -89,8 +90,8 @@ pub fn an_honest_session_is_explained()
     osi_message::laws::what_leaves_in_parts();
 }
 
-/// So an honest side is never blamed: it is never found to have broken the protocol or to have left the profile,
-/// whatever the other side sent.
+/// So a side that is a session of this product is never blamed: it is never found to have broken the protocol or to
+/// have left the profile, whatever the other side sent.
 pub fn an_honest_side_is_not_blamed()
     ensures { (d : Direction) (us : List (List ℕ)) (told : List Told) (finding : Finding) → IsHonest d us told
         → IsFound (begin_of d) us told finding → broke_session finding ≡ false }
@@ -101,10 +102,11 @@ pub fn an_honest_side_is_not_blamed()
     an_honest_session_is_explained();
 }
 
-/// Take three sessions that are in the same state, except that their V(A) differ, and that have taken the same TSDUs.
-/// Whatever the one sends later whose V(A) lies between those of the others, whatever it takes in between, one of the
-/// others may send too: the one with the lowest V(A), which may confirm all that the others may and accepts all
+/// Take three sessions that have taken the same TSDUs and are in the same state, except that their V(A) differ.
+/// Whatever the session with the middle V(A) explains from there on, whatever it takes in between, one of the two
+/// others explains, too: the one with the lowest V(A), which may confirm all that the others may and accepts all
 /// confirmations that they accept, or the one with the highest, which also finds each fault that the others find.
+/// So a judge need not keep the middle one.
 pub fn what_lies_between()
     ensures { (us : List (List ℕ)) (later : List Remark) (taken : ℕ) (s : Seen) (low between high : ℕ) → low ≤ between → between ≤ high
         → Explains us later taken (seen_to between s) → Explains us later taken (seen_to low s) ⊎ Explains us later taken (seen_to high s) }

@@ -64,8 +64,8 @@ use osi_session::laws::{
 use osi_spdu::laws::{few_octets_fit, serial_digits};
 use osi_tpkt::laws::{a_prefix_of_a_packet, a_stream_has_one_cut, no_packet_begins_another};
 
-/// However many octets are fed that the other end wrote, an end takes their units one after the other, up to one that
-/// stops it or that runs out of memory.
+/// However many octets are fed that the other end wrote, an end takes the units in them one after the other, up to
+/// one that stops it or at which memory runs out.
 pub fn what_was_written_is_heard()
     ensures unit { (e : End) (unit : Value) → IsSendable unit → after_packet e (written unit) ≡ after_unit e unit }
     ensures fed { (old new : Holding) (outgoing : List ℕ) (coming : List Value) (k : ℕ) (fed : Fed) → k ≤ length outgoing →
@@ -74,9 +74,10 @@ pub fn what_was_written_is_heard()
     ensures attended { (e : End) (unit : Value) → IsAttended (after_unit e unit) }
 {}
 
-/// A transport unit that brings a message does to the session of its connection what the message does in the state of
-/// that connection: a session begins, or makes its move; its indications become pending, and what it puts is sent. All
-/// other sessions stay as they are.
+/// A transport unit may bring something to a session: a new connection, a TSDU, or news of the transport
+/// connection. It then begins the session of its connection, or does to it what that input does in its present
+/// state: the indications become pending, and what the session answers is sent. All other sessions stay as they
+/// are.
 pub fn what_a_message_does()
     ensures arrives { (r : ℕ) (place : Place) (m : Message) (unit : Value) (e : End) → IsWhole m →
         (carrier_react unit e.carrier).events ≡ told_at r place m → CanHear r (effect_at place m) e.lines →
@@ -88,13 +89,14 @@ pub fn what_a_message_does()
     what_a_part_says();
 }
 
-/// A call that is accepted is one that the table of the session allows, on an open connection. One unit is sent, or one
-/// Data in parts, and nothing is indicated.
+/// A call is accepted only if the table of its session allows it, on an open connection. Then one unit is sent, or
+/// one Data in parts, and nothing is indicated.
 pub fn what_a_call_says()
     ensures { (r : ℕ) (call : Call) (e : End) → call_error r call e ≡ None → Says r call e (to_session r (called call) e) }
 {}
 
-/// If a carrier ends, each session is lost, and its user receives the indication of a loss, if its state has one.
+/// If a carrier ends, each session is lost. Its user receives the indication of a loss, if the state of the session
+/// has one.
 pub fn what_an_end_shows()
     ensures { (lines : Rows Line) → AreLost lines (all_lost lines) }
 {}
@@ -167,8 +169,8 @@ pub fn a_session_is_made_by_what_came_for_it()
     where_a_call_is_accepted();
 }
 
-/// A call gets the answer of its session's table: a session that accepts it has an open transport connection, and what
-/// it sends is no longer than a TSDU may be.
+/// A call gets the answer of its session's table, and the carrier adds no refusal of its own: a session that
+/// accepts a call has an open transport connection, and what it sends is no longer than a TSDU may be.
 pub fn a_call_is_answered_by_its_session()
     ensures { (r : ℕ) (call : Call) (e : End) → HasSerial call → e.carrier.ended ≡ None → Soundness e → AllCameAbout e.lines →
         call_error r call e ≡ table_error r call e }
@@ -213,8 +215,9 @@ pub fn lines_rise_whatever_comes()
     where_a_call_is_accepted();
 }
 
-/// Between any two calls, whatever was called, fed, indicated and lost, [`IsSettled`] holds of an end; also once it has
-/// ended, when none of its connections is live and no session is left. A stack keeps it as an invariant. So a
+/// The invariant of an end is [`IsSettled`]: its carrier and its sessions agree, as that record says field by
+/// field. It holds between any two calls, whatever was called, fed, indicated and lost. It also holds once the end
+/// has ended, when none of its connections is live and no session is left. A stack keeps it as an invariant. So a
 /// connection has addresses as soon as its user has requested it or has received a `Connect` (`known`).
 ///
 /// [`IsSettled`]: ../specs/Settled.antt
@@ -240,7 +243,8 @@ pub fn an_end_is_settled_between_calls()
     what_a_user_is_shown_first();
 }
 
-/// So between any two calls, a call gets the answer of its session's table, and once an end has ended it accepts none.
+/// So between any two calls, a call gets the answer of its session's table. Once an end has ended, it accepts no
+/// call.
 pub fn a_call_of_a_settled_end_is_answered_by_its_session()
     ensures answered { (r : ℕ) (call : Call) (e : End) → HasSerial call → IsSettled e → call_error r call e ≡ table_error r call e }
     ensures over { (r : ℕ) (call : Call) (e : End) → IsSettled e → IsSome e.carrier.ended → IsSome (call_error r call e) }
@@ -253,8 +257,8 @@ pub fn a_call_of_a_settled_end_is_answered_by_its_session()
     where_a_call_is_accepted();
 }
 
-/// So between any two calls, while an end lasts, a session that has joined octets of an unfinished SSDU may be called
-/// and has an open transport connection, and it has joined no more than one Data.
+/// So between any two calls, while an end lasts: a session that has joined octets of data whose last part is
+/// missing has an open transport connection, and it has joined no more octets than one Data may have.
 pub fn what_is_joined_has_a_connection()
     ensures opened { (r : ℕ) (session : Listener) (e : End) → IsSettled e → e.carrier.ended ≡ None → kept_at r e.lines ≡ Some session →
         is_some session.joined ≡ true → is_open r e.carrier ≡ true }
@@ -264,9 +268,10 @@ pub fn what_is_joined_has_a_connection()
     what_is_joined();
 }
 
-/// A connection that was requested here has the addresses of the request; any other has those of its CN, as soon as its
-/// user has received a `Connect`. Nothing else that happens to a session changes its selectors, nor does anything that
-/// happens to another session. (For the transport selectors `osi_carrier` says the same; each carrier is `AreNamed`.)
+/// A connection that was requested here has the addresses of the request. Any other has those of its CN, as soon as
+/// its user has received a `Connect`. Nothing else that happens to its session changes its session selectors, nor
+/// does anything that happens to another session. (Of the transport selectors `osi_carrier` says the same, in
+/// `each_live_connection_has_its_tsaps`.)
 pub fn what_addresses_a_connection_has()
     ensures asked { (c : Connect) (e : End) → Soundness e → AreNamed e.carrier → addresses_at (e.carrier.given + 1) (connects c e)
         ≡ Some (asked_addresses c) }
@@ -355,21 +360,24 @@ pub fn the_pieces_do_not_matter()
     no_packet_begins_another();
 }
 
-/// The same over whole runs, with the user's calls in between. A run is a list of rounds: in each, octets are used and
-/// then the user makes a call. If two runs use the same octets in each round, in whatever pieces, and make the same
-/// calls, the ends reach the same state, with the same indications and the same octets put. A session may be called
-/// while indications are pending; a connection requested while only live connections have pending ones; and one given
-/// up, or a break found, only once none is pending (`rounds`). After the rounds the same octets may end the ends, or
-/// they may have ended; if memory suffices there, the state is still the same (`last`). The byte connection may also
-/// break whatever is pending, if nothing follows: then the indications of each reference are the same, in the same order,
-/// but not necessarily those of several references (1 may be lost before a pending indication of 2), and everything else
-/// is the same (`broken`). After an end, as after a break, there are no rounds: no packet takes effect and no call is
-/// accepted, and feeding, fetching and taking there change nothing that can be seen (`behind`).
+/// The same over whole runs, with the user's calls in between. A run is a list of rounds: in each, octets are used
+/// and then the user makes a call. If two runs use the same octets in each round, in whatever pieces, and make the
+/// same calls, the ends reach the same state, with the same indications and the same octets put (`rounds`). A
+/// session may be called while indications are pending. A connection may be requested while only live connections
+/// have pending ones. A connection may be given up, or a break found, only once none is pending.
+///
+/// After the rounds the same octets may end both ends, or both may have ended. If memory suffices there, the state
+/// is still the same (`last`). After an end, as after a break, there are no rounds: no packet takes effect and no
+/// call is accepted, and feeding, fetching and taking there change nothing that can be seen (`behind`).
+///
+/// The byte connection may also break while indications are pending, if nothing follows. Then the indications of
+/// each reference are the same, in the same order, but not necessarily those of several references: 1 may be lost
+/// before a pending indication of 2. Everything else is the same (`broken`).
 ///
 /// `connect` drops the lines of connections that are gone and have no pending indications. So if it is called while
-/// some are pending, one of two ends may keep such a line that the other has dropped (`asked`). If the runs began with
-/// a settled end, the two are then the same from there on except for lines of connections that are gone, whatever
-/// arrives and is called, and with the same indications and octets in the same order (`asking`, `asking_last`). So what
+/// some are pending, one of two ends may keep such a line that the other has dropped (`asked`). If the runs began
+/// with a settled end, the two are from there on the same except for lines of connections that are gone, whatever
+/// arrives and is called, with the same indications and octets in the same order (`asking`, `asking_last`). So what
 /// can be seen of them is the same (`asking_seen`), also if the byte connection breaks then, whatever is pending
 /// (`asking_broken`).
 pub fn whole_runs_do_not_hang_on_pieces()

@@ -2,7 +2,8 @@
 
 ghost use Rattle.osi_unit.specs.Octets.{IsOctets};
 
-/// The items of a slice of octets are octets. Naming a slice gives a proof the facts of its type.
+/// Each item of a slice of octets is a number from 0 to 255. A proof that calls this law with a slice has that fact
+/// of it.
 #[inline(always)]
 pub fn are_octets(octets: &[u8])
     ensures { IsOctets octets.now }
