@@ -648,6 +648,8 @@ def watched(room, clients):
 
 def main(_):
     began = time.time()
+    # What a shell starts in the background ignores SIGINT, and so would the servers, which have to end at it.
+    signal.signal(signal.SIGINT, signal.default_int_handler)
     os.environ.update(OSI_SESSION_DIR=BUILD, PYTHONPATH=f"{BINDINGS}/python/src")
     sys.path.insert(0, f"{BINDINGS}/python/src")
     clients, missing = build()

@@ -42,8 +42,8 @@ LAST_RECEIVED = (b"left carried 12\nright 1 Data 41\nleft 1 phase Ready held 01 
                  b"right 1 phase Ready held 00 next 0 below 0 lowest 0\n")
 # Questions for help, and words that name no job.
 QUESTIONS = (["--help"], ["help"], ["show", "--help"], ["judge", "--help"], ["pair", "--help"])
-WRONG = ([], ["list"], ["show", "x"], ["--show"], ["pair", "show"], ["pair", "--script"], ["--script"], ["judge", "--script", "--live"], ["show", "--live"], ["-x"], [""], ["help", "list"],
-         ["help", "show", "x"], ["show", "x", "--help"], ["judge", ""], ["--"])
+WRONG = ([], ["list"], ["show", "x"], ["--show"], ["pair", "show"], ["pair", "--script"], ["--script"], ["judge", "--script", "--live"],
+         ["show", "--live"], ["-x"], [""], ["help", "list"], ["help", "show", "x"], ["show", "x", "--help"], ["judge", ""], ["--"])
 # The program and 64 KiB of input fit into this; the octets of the longest input don't.
 LITTLE_MEMORY = 12 << 20
 
