@@ -36,12 +36,14 @@ pub fn a_judge_holds_what_passed()
     ensures { (capture : Capture) (t : Judge) → IsFed capture t → HoldsState t (comes_to capture) }
 {}
 
-/// A judge that was fed a capture tells the first break of all, of transport and of sessions, once all that passed is judged:
-/// no unit that passed before it had one. If it tells none, no unit of the capture had a break, and no session of any
-/// connection is to blame. A first break of transport is the one that is told of its side, with its packet, unit and cause;
-/// and a session that broke the protocol first is to blame for all that passed. So a capture has one first break, whatever the
-/// pieces were. The units pass in the order of the octets that complete their packets: those of a prefix pass before all
-/// others.
+/// A judge that was fed a capture tells the first break of all, of transport and of sessions, once all that passed
+/// is judged: no unit that passed before it had one (`first`). If it tells none, no unit of the capture had a
+/// break, and no session of any connection is to blame (`nobody`). If the first break is of transport, it is the
+/// one that is told of its side, with its packet, unit and cause (`transport`). If a session broke the protocol
+/// first, that session is to blame for all that passed (`session`).
+///
+/// So a capture has one first break, whatever the pieces were (`one`). The units pass in the order of the octets
+/// that complete their packets: those of a prefix of the capture pass before all others (`order`).
 pub fn the_first_break_is_the_earliest()
     ensures first { (capture : Capture) (t : Judge) → IsFed capture t → IsJudged t → IsFirstOf (first_in t) (comes_to capture).course.past }
     ensures nobody { (capture : Capture) (t : Judge) → IsFed capture t → IsJudged t → first_in t ≡ None

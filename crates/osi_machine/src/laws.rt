@@ -116,15 +116,19 @@ pub fn what_a_record_tells()
     session::what_an_accepted_call_passed();
 }
 
-/// What the records of two users tell, after every list of steps of the machine, with any number of connections, with
-/// closes, breaks and ends, and whatever is lost. For each connection: no token is held by both sides; neither user
-/// receives a fault of its own side or of the other; unless duplex is selected, one of the two views is a prefix of the
-/// other; with duplex, as soon as one of the two has sent or seen the answer that selects it, the data that a user
-/// receives is a prefix of the data that the other asked to send; and each point in the view of a side with a number
-/// below its V(A) is in the view of the other, after the same items, unless the other awaits the answer to a restart.
-/// All of this except V(A) is read from the journal. Data or a point that is taken is the item of the history at the
-/// mark of the side that takes it. No entry of the journal is an indication of a fault, whatever its reference. A user
-/// is told that a connection was lost only if its end was told of a break or ran out of memory.
+/// What the records of two users tell, after every list of steps of the machine, with any number of connections,
+/// with closes, breaks and ends, and whatever is lost.
+///
+/// For each connection: no token is held by both sides (`holder`). Neither user receives a fault of its own side or
+/// of the other (`fault`). Unless duplex is selected, one of the two views is a prefix of the other (`agreement`).
+/// With duplex, as soon as one of the two has sent or seen the answer that selects it, the data that a user
+/// receives is a prefix of the data that the other asked to send (`duplex`). Each point in the view of a side with
+/// a number below its V(A) is in the view of the other, after the same items, unless the other awaits the answer to
+/// a restart (`confirmed`). All of this except V(A) is read from the journal. Data or a point that is taken is the
+/// item of the history at the mark of the side that takes it (`item`).
+///
+/// No entry of the journal is an indication of a fault, whatever its reference (`faultless`). A user is told that a
+/// connection was lost only if its end was told of a break or ran out of memory (`lost`).
 pub fn what_two_records_tell()
     ensures holder { (m : Machine) → IsRun m → OfEach HasOneHolder m }
     ensures fault { (m : Machine) → IsRun m → OfEach ShowNoFault m }
@@ -234,14 +238,18 @@ pub fn who_is_left_is_over()
     session::an_empty_token_item_changes_nothing();
 }
 
-/// What the records of two users tell, read from the tables and the journal alone. For each connection: no token is
-/// held by both sessions; neither user receives a fault of its own side or of the other; unless duplex is selected, one
-/// of the two views is a prefix of the other; with duplex, as soon as one of the two has sent or seen the answer that
-/// selects it, the data that a user receives is a prefix of the data that the other asked to send; and each point in
-/// the view of a side with a number below its V(A) is in the view of the other, after the same items, unless the other
-/// awaits the answer to a restart. No entry of the journal is an indication of a fault, whatever its reference. A user
-/// is told that a connection was lost only if its end was told of a break or ran out of memory. The journal has the
-/// offer of each connection.
+/// What the records of two users tell, read from the tables and the journal alone.
+///
+/// For each connection: no token is held by both sessions (`holder`). Neither user receives a fault of its own side
+/// or of the other (`fault`). Unless duplex is selected, one of the two views is a prefix of the other
+/// (`agreement`). With duplex, as soon as one of the two has sent or seen the answer that selects it, the data that
+/// a user receives is a prefix of the data that the other asked to send (`duplex`). Each point in the view of a
+/// side with a number below its V(A) is in the view of the other, after the same items, unless the other awaits the
+/// answer to a restart (`confirmed`).
+///
+/// No entry of the journal is an indication of a fault, whatever its reference (`faultless`). A user is told that a
+/// connection was lost only if its end was told of a break or ran out of memory (`lost`). The journal has the offer
+/// of each connection (`offered`).
 pub fn what_two_tables_tell()
     ensures holder { (t : Tables) → IsTableRun t → OfEachLine HoldNoneTwice t }
     ensures fault { (t : Tables) → IsTableRun t → OfEachLine AreNoFaults t }

@@ -101,9 +101,10 @@ pub fn what_an_end_shows()
     ensures { (lines : Rows Line) → AreLost lines (all_lost lines) }
 {}
 
-/// Indications are given in one order: line after line, and for one connection the oldest first. Giving one changes no
-/// session. If the lines are in the order of their references, as those of each end are, the next one is the oldest
-/// indication of the lowest reference for which one is pending.
+/// An end has a *line* for each connection: its session and its pending indications. Indications are given in one
+/// order: line after line, and of one connection the oldest first. Giving one changes no session. If the lines are
+/// in the order of their references, as those of each end are, the next one is the oldest indication of the lowest
+/// reference for which one is pending.
 pub fn what_waits_is_told_in_order()
     ensures next { (lines : Rows Line) → IsFirstOf (first_shown lines) (all_waiting lines) (all_waiting (without_first lines)) }
     ensures lowest { (lines : Rows Line) → RiseFrom 0 lines → TellsLowest (first_shown lines) lines (without_first lines) }
@@ -333,13 +334,16 @@ pub fn all_that_is_told_is_heard()
     ensures broken { (e : End) → IsAttended e → IsAttended (breaks e) }
 {}
 
-/// The pieces don't matter, nor when indications and octets are taken. Take any list of calls that feed an end, fetch
-/// its indications and take its octets, after which it has not ended. The packets of the octets that it held and used
-/// took effect, each whole and in order, each once no indication was pending, and nothing else did. So these are the
-/// same, whatever the pieces: the indications and their order, counting pending ones; the octets put for the peer,
-/// counting those not yet sent; and each session, each connection and the unfinished packet. If the octets don't end an
-/// end in one list of pieces, they don't in any other, unless memory runs out. If they end it and memory suffices, they
-/// end it for the same reason, in the same state and with the same indications, whatever the pieces.
+/// The pieces don't matter, nor when indications and octets are taken. Take any list of calls that feed an end,
+/// fetch its indications and take its octets, after which it has not ended. The packets of the octets that it held
+/// and used took effect, each whole and in order, each once no indication was pending, and nothing else did
+/// (`calls`). So these are the same, whatever the pieces: the indications and their order, counting pending ones;
+/// the octets put for the peer, counting those not yet sent; and each session, each connection and the unfinished
+/// packet (`pieces`).
+///
+/// If the octets don't end an end in one list of pieces, they don't in any other, unless memory runs out (`lasts`).
+/// If they end it and memory suffices, they end it for the same reason, in the same state and with the same
+/// indications, whatever the pieces (`ends`). So all that can be seen of the end is the same (`seen`).
 pub fn the_pieces_do_not_matter()
     ensures calls { (old new : Holding) (calls : List EndCall) → CallsAlong old calls new → new.end.carrier.ended ≡ None →
         Reads old calls new }
