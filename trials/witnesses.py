@@ -26,8 +26,12 @@ from runs import OTHER, SIDES, Run, played, run_at_random
 UNFINISHED = re.compile(r"# (left|right) packet \d+: no call of a script sends this\n\Z")
 # The captures in which a side kept the protocol by a unit that no call of a script sends.
 BEYOND_CALLS = {"in_flight.disputes an abort of a provider without resources", "transport_of_class_0.disputes an ER in answer to a CR"}
-# That in which a unit before the break has no call.
-BEFORE_A_BREAK = {"sizes_and_references.disputes a refusal, and then octets that are no packet"}
+# Those in which a unit before the break, or before the profile is left, has no call.
+BEFORE_A_BREAK = {"sizes_and_references.disputes a refusal, and then octets that are no packet", *(
+    f"kept_and_outside.disputes {name}" for name in (
+        "an AC of version 1 to a CN that offers no version 2", "an AC of version 2 to a CN that offers no version 2",
+        "an AC of version 1 after an RF", "another session after an RF", "another session after an AA", "a CN before the AA has come",
+        "a CN of the called side after its RF", "a release that both sides ask for"))}
 
 
 def disputes(top):
@@ -256,6 +260,8 @@ STOPS = re.compile(r"^# (left|right) packet (\d+): .+\n\Z", re.M)
 FIRST = re.compile(r"^(left|right) (?:broke the protocol|leaves the profile) first, packet (\d+): .+\n\Z", re.M)
 # What is not compared of a unit of a foreign end: the protocol options of a CN or AC, and what a CN offers and its addresses.
 OPTIONS = re.compile(r"(?<= 5\()19=\w+ ")
+# An end writes the setting of the tokens, and an absent one is 00.
+SETTING = re.compile(r"(?<=\w) 26=00(?=\))")
 OFFERED = re.compile(r"(?<=    CN )(.*?)( 20=\w+)?( 51=\w*)?( 52=\w*)?(?= 193|$)")
 
 
@@ -288,7 +294,7 @@ class Witnesses:
         _, text = self.osi(["show"], stream.hex())
         found = []
         for tsdu in re.split(r"^    tsdu .*\n", text, flags=re.M)[1:]:
-            lines = [OPTIONS.sub("", OFFERED.sub(r"\1", line)) for line in re.findall(r"^    (?!fault ).*", tsdu, re.M)]
+            lines = [SETTING.sub("", OPTIONS.sub("", OFFERED.sub(r"\1", line))) for line in re.findall(r"^    (?!fault ).*", tsdu, re.M)]
             found += [line for line in as_they_act(lines) if line not in ("    GT", "    PT")]
         return found
 
@@ -313,7 +319,7 @@ class Witnesses:
         self.check(f"{name}: both kept the protocol, and the script stops", judged != 0 or status == 0 or may_stop)
         self.check(f"{name}: the script is not played to its end", self.osi(["pair"], script)[0] == 0)
         first, stops = FIRST.search(verdict), STOPS.search(script)
-        is_early = first and (confirms or name in BEFORE_A_BREAK) and UNFINISHED.search(script) and int(stops[2]) < int(first[2])
+        is_early = first and (confirms or name in BEFORE_A_BREAK) and UNFINISHED.search(script) and first.groups() != stops.groups()
         self.check(f"{name}: the script stops elsewhere than the verdict says\n{verdict}by\n{script}",
                    (stops is not None) == (status == 1)
                    and (first is None or is_early or stops and first.groups() == stops.groups()))
