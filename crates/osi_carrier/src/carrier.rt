@@ -231,6 +231,7 @@ impl Carrier {
     /// last packet that was used was a whole TSDU and lies within the piece. Such a TSDU is lent from the piece: its octets
     /// are not copied, and no event is queued for it. Then no event is pending, and `whole` in the result says that a TSDU
     /// is lent. If none is lent, the call has done what [`Carrier::feed`] does.
+    #[inline(always)]
     pub fn feed_lent<'a>(&mut self, piece: &'a [u8]) -> FedLent<'a>
         ensures feeds { Feeds self.old piece.now result.fed (carrying_lent result.lent self.new) }
         ensures told { IfSome result.lent (λ lent.

@@ -402,11 +402,11 @@ impl Session {
                 Err(error) => Err(error),
             };
         }
-        if let Some(number) = self.take_minor(tsdu) {
+        if let Some(number) = self.try_minor(tsdu) {
             let indication = minor_shown(self.alloc, number);
             return Ok(Taken::showing(self.alloc, Some(indication)));
         }
-        if let Some(number) = self.take_confirmation(tsdu) {
+        if let Some(number) = self.try_confirmation(tsdu) {
             let indication = confirmation_shown(self.alloc, number);
             return Ok(Taken::showing(self.alloc, Some(indication)));
         }

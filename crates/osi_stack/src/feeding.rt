@@ -92,7 +92,7 @@ pub fn feed_to_indication(
 {
     a_prefix_of_a_packet();
     if piece.is_empty() {
-        return carrier.feed_lent(piece).fed.used;
+        return carrier.feed(piece).used;
     }
     let mut rest = piece;
     'packets: loop {

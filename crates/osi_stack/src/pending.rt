@@ -1,6 +1,6 @@
 //! The pending indications of one user.
 
-ghost use Rattle.std.specs.Prelude.{◌≡◌, ◌+◌, ◌-◌, ◌<◌, [], ◌∷◌, ◌++◌, true, false, is_some};
+ghost use Rattle.std.specs.Prelude.{◌≡◌, ◌+◌, ◌-◌, ◌<◌, ◌≤◌, [], ◌∷◌, ◌++◌, true, false, is_some};
 ghost use Rattle.std.specs.VecDeque.{deque_len, deque_capacity};
 ghost use Rattle.osi_class.specs.Queues.{in_front};
 ghost use Rattle.osi_stack.specs.Pending.{room_of};
@@ -49,6 +49,18 @@ fn put<T: Drop>(oldest: &mut Option<T>, others: &mut VecDeque<T>, value: T)
         return;
     }
     others.push_back_reserved(value);
+}
+
+/// The first of the others becomes the oldest. The function is kept out of line, because mostly there are none.
+#[inline(never)]
+fn promote<T: Drop>(oldest: &mut Option<T>, others: &mut VecDeque<T>)
+    requires { is_some oldest.old ≡ false }
+    ensures items { in_front oldest.new others.new.items ≡ others.old.items }
+    ensures first { is_some oldest.new ≡ false → others.new.items ≡ [] }
+    ensures room { deque_capacity others.old - deque_len others.old
+        ≤ room_of oldest.new (deque_len others.new) (deque_capacity others.new) }
+{
+    *oldest = others.pop_front();
 }
 
 impl<T: Drop> Pending<T> {
@@ -118,12 +130,9 @@ impl<T: Drop> Pending<T> {
         ensures first { PopsFirst result self.old.items self.new.items }
         ensures room { self.old.room ≤ self.new.room }
     {
-        if self.oldest.is_none() {
-            return None;
-        }
         let oldest = self.oldest.take();
         if !self.others.is_empty() {
-            self.oldest = self.others.pop_front();
+            promote(&mut self.oldest, &mut self.others);
         }
         oldest
     }

@@ -1,9 +1,10 @@
 //! The units of a packet, one after the other (X.224 section 6.4).
 
-ghost use Rattle.std.specs.Prelude.{◌≡◌, ℕ, ◌∷◌, [], None, Some, true, false};
+ghost use Rattle.std.specs.Prelude.{◌≡◌, ◌<◌, ℕ, ◌∷◌, [], None, Some, true, false};
 ghost use Rattle.osi_class.specs.Handing.{user_of};
 ghost use Rattle.osi_class.specs.Link.{taken};
 ghost use Rattle.osi_tpdu.specs.Units.{units_left};
+ghost use Rattle.osi_tpdu.specs.Value.{data2};
 ghost use Rattle.osi_tpdu.specs.View.{value};
 ghost use Rattle.osi_carrier.specs.Lending.{is_reached, lent_if, with_lent, with_reached, Lends, LendsIf};
 ghost use Rattle.osi_carrier.specs.Opened.{link_in, peer_in};
@@ -42,7 +43,7 @@ impl Switch {
                     self.take_ack(packet);
                     return false;
                 };
-                match self.take_open(data.destination, &Tpdu::Dt2(data), lends) {
+                match self.take_data(data.destination, data.number, data.end, data.user, lends) {
                     Reached::NotOpen => {
                         self.take_any(packet);
                         false
@@ -67,8 +68,8 @@ impl Switch {
         let _nothing = self.take_packet(packet, false, &mut Lent::none());
     }
 
-    /// The same in class 0.
-    #[inline(always)]
+    /// The same in class 0. The function is kept out of line: the code around it then has nothing of this class.
+    #[inline(never)]
     fn take_in_zero<'a>(&mut self, packet: &'a [u8], lends: bool, lent: &mut Lent<'a>) -> bool
         requires lasts { self.old.ended ≡ None }
         requires class { self.old.class ≡ Some Class.Zero }
@@ -97,8 +98,37 @@ impl Switch {
         }
     }
 
-    /// A packet in class 2 that is not one DT. Nothing is lent from it.
-    #[inline(always)]
+    /// A DT of class 2 with these fields, if it is for the link of an open connection. If there is no such connection,
+    /// nothing has changed. The fields are passed one by one, so that none goes through memory.
+    #[inline(never)]
+    fn take_data(
+        &mut self,
+        destination: u16,
+        number: u8,
+        end: bool,
+        user: &[u8],
+        lends: bool,
+    ) -> Reached
+        requires lasts { self.old.ended ≡ None }
+        requires class { self.old.class ≡ Some Class.Two }
+        requires number { number < 128 }
+        ensures acts { is_reached result ≡ true →
+            Act self.old (data2 destination number end user.now ∷ []) (with_reached result destination user.now self.new) }
+        ensures none { result ≡ Reached.NotOpen → self.new ≡ self.old }
+        ensures lent { LendsIf result lends self.old self.new }
+    {
+        let data = DataClass2 {
+            destination,
+            number,
+            end,
+            user,
+        };
+        self.take_open(destination, &Tpdu::Dt2(data), lends)
+    }
+
+    /// A packet in class 2 that is not one DT. Nothing is lent from it. The function is kept out of line: one AK then takes
+    /// less room and time than a DT.
+    #[inline(never)]
     fn take_ack(&mut self, packet: &[u8])
         requires lasts { self.old.ended ≡ None }
         requires class { self.old.class ≡ Some Class.Two }

@@ -60,10 +60,10 @@ impl Session {
                 Err(error) => Err(error),
             };
         }
-        if let Some(number) = self.take_minor(tsdu) {
+        if let Some(number) = self.try_minor(tsdu) {
             return Ok(Expected::Shown(minor_shown(self.alloc, number)));
         }
-        if let Some(number) = self.take_confirmation(tsdu) {
+        if let Some(number) = self.try_confirmation(tsdu) {
             return Ok(Expected::Shown(confirmation_shown(self.alloc, number)));
         }
         // A value of its own: otherwise the indication of data, too, would be built in the stack space of this one.
@@ -98,8 +98,8 @@ impl Session {
         self.take_minor_point(tsdu)
     }
 
-    /// The same, of a TSDU that may be one. The function is kept out of line, because data is more frequent.
-    #[inline(never)]
+    /// The same, of a TSDU that may be one.
+    #[inline(always)]
     fn take_minor_point(&mut self, tsdu: &[u8]) -> Option<u32>
         ensures shown { IfSome result (λ n. react self.old (came tsdu.now) ≡ only_shows self.new (Minor n true [])) }
         ensures rests { IfNone result (self.new ≡ self.old) }
@@ -113,6 +113,27 @@ impl Session {
         };
         self.state.numbers = numbers;
         Some(number.number)
+    }
+
+    /// The same as [`Session::take_minor`], for a caller that also takes data, which is more frequent: a TSDU that may be a
+    /// point is read out of line.
+    #[inline(always)]
+    pub(super) fn try_minor(&mut self, tsdu: &[u8]) -> Option<u32>
+        ensures shown { IfSome result (λ n. react self.old (came tsdu.now) ≡ only_shows self.new (Minor n true [])) }
+        ensures rests { IfNone result (self.new ≡ self.old) }
+    {
+        if has_unit(tsdu, MINOR_POINT) {
+            return self.take_minor_apart(tsdu);
+        }
+        None
+    }
+
+    #[inline(never)]
+    fn take_minor_apart(&mut self, tsdu: &[u8]) -> Option<u32>
+        ensures shown { IfSome result (λ n. react self.old (came tsdu.now) ≡ only_shows self.new (Minor n true [])) }
+        ensures rests { IfNone result (self.new ≡ self.old) }
+    {
+        self.take_minor(tsdu)
     }
 
     /// The number of the confirmation of a minor point, if the TSDU is one with no other parameter, and is expected: the
@@ -129,8 +150,8 @@ impl Session {
         self.take_minor_ack(tsdu)
     }
 
-    /// The same, of a TSDU that may be one. The function is kept out of line, because data is more frequent.
-    #[inline(never)]
+    /// The same, of a TSDU that may be one.
+    #[inline(always)]
     fn take_minor_ack(&mut self, tsdu: &[u8]) -> Option<u32>
         ensures shown { IfSome result (λ n. react self.old (came tsdu.now) ≡ only_shows self.new (MinorConfirmed n [])) }
         ensures rests { IfNone result (self.new ≡ self.old) }
@@ -144,6 +165,26 @@ impl Session {
         };
         self.state.numbers = numbers;
         Some(number.number)
+    }
+
+    /// The same as [`Session::take_confirmation`], for a caller that also takes data.
+    #[inline(always)]
+    pub(super) fn try_confirmation(&mut self, tsdu: &[u8]) -> Option<u32>
+        ensures shown { IfSome result (λ n. react self.old (came tsdu.now) ≡ only_shows self.new (MinorConfirmed n [])) }
+        ensures rests { IfNone result (self.new ≡ self.old) }
+    {
+        if has_unit(tsdu, MINOR_ACK) {
+            return self.take_confirmation_apart(tsdu);
+        }
+        None
+    }
+
+    #[inline(never)]
+    fn take_confirmation_apart(&mut self, tsdu: &[u8]) -> Option<u32>
+        ensures shown { IfSome result (λ n. react self.old (came tsdu.now) ≡ only_shows self.new (MinorConfirmed n [])) }
+        ensures rests { IfNone result (self.new ≡ self.old) }
+    {
+        self.take_confirmation(tsdu)
     }
 
     /// Tries a TSDU, with the buffer that its octets are in, as whole data that is expected. Such data is indicated

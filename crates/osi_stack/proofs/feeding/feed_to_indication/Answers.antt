@@ -8,8 +8,8 @@ use Rattle.osi_stack.proofs.feeding.feed_to_indication.Goals as goal
 pub returns-then-is_empty-clause-goes : goal.returns-then-is_empty-clause-goes
 returns-then-is_empty-clause-goes c =
     let empty = sym c.is_empty.ensures ∙ c.if-is_empty.true in
-    let stays = c.feed_lent.ensures.empty (nothing_of c.args.piece.now empty) in
-    let i = idle_goes (holding c.args.carrier.now c.args.lines.now) c.args.piece.now c.feed_lent.result.fed c.feed_lent.new.self empty
+    let stays = c.feed.ensures.empty (nothing_of c.args.piece.now empty) in
+    let i = idle_goes (holding c.args.carrier.now c.args.lines.now) c.args.piece.now c.feed.result c.feed.new.self empty
     c.requires.quiet c.requires.attended
     (grind arith) (λ _. (stays.0, stays.1)) in
     i.goes
