@@ -45,8 +45,17 @@ fn carry_piece(
     true
 }
 
-/// Carries the whole backlog. Each piece has at least one octet.
+/// Carries the whole backlog, if there is one. Each piece has at least one octet.
+#[inline(always)]
 fn carry(alloc: Global, from: &mut Carrier, to: &mut Carrier, piece: usize, moved: &mut Moved) {
+    if !from.outgoing().is_empty() {
+        carry_all(alloc, from, to, piece, moved);
+    }
+}
+
+/// It is kept out of line, so that a way with nothing to carry costs no call.
+#[inline(never)]
+fn carry_all(alloc: Global, from: &mut Carrier, to: &mut Carrier, piece: usize, moved: &mut Moved) {
     for _ in 0..=from.outgoing().len() {
         if !carry_piece(alloc, from, to, piece, moved) {
             return;

@@ -4,13 +4,13 @@ ghost use Rattle.std.specs.Prelude.{◌≡◌, ◌<◌, ℕ, ◌∷◌, [], None
 ghost use Rattle.osi_class.specs.Handing.{user_of};
 ghost use Rattle.osi_class.specs.Link.{taken};
 ghost use Rattle.osi_tpdu.specs.Units.{units_left};
-ghost use Rattle.osi_tpdu.specs.Value.{data2};
+ghost use Rattle.osi_tpdu.specs.Value.{data0, data2};
 ghost use Rattle.osi_tpdu.specs.View.{value};
 ghost use Rattle.osi_carrier.specs.Lending.{is_reached, lent_if, with_lent, with_reached, Lends, LendsIf};
 ghost use Rattle.osi_carrier.specs.Opened.{link_in, peer_in};
 ghost use Rattle.osi_carrier.specs.Packets.{Act, Acts, after_refusal};
 ghost use Rattle.osi_carrier.specs.React.{in_class, taking};
-ghost use Rattle.osi_carrier.specs.Rows.{value_at};
+ghost use Rattle.osi_carrier.specs.Rows.{first_of, value_at};
 ghost use Rattle.osi_carrier.specs.State.{ends};
 ghost use Rattle.osi_carrier.specs.declared.ends.EndReason.TheVariants.{NoMemory};
 
@@ -43,7 +43,13 @@ impl Switch {
                     self.take_ack(packet);
                     return false;
                 };
-                match self.take_data(data.destination, data.number, data.end, data.user, lends) {
+                match self.take_data_two(
+                    data.destination,
+                    data.number,
+                    data.end,
+                    data.user,
+                    lends,
+                ) {
                     Reached::NotOpen => {
                         self.take_any(packet);
                         false
@@ -68,8 +74,8 @@ impl Switch {
         let _nothing = self.take_packet(packet, false, &mut Lent::none());
     }
 
-    /// The same in class 0. The function is kept out of line: the code around it then has nothing of this class.
-    #[inline(never)]
+    /// The same in class 0.
+    #[inline(always)]
     fn take_in_zero<'a>(&mut self, packet: &'a [u8], lends: bool, lent: &mut Lent<'a>) -> bool
         requires lasts { self.old.ended ≡ None }
         requires class { self.old.class ≡ Some Class.Zero }
@@ -84,7 +90,7 @@ impl Switch {
             self.take_any(packet);
             return false;
         };
-        match self.take_open(reference, &Tpdu::Dt0(data), lends) {
+        match self.take_data_zero(reference, data.end, data.user, lends) {
             Reached::NotOpen => {
                 self.take_any(packet);
                 false
@@ -98,10 +104,25 @@ impl Switch {
         }
     }
 
-    /// A DT of class 2 with these fields, if it is for the link of an open connection. If there is no such connection,
+    /// A DT of class 0 with these fields, for the link of the connection with this reference if it is open. If it is not,
     /// nothing has changed. The fields are passed one by one, so that none goes through memory.
     #[inline(never)]
-    fn take_data(
+    fn take_data_zero(&mut self, reference: u16, end: bool, user: &[u8], lends: bool) -> Reached
+        requires lasts { self.old.ended ≡ None }
+        requires class { self.old.class ≡ Some Class.Zero }
+        requires first { first_of self.old.live ≡ Some reference }
+        ensures acts { is_reached result ≡ true →
+            Act self.old (data0 end user.now ∷ []) (with_reached result reference user.now self.new) }
+        ensures none { result ≡ Reached.NotOpen → self.new ≡ self.old }
+        ensures lent { LendsIf result lends self.old self.new }
+    {
+        let data = DataClass0 { end, user };
+        self.take_open(reference, &Tpdu::Dt0(data), lends)
+    }
+
+    /// The same with a DT of class 2.
+    #[inline(never)]
+    fn take_data_two(
         &mut self,
         destination: u16,
         number: u8,
