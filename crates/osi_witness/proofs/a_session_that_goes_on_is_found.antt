@@ -22,7 +22,7 @@ use Rattle.osi_witness.specs.Trails.{Listens}
 
 -- ---- a TSDU that is taken
 
-hears_one : (s t u : Seen) (tsdu : List ℕ) → Hears s tsdu t → Hears s tsdu u → t ≡ u
+pub hears_one : (s t u : Seen) (tsdu : List ℕ) → Hears s tsdu t → Hears s tsdu u → t ≡ u
 hears_one s t u tsdu h k =
     h.next ∙ ap (λ (c : Count). after_count s c) (takes_one s tsdu h.count k.count h.taken k.taken) ∙ sym k.next
 

@@ -99,5 +99,10 @@ pub record TellsLast (number : ℕ) (old new : Stream) : Type 0 where
   pub kept : new.kept ≡ old.kept
   pub start : new.start ≡ old.start
   pub limit : new.limit ≡ old.limit
+  pub begin : new.begin ≡ old.begin
+  pub before : new.before ≡ old.before
+  pub passed : old.before ≤ length (observed old.side).heard
+  pub heard : (observed new.side).heard ≡ (observed old.side).heard
+  pub begins : (observed new.side).begin ≡ (observed old.side).begin
   pub observes : (told : List Told) → Observes (observed old.side) told
       → Observes (observed new.side) (told ++ told_as (get_or (tsdus_of old) number []) old.before ∷ [])
