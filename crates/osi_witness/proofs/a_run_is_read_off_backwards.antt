@@ -1,20 +1,22 @@
 -- A run is read off backwards: before a run of the units that follow, one unit more is sent, as a step of the search found it.
-use Rattle.std.proofs.Common.{◌≡◌, ◌∙◌, ◌≤◌, ◌<◌, ◌+◌, ◌-◌, ◌++◌, ◌∷◌, ◌⊎◌, refl, ap, sym, subst, arith, ℕ, zero, suc, true, false, inl, inr}
-use Rattle.std.proofs.Common.{List, [], length, get_or, drop, min, reverse, Option, Some, None}
+use Rattle.std.proofs.Common.{◌≡◌, ◌∙◌, ◌≤◌, ◌<◌, ◌+◌, ◌-◌, ◌++◌, ◌∷◌, refl, ap, sym, subst, arith, ℕ, zero, suc, true, false, inl, inr}
+use Rattle.std.proofs.Common.{List, [], length, get_or, drop, reverse, Option, Some, None, IfSome}
 use Rattle.std.proofs.lemmas.Bool.{false≢true}
 use Rattle.std.proofs.lemmas.List.{drop_more, reverse-append}
-use Rattle.osi_message.specs.Words.{Word}
+use Rattle.std.specs.List.{slice_get}
 use Rattle.osi_session.specs.Standing.{Seen, CanSay, Takes}
 use Rattle.osi_session.specs.Steady.{Hears}
 use Rattle.osi_side.specs.declared.members.Member.{Member}
 use Rattle.osi_side.specs.Explaining.{Remark}
+use Rattle.osi_side.specs.Onward.{IsAmong}
 use Rattle.osi_witness.specs.declared.streams.Kept.{Kept}
 use Rattle.osi_witness.specs.declared.streams.Said.{Said}
 use Rattle.osi_witness.specs.declared.trails.Goal.{Goal}
 use Rattle.osi_witness.specs.declared.trails.Step.{Step}
 use Rattle.osi_witness.specs.Found.{GoesOn, Stays, answers, says, takes}
 use Rattle.osi_witness.specs.Steps.{Answering, Calling, Leading, heard_for, unit_for, word_for}
-use Rattle.osi_witness.specs.Backwards.{HasRoom, IsLater, IsLatest, IsNext, Meets, last_before, said_by_step}
+use Rattle.osi_witness.specs.Backwards.{HasRoom, IsLater, IsLatest, IsNext, Meets, StepsTo, last_before, said_by_step}
+use Rattle.osi_witness.specs.Units.{words_of}
 use Rattle.osi_witness.specs.Trails.{Answers, Calls, IsOf, Listens, Runs, Sends, remark_of}
 use Rattle.osi_witness.proofs.a_session_that_goes_on_is_found.{hears_one}
 
@@ -206,7 +208,7 @@ runs_before own us k ks xs most x from after is sends m room r = (is, sends, mee
 
 -- ---- a step is made later
 
-later_step : (g : Goal) (most : ℕ) (s t u : Step) → s.is_answer ≡ false → IsLatest g most s t → IsNext g t u → u.taken ≤ most → u.taken ≤ g.before
+pub later_step : (g : Goal) (most : ℕ) (s t u : Step) → s.is_answer ≡ false → IsLatest g most s t → IsNext g t u → u.taken ≤ most → u.taken ≤ g.before
     → IsLatest g most s u
 later_step g most s t u e (inl is) n top passed =
     let same : t ≡ s = is in
@@ -310,7 +312,7 @@ sends_later_by g most from t u x e k h = elim h.sends [
   | inr c ↦ absurd (false≢true (sym k.calls ∙ c.is))
 ]
 
-pub step_sends : (g : Goal) (most : ℕ) (from : Member) (t u : Step) (x : Said) → x ≡ said_by_step x u → g.after.now.taken ≤ g.before
+step_sends : (g : Goal) (most : ℕ) (from : Member) (t u : Step) (x : Said) → x ≡ said_by_step x u → g.after.now.taken ≤ g.before
     → Leading g from t → IsLatest g most t u → Sends (heard_for g) (unit_for g) from.taken from.standing x
 step_sends g most from t u x e l h (inl is) =
     let up = h.no_later in
@@ -324,7 +326,7 @@ waits_as g from t h =
     subst (λ (s : Seen). Listens (heard_for g) t.taken t.standing (g.after.now.taken - t.taken) s) h.standing
     (stays_listens (heard_for g) t.taken t.standing (g.after.now.taken - t.taken) h.stays)
 
-pub step_meets : (g : Goal) (most : ℕ) (from : Member) (t u : Step) (x : Said) → x ≡ said_by_step x u → Leading g from t
+step_meets : (g : Goal) (most : ℕ) (from : Member) (t u : Step) (x : Said) → x ≡ said_by_step x u → Leading g from t
     → IsLatest g most t u → Meets (heard_for g) most x g.after.now
 step_meets g most from t u x e h (inl is) =
     let up = h.no_later in
@@ -356,6 +358,31 @@ step_meets g most from t u x e h (inr k) =
       later = taken ∙ count;
       listened = subst (λ (s : Seen). Listens (heard_for g) t.taken t.standing k.more s) (sym (ap (λ (y : Said). y.standing) e)) k.standing;
       room = inr (omega (arith, taken, room));
+    }
+
+pub found_step : (g : Goal) (members : List Member) (o : Option (Member × Step)) (from : Member) (t : Step) → o ≡ Some (from, t)
+    → IfSome o (λ s. IsAmong s.0 members × Leading g s.0 s.1) → IsAmong from members × Leading g from t
+found_step g members o from t e h = subst (λ (x : Option (Member × Step)). IfSome x (λ s. IsAmong s.0 members × Leading g s.0 s.1)) e h
+
+unit_is : (own : List (List ℕ)) (k : Kept) (g : Goal) (tsdu : List ℕ) → tsdu ≡ get_or own k.tsdu []
+    → Some (word_for g) ≡ slice_get (words_of tsdu) k.place → g.octets ≡ length tsdu → g.before ≡ k.before → remark_of own k ≡ unit_for g
+unit_is own k g tsdu a w n b = λ i. record {
+  word = (ap (λ (u : List ℕ). slice_get (words_of u) k.place) (sym a) ∙ sym w) i;
+  octets = (ap (λ (u : List ℕ). length u) (sym a) ∙ sym n) i;
+  before = (sym b) i;
+}
+
+pub step_to : (g : Goal) (from : Member) (t : Step) → Leading g from t → (own : List (List ℕ)) (k : Kept) (tsdu : List ℕ) (most : ℕ) (u : Step)
+    (x : Said) → IsLatest g most t u → tsdu ≡ get_or own k.tsdu [] → Some (word_for g) ≡ slice_get (words_of tsdu) k.place
+    → g.octets ≡ length tsdu → g.before ≡ k.before → IsOf k x → x ≡ said_by_step x u → g.after.now.taken ≤ k.before
+    → StepsTo own (heard_for g) most k from x g.after.now
+step_to g from t h own k tsdu most u x j a w n b is e l =
+    let same = unit_is own k g tsdu a w n b in
+    let up : g.after.now.taken ≤ g.before = omega (arith, b, l) in
+    record {
+      is = is;
+      sends = subst (λ (m : Remark). Sends (heard_for g) m from.taken from.standing x) (sym same) (step_sends g most from t u x e up h j);
+      meets = step_meets g most from t u x e h j;
     }
 
 -- ---- the unit can be read

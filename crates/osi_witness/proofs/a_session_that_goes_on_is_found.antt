@@ -4,7 +4,6 @@ use Rattle.std.proofs.Common.{Bool, true, false}
 use Rattle.std.proofs.Common.{List, [], length, take, get_or, Option, Some, None, IfNone, IfOk, IfSome, Result, Ok, Err}
 use Rattle.std.proofs.Math.Numerals.{add-one}
 use Rattle.std.proofs.lemmas.Bool.{false≢true}
-use Rattle.std.proofs.lemmas.List.{take_all}
 use Rattle.osi_message.specs.Meanings.{Meaning}
 use Rattle.osi_message.specs.Words.{Word}
 use Rattle.osi_session.specs.Joining.{is_restart_word}

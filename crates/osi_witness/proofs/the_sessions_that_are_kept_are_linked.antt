@@ -2,11 +2,10 @@
 use Rattle.std.proofs.Common.{◌≡◌, ◌∙◌, ◌≤◌, ◌<◌, ◌+◌, ◌-◌, ◌++◌, ◌∷◌, refl, ap, sym, subst, arith, ℕ, zero, suc, true, false, inl, inr}
 use Rattle.std.proofs.Common.{List, [], length, map, drop, take, get_or, Option, Some, None, Result, Ok, Err, OnOk}
 use Rattle.std.proofs.Math.Numerals.{add-one}
-use Rattle.std.proofs.Math.Seq.{get_or-append_seam}
 use Rattle.std.proofs.lemmas.Bool.{false≢true}
-use Rattle.std.proofs.lemmas.List.{get_or_append_left, length-append, length-map, map-append}
+use Rattle.std.proofs.lemmas.List.{length-append, map-append}
 use Rattle.std.proofs.lemmas.List.Sums.{fold-append}
-use Rattle.std.specs.List.{fold, list_all, slice_get}
+use Rattle.std.specs.List.{list_all, slice_get}
 use Rattle.osi_message.specs.Words.{Word, Words}
 use Rattle.osi_session.specs.Standing.{Seen, Count, Takes}
 use Rattle.osi_session.specs.Steady.{Hears}
@@ -18,7 +17,7 @@ use Rattle.osi_side.specs.Judging.{Keeps, Observed, Observes, is_empty}
 use Rattle.osi_side.specs.Kept.{after_read, after_tsdu, after_word, after_words, kept, member}
 use Rattle.osi_side.specs.Members.{Extends}
 use Rattle.osi_side.specs.Onward.{IsAmong}
-use Rattle.osi_side.specs.Outlines.{AreAlike, outline, outlines}
+use Rattle.osi_side.specs.Outlines.{AreAlike, outlines}
 use Rattle.osi_side.specs.Sides.{observed}
 use Rattle.osi_side.specs.Walking.{the_remark}
 use Rattle.osi_side.proofs.outlined.alike_tsdus_explain_the_same.{outlines_alike}
@@ -27,11 +26,12 @@ use Rattle.osi_witness.specs.declared.streams.Kept.{Kept}
 use Rattle.osi_witness.specs.declared.streams.Stream.{Stream}
 use Rattle.osi_witness.specs.declared.streams.Tsdu.{Tsdu}
 use Rattle.osi_witness.specs.Found.{ComesFrom, GoesOn, Stays, answers, says, takes}
-use Rattle.osi_witness.specs.Linked.{AllCome, AllTook, AreAfter, AreLinked, Leads, LeadsBack, Passed, last_kept}
-use Rattle.osi_witness.specs.Streams.{tsdus_in, tsdus_of, Keeps as StillKeeps}
+use Rattle.osi_witness.specs.Linked.{AllCome, AllTook, AreAfter, AreLinked, HasHeard, IsFollowed, Leads, LeadsBack, Passed, last_kept}
+use Rattle.osi_witness.specs.Streams.{tsdus_in, tsdus_of, unfinished, Adds, Keeps as StillKeeps}
 use Rattle.osi_witness.specs.Trails.{remark_of}
 use Rattle.osi_witness.specs.Units.{acting, words_of}
 use Rattle.osi_witness.specs.Whole.{AreUnitsOf, IsWhole, IsWholeBut, TellsLast, is_of_first, told_as, units_kept}
+use Rattle.osi_witness.proofs.a_run_explains_what_a_side_sent.{tsdus_same}
 use Rattle.osi_witness.proofs.a_session_that_goes_on_is_found.{goes_up}
 use Rattle.osi_witness.proofs.all_units_of_a_side_are_kept.{count_is, taken_all, taken_more, tsdus_more, tsdus_stay, units_in, units_stay}
 use Rattle.osi_witness.proofs.each_session_that_is_kept_comes_from_one.{comes_from_one, comes_in_time}
@@ -197,11 +197,11 @@ comes_at us own members ks i k after h l e a =
 
 -- ---- a side of which nothing has passed, and what the other side sends
 
-begins_so : (begin : Seen) (members : List Member) (limit : Option Stop) (before : ℕ) (side : Observed)
+begins_so : (begin : Seen) (members : List Member) (limit : Option Stop) (before : ℕ) (side : Observed) → limit ≡ None
     → members ≡ member 0 begin ∷ [] → side.begin ≡ begin → side.finding ≡ found.Kept → Observes side []
     → LeadsBack begin members [] [] limit before side
 unfolding kept
-begins_so begin members limit before side e b f o =
+begins_so begin members limit before side n e b f o =
     let k : Keeps side [] = grind (arith, f, o) in
     let here : Extends side.heard side.heard = λ i l. refl in
     let is : side.members ≡ member 0 side.begin ∷ [] = k.kept side.heard here in
@@ -211,6 +211,7 @@ begins_so begin members limit before side e b f o =
       some = subst (λ (ms : List Member). is_empty ms ≡ false) (sym e) refl;
       took = subst (AllTook before) (sym e) (took_none before begin);
       last = λ none. e ∙ ap (λ (s : Seen). member 0 s ∷ []) (sym b) ∙ sym is;
+      unlimited = λ k. n;
     }
   where
     took_none : (before : ℕ) (begin : Seen) → AllTook before (member 0 begin ∷ [])
@@ -218,28 +219,11 @@ begins_so begin members limit before side e b f o =
     took_none before begin x (inr none) = absurd none
 
 pub begins_with : (begin : Seen) (members : List Member) (own : List (List ℕ)) (ks : List Kept) (limit : Option Stop) (before : ℕ)
-    (side : Observed) → ks ≡ [] → members ≡ member 0 begin ∷ [] → side.begin ≡ begin → side.finding ≡ found.Kept → Observes side []
+    (side : Observed) → limit ≡ None → ks ≡ [] → members ≡ member 0 begin ∷ [] → side.begin ≡ begin → side.finding ≡ found.Kept → Observes side []
     → LeadsBack begin members (units_kept own ks) ks limit before side
-begins_with begin members own ks limit before side none e b f o =
+begins_with begin members own ks limit before side n none e b f o =
     subst (λ (xs : List Kept). LeadsBack begin members (units_kept own xs) xs limit before side) (sym none)
-    (begins_so begin members limit before side e b f o)
-
-passed_less : (heard us : List (List ℕ)) (u : List ℕ) → Passed (heard ++ u ∷ []) us → Passed heard us
-passed_less heard us u p = λ i l.
-    let n = length-append heard (u ∷ []) in
-    subst (λ (x : List ℕ). AreAlike x (get_or us i [])) (get_or_append_left heard (u ∷ []) [] i l) (p i (omega (arith, n, l)))
-
--- one more TSDU of the other side is heard
-pub leads_heard : (begin : Seen) (members : List Member) (ms : List Remark) (ks : List Kept) (limit : Option Stop) (before : ℕ)
-    (old new : Observed) (u : List ℕ) → new ≡ record old { heard = old.heard ++ u ∷ [] } → LeadsBack begin members ms ks limit before old
-    → LeadsBack begin members ms ks limit before new
-leads_heard begin members ms ks limit before old new u e h = subst (LeadsBack begin members ms ks limit before) (sym e) (record {
-  first = h.first;
-  linked = λ us p. h.linked us (passed_less old.heard us u p);
-  some = h.some;
-  took = h.took;
-  last = h.last;
-})
+    (begins_so begin members limit before side n e b f o)
 
 -- more may have passed before the next TSDU
 pub leads_later : (begin : Seen) (members : List Member) (ms : List Remark) (ks : List Kept) (limit : Option Stop) (before later : ℕ)
@@ -250,18 +234,20 @@ leads_later begin members ms ks limit before later side l h = record {
   some = h.some;
   took = λ x a. let t = h.took x a in omega (arith, t, l);
   last = h.last;
+  unlimited = h.unlimited;
 }
 
 -- there is a limit
 pub leads_no_further : (begin : Seen) (members : List Member) (ms : List Remark) (ks : List Kept) (limit later : Option Stop) (before : ℕ)
-    (old new : Observed) → (later ≡ None → ⊥) → new.heard ≡ old.heard → LeadsBack begin members ms ks limit before old
+    (old new : Observed) → (later ≡ None → ⊥) → (new.finding ≡ found.Kept → ⊥) → new.heard ≡ old.heard → LeadsBack begin members ms ks limit before old
     → LeadsBack begin members ms ks later before new
-leads_no_further begin members ms ks limit later before old new some e h = record {
+leads_no_further begin members ms ks limit later before old new some broke e h = record {
   first = h.first;
   linked = λ us p. h.linked us (subst (λ (heard : List (List ℕ)). Passed heard us) e p);
   some = h.some;
   took = h.took;
   last = λ none. absurd (some none);
+  unlimited = λ k. absurd (broke k);
 }
 
 -- ---- the judge keeps the side after a TSDU more
@@ -297,13 +283,13 @@ kept_last old new told tsdu before f o b h g q =
     )
 
 pub leads_told : (begin : Seen) (members : List Member) (own : List (List ℕ)) (ks more : List Kept) (limit later : Option Stop)
-    (number before : ℕ) (old new : Observed) (told : List Told) → limit ≡ None → old.finding ≡ found.Kept → Observes old told
+    (number before : ℕ) (old new : Observed) (told : List Told) → limit ≡ None → later ≡ None → old.finding ≡ found.Kept → Observes old told
     → before ≤ length old.heard → new.begin ≡ old.begin → new.heard ≡ old.heard → new.finding ≡ found.Kept
     → Observes new (told ++ told_as (get_or own number []) before ∷ []) → AreUnitsOf (get_or own number []) number before more
     → AreAfter old.heard (length (get_or own number [])) before old.members (words_of (get_or own number [])) more
     → LeadsBack begin members (units_kept own ks) ks limit before old
     → LeadsBack begin members (units_kept own (ks ++ more)) (ks ++ more) later before new
-leads_told begin members own ks more limit later number before old new told none f o l b h g q units after leads =
+leads_told begin members own ks more limit later number before old new told none still f o l b h g q units after leads =
     let tsdu = get_or own number [] in
     let last = kept_last old new told tsdu before f o b h g q in
     let was : last_kept members ks ≡ old.members = leads.last none in
@@ -330,6 +316,7 @@ leads_told begin members own ks more limit later number before old new told none
           (sym (last_more members ks more ∙ ap (λ (ms : List Member). last_kept ms more) was))
           (words_took old.heard (length tsdu) before old.members (words_of tsdu) more took after);
       last = λ e. all;
+      unlimited = λ k. still;
     }
 
 -- ---- streams
@@ -346,14 +333,14 @@ leads_moved begin b c o p ts us ks ls limit m n side e f g h i l =
 
 -- a side is told no further
 pub stopped_leads : (begin : Seen) (s t u : Stream) (number : ℕ) → TellsLast number s t → StillKeeps t u → u.side ≡ t.side
-    → (u.limit ≡ None → ⊥) → Leads begin s → Leads begin u
-stopped_leads begin s t u number tells keeps same some h =
+    → (u.limit ≡ None → ⊥) → ((observed t.side).finding ≡ found.Kept → ⊥) → Leads begin s → Leads begin u
+stopped_leads begin s t u number tells keeps same some broke h =
     let heard = ap (λ x. (observed x).heard) same ∙ tells.heard in
     leads_moved begin s.begin.items u.begin.items s.octets.items u.octets.items s.tsdus.items u.tsdus.items s.kept.items u.kept.items u.limit
     s.before u.before (observed u.side) (ap (λ x. x.items) (keeps.begin ∙ tells.begin)) (ap (λ x. x.items) (keeps.octets ∙ tells.octets))
     (ap (λ x. x.items) (keeps.tsdus ∙ tells.tsdus)) (ap (λ x. x.items) (keeps.kept ∙ tells.kept)) (keeps.before ∙ tells.before)
     (leads_no_further begin s.begin.items (units_kept (tsdus_of s) s.kept.items) s.kept.items s.limit u.limit s.before (observed s.side)
-    (observed u.side) some heard h)
+    (observed u.side) some (λ k. broke (sym (ap (λ x. (observed x).finding) same) ∙ k)) heard h)
 
 -- the judge keeps it with the last TSDU
 pub told_leads : (begin : Seen) (s t : Stream) (number : ℕ) (more later : List Kept) → TellsLast number s t → s.limit ≡ None
@@ -366,7 +353,7 @@ told_leads begin s t number more later tells none f units after e whole h =
     t.limit s.before t.before (observed t.side) (ap (λ x. x.items) tells.begin) (ap (λ x. x.items) tells.octets)
     (ap (λ x. x.items) tells.tsdus) (e ∙ ap (λ x. x.items ++ more) tells.kept) tells.before
     (leads_told begin s.begin.items (tsdus_of s) s.kept.items more s.limit t.limit number s.before (observed s.side) (observed t.side)
-    whole.told none (whole.finding none) (whole.observes none) tells.passed tells.begins tells.heard f
+    whole.told none (tells.limit ∙ none) (whole.finding none) (whole.observes none) tells.passed tells.begins tells.heard f
     (tells.observes whole.told (whole.observes none)) units after h)
 
 -- octets of a TSDU pass
@@ -394,19 +381,32 @@ ended_leads begin s tsdus t e at end whole h =
     ∙ units_stay (tsdus_of s) (drop t.start s.octets.items ∷ []) s.kept.items of_own in
     subst (λ (ms : List Remark). LeadsBack begin s.begin.items ms s.kept.items s.limit s.before (observed s.side)) (sym same) h
 
--- the last TSDU of the other side is heard
-pub last_heard : (heard new us all : List (List ℕ)) (u : List ℕ) (n : ℕ) → n ≡ length all - 1 → all ≡ us ++ u ∷ [] → heard ≡ outlines us
-    → new ≡ heard ++ outline (get_or all n []) ∷ [] → new ≡ outlines all
-last_heard heard new us all u n e a h k =
-    let count : length all ≡ length us + 1 = ap (λ (x : List (List ℕ)). length x) a ∙ length-append us (u ∷ []) in
-    let at : n ≡ length us = omega (arith, e, count) in
-    let is : get_or all n [] ≡ u =
-    ap (λ (x : List (List ℕ)). get_or x n []) a ∙ ap (λ (i : ℕ). get_or (us ++ u ∷ []) i []) at ∙ get_or-append_seam us u [] [] in
-    k ∙ ap (λ (x : List (List ℕ)). x ++ outline (get_or all n []) ∷ []) h ∙ ap (λ (x : List ℕ). outlines us ++ outline x ∷ []) is
-    ∙ sym (map-append outline us (u ∷ [])) ∙ ap outlines (sym a)
+-- ---- two sides
+
+-- a part of a TSDU of a side passes
+pub followed_part : (begin after : Seen) (own now other : Stream) (octets : List ℕ) → Adds false octets own now → Leads begin now
+    → (observed now.side).heard ≡ (observed own.side).heard → IsFollowed own other begin → IsFollowed other own after
+    → IsFollowed now other begin × IsFollowed other now after
+followed_part begin after own now other octets adds leads same f g =
+    ((leads, same ∙ f.1), (g.0, g.1 ∙ ap outlines (sym adds.0)))
+
+-- and if it is the last, the other side hears the TSDU
+pub followed_whole : (begin after : Seen) (own now other later : Stream) (octets : List ℕ) → Adds true octets own now → Leads begin now
+    → (observed now.side).heard ≡ (observed own.side).heard → IsFollowed own other begin → IsFollowed other own after
+    → StillKeeps other later → ((begin : Seen) → Leads begin other → Leads begin later)
+    → ((us : List (List ℕ)) (u : List ℕ) → tsdus_of now ≡ us ++ u ∷ [] → (observed other.side).heard ≡ outlines us → HasHeard later now)
+    → IsFollowed now later begin × IsFollowed later now after
+followed_whole begin after own now other later octets adds leads same f g keeps leads_on hears = (
+  (leads, same ∙ f.1 ∙ ap outlines (sym (tsdus_same other later keeps))),
+  (leads_on after g.0, hears (tsdus_of own) (unfinished own ++ octets) adds.0 g.1),
+)
 
 -- ---- memory
 
 pub on_ok : {X E : Type 0} (r : Result X E) (P Q : Type 0) → (P → Q) → OnOk r P → OnOk r Q
 on_ok (Ok x) P Q f h = f h
 on_ok (Err e) P Q f h = tt
+
+pub on_oks : {X E : Type 0} (r : Result X E) (P Q R S : Type 0) → (P → Q → R → S) → OnOk r P → OnOk r Q → OnOk r R → OnOk r S
+on_oks (Ok x) P Q R S f p q s = f p q s
+on_oks (Err e) P Q R S f p q s = tt

@@ -1,13 +1,14 @@
 -- A run is read off backwards: which step comes before a run of the units that follow.
-use Rattle.std.specs.Prelude.{◌≡◌, ◌≤◌, ◌<◌, ◌+◌, ◌-◌, ◌⊎◌, ◌∷◌, ℕ, false, if◌then◌else◌, List, [], get_or}
+use Rattle.std.specs.Prelude.{◌≡◌, ◌≤◌, ◌+◌, ◌-◌, ◌⊎◌, ◌∷◌, ℕ, false, if◌then◌else◌, List, [], get_or}
 use Rattle.osi_session.specs.Standing.{Seen, CanSay}
 use Rattle.osi_session.specs.Steady.{Hears}
 use Rattle.osi_side.specs.declared.members.Member.{Member}
+use Rattle.osi_witness.specs.declared.streams.Kept.{Kept}
 use Rattle.osi_witness.specs.declared.streams.Said.{Said}
 use Rattle.osi_witness.specs.declared.trails.Goal.{Goal}
 use Rattle.osi_witness.specs.declared.trails.Step.{Step}
 use Rattle.osi_witness.specs.Steps.{heard_for, word_for}
-use Rattle.osi_witness.specs.Trails.{Listens}
+use Rattle.osi_witness.specs.Trails.{IsOf, Listens, Sends, remark_of}
 
 -- how many TSDUs a session may have taken before this step
 abbrev pub last_before : Said → ℕ
@@ -29,6 +30,12 @@ pub record Meets (us : List (List ℕ)) (most : ℕ) (x : Said) (after : Member)
   pub later : x.taken ≡ taken + more
   pub listened : Listens us taken at more x.standing
   pub room : (more ≡ 0) ⊎ (x.taken ≤ most)
+
+-- A session sends this unit so, and goes on to the one after it.
+pub record StepsTo (own us : List (List ℕ)) (most : ℕ) (k : Kept) (from : Member) (x : Said) (after : Member) : Type 0 where
+  pub is : IsOf k x
+  pub sends : Sends us (remark_of own k) from.taken from.standing x
+  pub meets : Meets us most x after
 
 -- the step after one TSDU more
 pub record IsNext (g : Goal) (t u : Step) : Type 0 where

@@ -2,6 +2,7 @@
 use Rattle.std.specs.Prelude.{◌≡◌, ◌<◌, ◌≤◌, ◌∷◌, ℕ, false, List, [], length, map, get_or, Option, None}
 use Rattle.osi_message.specs.Words.{Words}
 use Rattle.osi_session.specs.Standing.{Seen}
+use Rattle.osi_side.specs.declared.findings.Finding.TheVariants as found
 use Rattle.osi_side.specs.declared.members.Member.{Member}
 use Rattle.osi_side.specs.Explaining.{Remark}
 use Rattle.osi_side.specs.Judging.{Observed, is_empty}
@@ -47,7 +48,7 @@ abbrev pub Passed : (heard us : List (List ℕ)) → Type 0
 Passed heard us = (i : ℕ) → i < length heard → AreAlike (get_or heard i []) (get_or us i [])
 
 -- The units of a side lead back to the session that begins in this state. One at least is kept after the last of them. If there is no
--- limit, they are those that the judge keeps.
+-- limit, they are those that the judge keeps; and there is none as long as the judge says that the side keeps the protocol.
 pub record LeadsBack (begin : Seen) (members : List Member) (ms : List Remark) (ks : List Kept) (limit : Option Stop) (before : ℕ)
     (side : Observed) : Type 0 where
   pub first : members ≡ member 0 begin ∷ []
@@ -55,6 +56,7 @@ pub record LeadsBack (begin : Seen) (members : List Member) (ms : List Remark) (
   pub some : is_empty (last_kept members ks) ≡ false
   pub took : AllTook before (last_kept members ks)
   pub last : limit ≡ None → last_kept members ks ≡ side.members
+  pub unlimited : side.finding ≡ found.Kept → limit ≡ None
 
 abbrev pub Leads : (begin : Seen) → Stream → Type 0
 Leads begin s =

@@ -60,7 +60,6 @@ pub mod laws;
 mod lines;
 mod places;
 mod players;
-mod replays;
 mod streams;
 mod telling;
 mod texts;

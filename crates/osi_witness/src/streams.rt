@@ -232,7 +232,8 @@ impl Stream {
     pub(crate) fn has_run(&mut self, run: Option<Vec<Said>>)
         ensures keeps { Keeps self.old self.new }
         ensures whole { IsWhole self.old → IsWhole self.new }
-        ensures some { IfSome run (λ said. self.new.said.items ≡ said.items) }
+        ensures some { IfSome run (λ said. (self.new.said.items ≡ said.items) × (self.new.limit ≡ self.old.limit)) }
+        ensures side { self.new.side ≡ self.old.side }
         ensures none { IfNone run (self.new.said ≡ self.old.said) }
     {
         match run {
@@ -244,6 +245,7 @@ impl Stream {
     fn stop_at_first(&mut self)
         ensures keeps { Keeps self.old self.new }
         ensures whole { IsWhole self.old → IsWhole self.new }
+        ensures side { self.new.side ≡ self.old.side }
         ensures said { self.new.said ≡ self.old.said }
     {
         if let Some(tsdu) = self.tsdus.first() {

@@ -40,8 +40,9 @@ returns-clause-leads c begin whole h =
           w.in_ok-append-in-Kept.ensures.items whole h)
       | in-Broke w ↦ subst (Leads begin) (sym w.self-is)
           (stopped_leads begin s _ w.stop_at.new.self c.args.number tells w.stop_at.ensures.keeps w.stop_at.ensures.side
-          w.stop_at.ensures.limit h)
+          w.stop_at.ensures.limit (λ k. let is = w.in-Broke.is in let v = c.finding.ensures.value in grind (arith, k, v, is)) h)
       | in-TooMany w ↦ subst (Leads begin) (sym w.self-is)
           (stopped_leads begin s _ w.stop_at-in-TooMany.new.self c.args.number tells w.stop_at-in-TooMany.ensures.keeps
-          w.stop_at-in-TooMany.ensures.side w.stop_at-in-TooMany.ensures.limit h)
+          w.stop_at-in-TooMany.ensures.side
+          w.stop_at-in-TooMany.ensures.limit (λ k. let is = w.in-TooMany.is in let v = c.finding.ensures.value in grind (arith, k, v, is)) h)
     ]
