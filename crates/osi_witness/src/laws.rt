@@ -35,8 +35,8 @@ pub fn a_run_that_is_told_explains_its_side()
         → IsExplained begin (tsdus_of heard) whole.told }
 {}
 
-/// [`crate::Capture::trace`] tells a run of each side, unless memory runs out (`found`). If the judge found that the side kept the protocol,
-/// the run sends all that the side sent: its TSDUs are those that passed, and none is left out.
+/// `Capture::trace` finds a run of each side, unless memory runs out (its clause `found`). If the judge found that the side kept the
+/// protocol, this run sends all that the side sent: the TSDUs that it explains are those that passed, and none is left out.
 pub fn a_side_that_kept_the_protocol_is_told_to_its_end()
     ensures { (own heard : Stream) (begin : Seen) (run : HasRun own heard begin) → (observed own.side).finding ≡ Found.Kept →
         (map octets_told run.whole.told ≡ tsdus_of own) × IsExplained begin (tsdus_of heard) run.whole.told }

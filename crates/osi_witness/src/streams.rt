@@ -1,6 +1,7 @@
 //! One side of a connection: its TSDUs as they passed, and the sessions that the judge kept after each of their units.
 
-ghost use Rattle.std.specs.Prelude.{◌≡◌, ◌≢◌, ◌<◌, ◌≤◌, ◌+◌, ◌++◌, ◌∷◌, [], false, None, ℕ, List, drop, get_or, length, take, IfOk, IfSome, IfNone, OnOk};
+ghost use Rattle.std.specs.Prelude.{◌≡◌, ◌≢◌, ◌<◌, ◌≤◌, ◌+◌, ◌++◌, ◌∷◌, [], false, None, ℕ, List, drop, get_or, length, take};
+ghost use Rattle.std.specs.Prelude.{IfOk, IfSome, IfNone, OnOk};
 ghost use Rattle.osi_message.specs.Reading.{word};
 ghost use Rattle.osi_session.specs.Standing.{Seen};
 ghost use Rattle.osi_spdu.specs.Units.{said_by};

@@ -274,8 +274,8 @@ fn step_back(
 ) -> Result<Option<(Member, Said)>, AllocError>
     ensures some { IfOk result (λ step. IfSome step (λ s. IsAmong s.0 members.now
         × StepsTo (tsdus_of own.now) (tsdus_of heard.now) most kept.now s.0 s.1 after.now)) }
-    ensures none { IfOk result (λ step. IfNone step (ComesFrom (tsdus_of heard.now) (remark_of (tsdus_of own.now) kept.now) members.now after.now
-        → after.now.taken ≤ kept.now.before → ⊥)) }
+    ensures none { IfOk result (λ step. IfNone step (after.now.taken ≤ kept.now.before
+        → ComesFrom (tsdus_of heard.now) (remark_of (tsdus_of own.now) kept.now) members.now after.now → ⊥)) }
 {
     if after.taken > kept.before {
         return Ok(None);

@@ -36,9 +36,9 @@ returns-in_default-2-clause-found c begin follows =
     let comes = comes_at us own b ks i k after linked (omega (arith, up, more)) c.index-kept-number.is here in
     let members : last_kept b (take i ks) ≡ c.kept_before-in-units.result.now =
     ap (λ (xs : List Kept). last_kept b (take i xs)) c.kept-kept.ensures ∙ sym c.kept_before-in-units.ensures in
-    at_none (ComesFrom us (remark_of own k) c.kept_before-in-units.result.now after → after.taken ≤ k.before → ⊥) c.in_ok-before.field-0
-    c.in_default-2.not-Some c.in_ok-before.ensures.none
-    (subst (λ (ms : List Member). ComesFrom us (remark_of own k) ms after) members comes.0) comes.1
+    at_none (after.taken ≤ k.before → ComesFrom us (remark_of own k) c.kept_before-in-units.result.now after → ⊥) c.in_ok-before.field-0
+    c.in_default-2.not-Some c.in_ok-before.ensures.none comes.1
+    (subst (λ (ms : List Member). ComesFrom us (remark_of own k) ms after) members comes.0)
 
 pub units-preserved : goal.units-preserved
 units-preserved c =

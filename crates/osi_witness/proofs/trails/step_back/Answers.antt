@@ -7,7 +7,7 @@ use Rattle.osi_witness.proofs.a_run_is_read_off_backwards.{found_step, goes_read
 use Rattle.osi_witness.proofs.trails.step_back.Goals as goal
 
 pub returns-in_default-clause-none : goal.returns-in_default-clause-none
-returns-in_default-clause-none c comes up =
+returns-in_default-clause-none c up comes =
     let k = c.args.kept.now in
     let none : None ≡ slice_get (words_of c.tsdu-tsdu.result.now) k.place = grind arith in
     let unread : (remark_of (tsdus_of c.args.own.now) k).word ≡ None =
