@@ -4,4 +4,6 @@ pub mod a_run_explains_what_a_side_sent
 pub mod all_units_of_a_side_are_kept
 pub mod each_session_that_is_kept_comes_from_one
 pub mod a_session_that_goes_on_is_found
+pub mod the_sessions_that_are_kept_are_linked
+pub mod a_run_is_read_off_backwards
 pub mod a_run_is_told_of_each_side

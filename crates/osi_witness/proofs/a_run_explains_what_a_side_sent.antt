@@ -1,11 +1,7 @@
 -- A run that is told of a side explains what this side sent.
-use Rattle.std.proofs.Common.{◌≡◌, ℕ, zero, suc, ◌+◌, ◌≤◌, ◌<◌, List, [], ◌∷◌, length, get_or, map, drop, ◌-◌, Bool, true, MatchBool}
-use Rattle.std.proofs.Common.{Option, Some, None, IfSome, IfNone, refl, ap, ◌∙◌, subst, sym, arith, inl, inr}
-use Rattle.std.proofs.Math.Seq.{drop-length}
-use Rattle.std.proofs.lemmas.List.{drop_more}
-use Rattle.osi_message.specs.Meanings.{Meaning}
-use Rattle.osi_message.specs.Words.{Word}
-use Rattle.osi_session.specs.Standing.{Seen, Count, Takes, listens, after_count, answers_word}
+use Rattle.std.proofs.Common.{◌≡◌, ℕ, zero, suc, ◌+◌, ◌≤◌, ◌<◌, List, [], ◌∷◌, get_or, map, ◌-◌, Option, Some, None, IfSome, IfNone, subst}
+use Rattle.std.proofs.Common.{sym, arith, inl, inr}
+use Rattle.osi_session.specs.Standing.{Seen, after_count}
 use Rattle.osi_session.specs.Steady.{Hears}
 use Rattle.osi_side.specs.Explaining.{Remark, Explains}
 use Rattle.osi_side.specs.Explaining as explained
@@ -14,7 +10,7 @@ use Rattle.osi_witness.specs.declared.streams.Said.{Said}
 use Rattle.osi_witness.specs.declared.streams.Stream.{Stream}
 use Rattle.osi_witness.specs.Streams.{tsdus_of, Keeps}
 use Rattle.osi_witness.specs.Told.{IsTold, IsTraced}
-use Rattle.osi_witness.specs.Trails.{Listens, Calls, Answers, Sends, IsOf, Runs, remark_of}
+use Rattle.osi_witness.specs.Trails.{Listens, Calls, Answers, Sends, Runs, remark_of}
 
 heard_one : (us : List (List ℕ)) (m : Remark) (ms : List Remark) (at : ℕ) (t u : Seen) → Hears t (get_or us at []) u → at < m.before
     → Explains us (m ∷ ms) (at + 1) u → Explains us (m ∷ ms) at t
@@ -64,10 +60,7 @@ run_explains own us (k ∷ ks) [] taken s h = absurd h
 run_explains own us (k ∷ ks) (x ∷ xs) taken s (is, sends, runs) =
     one_more us (remark_of own k) (map (remark_of own) ks) taken s x sends (run_explains own us ks xs x.taken x.standing runs)
 
--- ---- a session is followed from its beginning
-
-pub listens_none : (us : List (List ℕ)) (from : ℕ) (s : Seen) → Listens us from s (from - from) s
-listens_none us from s = let none : from - from ≡ 0 = omega arith in subst (λ (k : ℕ). Listens us from s k s) (sym none) refl
+-- ---- a TSDU more is taken
 
 pub listens_more : (us : List (List ℕ)) (from number : ℕ) (s t u : Seen) → from ≤ number → Listens us from s (number - from) t
     → Hears t (get_or us number []) u → Listens us from s (number + 1 - from) u
@@ -76,23 +69,9 @@ listens_more us from number s t u l h g =
     let is : from + (number - from) ≡ number = omega arith in
     subst (λ (k : ℕ). Listens us from s k u) (sym more) (t, h, subst (λ (k : ℕ). Hears t (get_or us k []) u) (sym is) g)
 
-pub runs_on : (own us : List (List ℕ)) (ks : List Kept) (xs : List Said) (i taken : ℕ) (s : Seen) (k : Kept) (x : Said)
-    → drop i ks ≡ k ∷ drop (i + 1) ks → drop i xs ≡ x ∷ drop (i + 1) xs → IsOf k x → Sends us (remark_of own k) taken s x
-    → Runs own us (drop (i + 1) ks) (drop (i + 1) xs) x.taken x.standing → Runs own us (drop i ks) (drop i xs) taken s
-runs_on own us ks xs i taken s k x a b o h r =
-    subst (λ (l : List Kept). Runs own us l (drop i xs) taken s) (sym a)
-    (subst (λ (l : List Said). Runs own us (k ∷ drop (i + 1) ks) l taken s) (sym b) (o, h, r))
-
-pub runs_out : (own us : List (List ℕ)) (ks : List Kept) (xs : List Said) (n taken : ℕ) (s : Seen) → length ks ≡ n → length xs ≡ n
-    → Runs own us (drop n ks) (drop n xs) taken s
-runs_out own us ks xs n taken s a b =
-    let no_ks : drop n ks ≡ [] = subst (λ (k : ℕ). drop k ks ≡ []) a (drop-length ks) in
-    let no_xs : drop n xs ≡ [] = subst (λ (k : ℕ). drop k xs ≡ []) b (drop-length xs) in
-    subst (λ (l : List Kept). Runs own us l (drop n xs) taken s) (sym no_ks) (subst (λ (l : List Said). Runs own us [] l taken s) (sym no_xs) tt)
-
 -- ---- what is told of a side stays told
 
-tsdus_same : (a b : Stream) → Keeps a b → tsdus_of b ≡ tsdus_of a
+pub tsdus_same : (a b : Stream) → Keeps a b → tsdus_of b ≡ tsdus_of a
 tsdus_same a b k = let o = k.octets in let t = k.tsdus in grind arith
 
 kept_same : (a b : Stream) → Keeps a b → b.kept.items ≡ a.kept.items
@@ -111,36 +90,3 @@ pub traced_side : {V : Type 0} (items : V → List Said) (run : Option V) (a b c
     → IfNone run (c.said ≡ a.said) → IsTraced a c d s
 traced_side items None a b c d s k l r e n = inr n
 traced_side items (Some v) a b c d s k l r e n = inl (still_told a b c d (items v) s k l r e)
-
--- ---- an answer
-
-pub if_true : (P Q : Type 0) (b : Bool) → MatchBool b P Q → b ≡ true → P
-if_true P Q b h e = let M : Bool → Type 0 = λ x. MatchBool x P Q in subst M e h
-
--- an element of a list is where what is left of it begins
-pub cut_at : {X : Type 0} (xs : List X) (i : ℕ) (x d : X) → i < length xs → x ≡ get_or xs i d → drop i xs ≡ x ∷ drop (i + 1) xs
-cut_at xs i x d l e = drop_more xs i d l ∙ ap (λ y. y ∷ drop (i + 1) xs) (sym e)
-
-pub answers_with : (us : List (List ℕ)) (m : Remark) (from : ℕ) (s : Seen) (x : Said) (last : ℕ) (at : Seen) (c : Count) (reply : Meaning)
-    (w : Word) → x.is_answer ≡ true → from < x.taken → x.taken ≤ m.before → last ≡ x.taken - 1 → Listens us from s (last - from) at
-    → listens at ≡ true → Takes at (get_or us last []) c → c.reply ≡ Some reply → m.word ≡ Some w → answers_word reply w ≡ true
-    → x.standing ≡ after_count at c → Answers us m from s x
-answers_with us m from s x last at c reply w is first passed e l hears took answered unit said next =
-    let so : x.taken ≡ from + suc (last - from) = omega arith in
-    let back : from + (last - from) ≡ last = omega arith in record {
-      is = is;
-      more = last - from;
-      count = so;
-      passed = passed;
-      at = at;
-      listened = l;
-      listening = hears;
-      last = c;
-      took = subst (λ (k : ℕ). Takes at (get_or us k []) c) (sym back) took;
-      reply = reply;
-      answered = answered;
-      word = w;
-      unit = unit;
-      said = said;
-      next = next;
-    }

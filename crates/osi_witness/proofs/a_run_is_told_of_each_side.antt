@@ -1,16 +1,20 @@
 -- The connections of a capture, one after the other: what is kept of each side, and the run that is told of it.
-use Rattle.std.proofs.Common.{◌≡◌, ◌<◌, ◌+◌, ◌++◌, ◌∷◌, inl, inr, refl, ap, sym, subst, arith, ℕ, zero, suc, List, [], length}
-use Rattle.std.proofs.Common.{get_or, set}
+use Rattle.std.proofs.Common.{◌≡◌, ◌<◌, ◌+◌, ◌++◌, ◌∷◌, refl, ap, sym, subst, arith, ℕ, zero, suc, List, [], length}
+use Rattle.std.proofs.Common.{◌∙◌, get_or, map, set, take}
 use Rattle.std.proofs.Math.Numerals.{add-one}
+use Rattle.std.proofs.Math.Seq.{take-length}
 use Rattle.osi_session.specs.Standing.{Seen, seen_called, seen_calling}
+use Rattle.osi_side.specs.declared.findings.Finding.TheVariants as found
+use Rattle.osi_side.specs.Sides.{observed}
 use Rattle.osi_side.specs.Explaining.{Explains, IsExplained, Remark}
 use Rattle.osi_witness.specs.declared.conversations.Conversation.{Conversation}
 use Rattle.osi_witness.specs.declared.streams.Stream.{Stream}
 use Rattle.osi_witness.specs.Captures.{AreTraced}
 use Rattle.osi_witness.proofs.a_run_explains_what_a_side_sent.{run_explains}
+use Rattle.osi_witness.proofs.all_units_of_a_side_are_kept.{count_is}
 use Rattle.osi_witness.specs.Streams.{tsdus_of}
 use Rattle.osi_witness.specs.Told.{IsTold, IsTraced}
-use Rattle.osi_witness.specs.Whole.{AreTellable, AreUntold, IsTellable, IsUntold, IsUntoldOn, IsWhole, IsWholeOn}
+use Rattle.osi_witness.specs.Whole.{AreUntold, HasRun, HasRunsOn, HaveRuns, octets_told, IsUntoldOn, IsWhole}
 
 pub untold_at : (cs : List Conversation) (i : ℕ) (c : Conversation) → i < length cs → AreUntold cs → IsUntoldOn (get_or cs i c)
 untold_at [] i c l h = absurd (omega arith)
@@ -31,7 +35,7 @@ untold_more (x ∷ cs) c h k = (h.0, untold_more cs c h.1 k)
 pub record IsTracedOn (c d : Conversation) : Type 0 where
   pub left : IsTraced c.left d.left d.right seen_calling
   pub right : IsTraced c.right d.right d.left seen_called
-  pub whole : IsWholeOn c → IsWholeOn d
+  pub found : IsUntoldOn c → HasRunsOn d
 
 -- so far of the first of these connections
 abbrev pub TracedUpTo : ℕ → (old new : List Conversation) → Type 0
@@ -65,22 +69,10 @@ all_traced (c ∷ old) [] h = let none : [] ≡ c ∷ old = h in grind (arith, n
 all_traced [] (d ∷ new) h = absurd h
 all_traced (c ∷ old) (d ∷ new) h = ((h.0.left, h.0.right), all_traced old new h.1)
 
-tellable_side : (old own heard : Stream) (begin : Seen) → IsUntold old → IsWhole own → IsTraced old own heard begin
-    → IsTellable own heard begin
-tellable_side old own heard begin u w (inl told) = (w, inl told)
-tellable_side old own heard begin u w (inr same) = (w, inr (grind (arith, same, u.1)))
-
-pub all_tellable : (old new : List Conversation) → TracedUpTo (length new) old new → AreUntold old → AreTellable new
-all_tellable old [] h u = tt
-all_tellable [] (d ∷ new) h u = absurd h
-all_tellable (c ∷ old) (d ∷ new) h u =
-    let whole = h.0.whole (u.0.0.0, u.0.1.0) in (
-      (
-        tellable_side c.left d.left d.right seen_calling u.0.0 whole.0 h.0.left,
-        tellable_side c.right d.right d.left seen_called u.0.1 whole.1 h.0.right,
-      ),
-      all_tellable old new h.1 u.1,
-    )
+pub all_found : (old new : List Conversation) → TracedUpTo (length new) old new → AreUntold old → HaveRuns new
+all_found old [] h u = tt
+all_found [] (d ∷ new) h u = absurd h
+all_found (c ∷ old) (d ∷ new) h u = (h.0.found u.0, all_found old new h.1 u.1)
 
 -- ---- what is told of a side explains all of it
 
@@ -89,3 +81,13 @@ pub explains_all : (own heard : Stream) (begin : Seen) (whole : IsWhole own) →
 explains_all own heard begin whole told =
     subst (λ (ms : List Remark). Explains (tsdus_of heard) ms 0 begin) whole.units
     (run_explains (tsdus_of own) (tsdus_of heard) own.kept.items own.said.items 0 begin told)
+
+-- and all that it sent, if the judge found that it kept the protocol
+pub told_to_its_end : (own heard : Stream) (begin : Seen) (run : HasRun own heard begin) → (observed own.side).finding ≡ found.Kept
+    → (map octets_told run.whole.told ≡ tsdus_of own) × IsExplained begin (tsdus_of heard) run.whole.told
+told_to_its_end own heard begin run kept =
+    let all = run.whole.all (run.unlimited kept) in
+    let n : length run.whole.told ≡ length (tsdus_of own) = omega (arith, all, count_is own.octets.items own.tsdus.items) in (
+      run.whole.first ∙ ap (λ (k : ℕ). take k (tsdus_of own)) n ∙ take-length (tsdus_of own),
+      explains_all own heard begin run.whole run.told,
+    )

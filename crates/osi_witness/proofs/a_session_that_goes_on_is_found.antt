@@ -4,7 +4,6 @@ use Rattle.std.proofs.Common.{Bool, true, false}
 use Rattle.std.proofs.Common.{List, [], length, take, get_or, Option, Some, None, IfNone, IfOk, IfSome, Result, Ok, Err}
 use Rattle.std.proofs.Math.Numerals.{add-one}
 use Rattle.std.proofs.lemmas.Bool.{false≢true}
-use Rattle.std.proofs.lemmas.List.{take_all}
 use Rattle.osi_message.specs.Meanings.{Meaning}
 use Rattle.osi_message.specs.Words.{Word}
 use Rattle.osi_session.specs.Joining.{is_restart_word}
@@ -22,7 +21,7 @@ use Rattle.osi_witness.specs.Trails.{Listens}
 
 -- ---- a TSDU that is taken
 
-hears_one : (s t u : Seen) (tsdu : List ℕ) → Hears s tsdu t → Hears s tsdu u → t ≡ u
+pub hears_one : (s t u : Seen) (tsdu : List ℕ) → Hears s tsdu t → Hears s tsdu u → t ≡ u
 hears_one s t u tsdu h k =
     h.next ∙ ap (λ (c : Count). after_count s c) (takes_one s tsdu h.count k.count h.taken k.taken) ∙ sym k.next
 

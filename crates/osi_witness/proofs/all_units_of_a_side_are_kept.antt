@@ -65,7 +65,7 @@ words_told w told tsdu before e o =
 
 -- ---- the units of one TSDU
 
-taken_more : {X : Type 0} (xs : List X) (i : ℕ) (x : X) → slice_get xs i ≡ Some x → take (i + 1) xs ≡ take i xs ++ x ∷ []
+pub taken_more : {X : Type 0} (xs : List X) (i : ℕ) (x : X) → slice_get xs i ≡ Some x → take (i + 1) xs ≡ take i xs ++ x ∷ []
 taken_more xs i x e =
     take_more xs i x (slice_get_within xs i x e) ∙ ap (λ y. take i xs ++ y ∷ []) (get_or_from_slice_get xs i x x e)
 
@@ -73,7 +73,7 @@ none_there : {X : Type 0} (xs : List X) (i : ℕ) → slice_get xs i ≡ None �
 none_there [] i e = omega arith
 none_there (x ∷ xs) i e = grind (arith, e, slice_get-get_or (x ∷ xs) i x)
 
-taken_all : {X : Type 0} (xs : List X) (i : ℕ) → slice_get xs i ≡ None → take i xs ≡ xs
+pub taken_all : {X : Type 0} (xs : List X) (i : ℕ) → slice_get xs i ≡ None → take i xs ≡ xs
 taken_all xs i e = let l = none_there xs i e in take_all i xs l
 
 pub units_in : (own : List (List ℕ)) (number : ℕ) (ks : List Kept) → list_all (is_in number) ks ≡ true
@@ -186,14 +186,14 @@ pub tsdus_more : (octets : List ℕ) (tsdus : List Tsdu) (t : Tsdu) → t.start 
 tsdus_more octets tsdus t l e =
     map-append (octets_of octets) tsdus (t ∷ []) ∙ ap (λ (x : List ℕ). tsdus_in octets tsdus ++ x ∷ []) (all_of octets t l e)
 
-count_is : (octets : List ℕ) (tsdus : List Tsdu) → length (tsdus_in octets tsdus) ≡ length tsdus
+pub count_is : (octets : List ℕ) (tsdus : List Tsdu) → length (tsdus_in octets tsdus) ≡ length tsdus
 count_is octets tsdus = length-map tsdus (octets_of octets)
 
 numbers_more : (n m : ℕ) (ks : List Kept) → n ≤ m → list_all (is_of_first n) ks ≡ true → list_all (is_of_first m) ks ≡ true
 numbers_more n m [] l h = refl
 numbers_more n m (k ∷ ks) l h = grind (arith, and_parts (is_of_first n k) (list_all (is_of_first n) ks) h, numbers_more n m ks l)
 
-units_stay : (own more : List (List ℕ)) (ks : List Kept) → list_all (is_of_first (length own)) ks ≡ true
+pub units_stay : (own more : List (List ℕ)) (ks : List Kept) → list_all (is_of_first (length own)) ks ≡ true
     → units_kept (own ++ more) ks ≡ units_kept own ks
 units_stay own more [] h = refl
 units_stay own more (k ∷ ks) h =

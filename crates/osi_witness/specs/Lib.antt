@@ -1,8 +1,10 @@
+pub mod Backwards
 pub mod Captures
 pub mod Conversations
 pub mod Found
 pub mod Halts
 pub mod Lines
+pub mod Linked
 pub mod Passed
 pub mod Places
 pub mod Requests

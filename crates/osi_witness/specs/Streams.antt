@@ -39,3 +39,5 @@ pub record Keeps (old new : Stream) : Type 0 where
   pub tsdus : new.tsdus ≡ old.tsdus
   pub kept : new.kept ≡ old.kept
   pub start : new.start ≡ old.start
+  pub begin : new.begin ≡ old.begin
+  pub before : new.before ≡ old.before

@@ -1,5 +1,5 @@
 -- The units that are kept of a side are all units of its TSDUs.
-use Rattle.std.specs.Prelude.{◌≡◌, ℕ, ◌+◌, ◌≤◌, ◌⊎◌, ◌==◌, ◌++◌, ◌∷◌, Bool, true, nat_le, nat_lt, List, [], map, length, take, get_or}
+use Rattle.std.specs.Prelude.{◌≡◌, ℕ, ◌+◌, ◌≤◌, ◌==◌, ◌++◌, ◌∷◌, Bool, true, nat_le, nat_lt, List, [], map, length, take, get_or}
 use Rattle.std.specs.Prelude.{Option, None}
 use Rattle.std.specs.List.{list_all}
 use Rattle.osi_session.specs.Standing.{Seen, seen_called, seen_calling}
@@ -12,6 +12,7 @@ use Rattle.osi_witness.specs.declared.streams.Kept.{Kept}
 use Rattle.osi_witness.specs.declared.streams.Stream.{Stream}
 use Rattle.osi_witness.specs.declared.streams.Tsdu.{Tsdu}
 use Rattle.osi_witness.specs.declared.places.Stop.{Stop}
+use Rattle.osi_witness.specs.Linked.{IsFollowed}
 use Rattle.osi_witness.specs.Streams.{tsdus_in, tsdus_of}
 use Rattle.osi_witness.specs.Told.{IsTold}
 use Rattle.osi_witness.specs.Trails.{remark_at, remark_of}
@@ -74,23 +75,29 @@ IsWholeOn c = IsWhole c.left × IsWhole c.right
 abbrev pub IsUntold : Stream → Type 0
 IsUntold s = IsWhole s × (s.said.items ≡ [])
 
+-- of either side; and the sessions that are kept of a side lead back to the one that begins, by what the other side sent
 abbrev pub IsUntoldOn : Conversation → Type 0
-IsUntoldOn c = IsUntold c.left × IsUntold c.right
+IsUntoldOn c =
+    IsUntold c.left × IsUntold c.right × IsFollowed c.left c.right seen_calling × IsFollowed c.right c.left seen_called
 
 abbrev pub AreUntold : List Conversation → Type 0
 AreUntold [] = Unit {0}
 AreUntold (c ∷ conversations) = IsUntoldOn c × AreUntold conversations
 
--- the run that is told of a side, if one is told, is one of a session that begins in this state, and it tells all units of the side
-abbrev pub IsTellable : (own heard : Stream) → Seen → Type 0
-IsTellable own heard begin = IsWhole own × (IsTold own heard begin ⊎ (own.said.items ≡ []))
+-- A run is told of a side: of a session that begins in this state, and sends all units of the side. There is no limit if the judge found
+-- that the side kept the protocol.
+pub record HasRun (own heard : Stream) (begin : Seen) : Type 0 where
+  pub whole : IsWhole own
+  pub told : IsTold own heard begin
+  pub unlimited : (observed own.side).finding ≡ found.Kept → own.limit ≡ None
 
-abbrev pub IsTellableOn : Conversation → Type 0
-IsTellableOn c = IsTellable c.left c.right seen_calling × IsTellable c.right c.left seen_called
+abbrev pub HasRunsOn : Conversation → Type 0
+HasRunsOn c = HasRun c.left c.right seen_calling × HasRun c.right c.left seen_called
 
-abbrev pub AreTellable : List Conversation → Type 0
-AreTellable [] = Unit {0}
-AreTellable (c ∷ conversations) = IsTellableOn c × AreTellable conversations
+-- a run is told of either side of each connection
+abbrev pub HaveRuns : List Conversation → Type 0
+HaveRuns [] = Unit {0}
+HaveRuns (c ∷ conversations) = HasRunsOn c × HaveRuns conversations
 
 -- the judge is told of the TSDU with this number
 pub record TellsLast (number : ℕ) (old new : Stream) : Type 0 where
@@ -99,5 +106,10 @@ pub record TellsLast (number : ℕ) (old new : Stream) : Type 0 where
   pub kept : new.kept ≡ old.kept
   pub start : new.start ≡ old.start
   pub limit : new.limit ≡ old.limit
+  pub begin : new.begin ≡ old.begin
+  pub before : new.before ≡ old.before
+  pub passed : old.before ≤ length (observed old.side).heard
+  pub heard : (observed new.side).heard ≡ (observed old.side).heard
+  pub begins : (observed new.side).begin ≡ (observed old.side).begin
   pub observes : (told : List Told) → Observes (observed old.side) told
       → Observes (observed new.side) (told ++ told_as (get_or (tsdus_of old) number []) old.before ∷ [])

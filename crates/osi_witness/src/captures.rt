@@ -2,7 +2,7 @@
 
 ghost use Rattle.std.specs.Prelude.{◌≡◌, [], None, true, OnOk, option_copied};
 ghost use Rattle.osi_witness.specs.Captures.{accepted_in, first_stop_of, has_class_2, next_offset, packets_of, AreTraced, IsNothing};
-ghost use Rattle.osi_witness.specs.Whole.{AreTellable, AreUntold, IsUntoldOn};
+ghost use Rattle.osi_witness.specs.Whole.{AreUntold, HaveRuns, IsUntoldOn};
 
 use crate::conversations::{Conversation, Opening};
 use crate::halts::Halt;
@@ -418,7 +418,7 @@ impl Capture {
     /// The runs of all connections are read off.
     pub fn trace(&mut self) -> Result<(), AllocError>
         ensures traced { OnOk result (AreTraced self.old.conversations.items self.new.conversations.items) }
-        ensures tellable { OnOk result (AreUntold self.old.conversations.items → AreTellable self.new.conversations.items) }
+        ensures found { OnOk result (AreUntold self.old.conversations.items → HaveRuns self.new.conversations.items) }
     {
         trace_each(self.alloc, &mut self.conversations)
     }
@@ -427,7 +427,7 @@ impl Capture {
 /// The runs of these connections are read off.
 fn trace_each(alloc: Global, conversations: &mut Vec<Conversation>) -> Result<(), AllocError>
     ensures traced { OnOk result (AreTraced conversations.old.items conversations.new.items) }
-    ensures tellable { OnOk result (AreUntold conversations.old.items → AreTellable conversations.new.items) }
+    ensures found { OnOk result (AreUntold conversations.old.items → HaveRuns conversations.new.items) }
 {
     'conversations: for conversation in conversations.iter_mut() {
         conversation.trace(alloc)?;

@@ -1,11 +1,13 @@
 //! One connection of a capture.
 
 ghost use Rattle.std.specs.Prelude.{◌≡◌, IfOk, OnOk};
+ghost use Rattle.osi_session.specs.Standing.{Seen};
 ghost use Rattle.osi_witness.specs.Conversations.{stream_of, answered_by, class_by, is_refused_by, limit_of, Begins};
+ghost use Rattle.osi_witness.specs.Linked.{IsFollowed};
 ghost use Rattle.osi_witness.specs.Places.{other_side};
 ghost use Rattle.osi_witness.specs.Streams.{tsdus_of, Adds, Keeps};
 ghost use Rattle.osi_witness.specs.Told.{IsTraced};
-ghost use Rattle.osi_witness.specs.Whole.{IsUntold, IsUntoldOn, IsWhole, IsWholeOn};
+ghost use Rattle.osi_witness.specs.Whole.{HasRunsOn, IsUntold, IsUntoldOn, IsWhole, IsWholeOn};
 ghost use Rattle.osi_session.specs.Standing.{seen_calling, seen_called};
 
 use crate::places::{Place, Stop, earlier};
@@ -101,6 +103,8 @@ fn pass(
     ensures own { OnOk result (IsUntold own.old → IsUntold own.new) }
     ensures keeps { OnOk result (Keeps heard.old heard.new) }
     ensures heard { OnOk result (IsUntold heard.old → IsUntold heard.new) }
+    ensures followed { OnOk result ((begin other : Seen) → IsUntold own.old → IsFollowed own.old heard.old begin
+        → IsFollowed heard.old own.old other → IsFollowed own.new heard.new begin × IsFollowed heard.new own.new other) }
 {
     if own.add(alloc, heard, end, user, place)? {
         return heard.hear(own);
@@ -200,6 +204,7 @@ impl Conversation {
         ensures left { OnOk result (IsTraced self.old.left self.new.left self.new.right seen_calling) }
         ensures right { OnOk result (IsTraced self.old.right self.new.right self.new.left seen_called) }
         ensures whole { OnOk result (IsWholeOn self.old → IsWholeOn self.new) }
+        ensures found { OnOk result (IsUntoldOn self.old → HasRunsOn self.new) }
     {
         // In class 2 each end acknowledges what it takes, so the runs take what they can before they send.
         let is_late = self.class() == Some(2);

@@ -1,12 +1,14 @@
 //! Laws of runs. The functions do nothing: their contracts are the laws.
 
-ghost use Rattle.std.specs.Prelude.{◌≤◌, ℕ, List, map};
+ghost use Rattle.std.specs.Prelude.{◌≡◌, ◌≤◌, ℕ, List, map};
 ghost use Rattle.osi_message.specs.Words.{Word};
 ghost use Rattle.osi_session.specs.Standing.{Seen};
+ghost use Rattle.osi_side.specs.declared.findings.Finding.{Finding as Found};
 ghost use Rattle.osi_side.specs.declared.members.Member.{Member};
 ghost use Rattle.osi_side.specs.Explaining.{Explains, IsExplained};
 ghost use Rattle.osi_side.specs.Kept.{after_word};
 ghost use Rattle.osi_side.specs.Onward.{IsAmong};
+ghost use Rattle.osi_side.specs.Sides.{observed};
 ghost use Rattle.osi_side.specs.Walking.{the_remark};
 ghost use Rattle.osi_witness.specs.declared.streams.Kept.{Kept};
 ghost use Rattle.osi_witness.specs.declared.streams.Said.{Said};
@@ -15,7 +17,7 @@ ghost use Rattle.osi_witness.specs.Found.{ComesFrom};
 ghost use Rattle.osi_witness.specs.Streams.{tsdus_of};
 ghost use Rattle.osi_witness.specs.Told.{IsTold};
 ghost use Rattle.osi_witness.specs.Trails.{Runs, remark_of};
-ghost use Rattle.osi_witness.specs.Whole.{IsWhole};
+ghost use Rattle.osi_witness.specs.Whole.{HasRun, IsWhole, octets_told};
 
 /// A run that is told of a side explains the units that the side sent, as `osi_side` means it: a session that begins there, and takes
 /// TSDUs of the other side only after they had passed, sends them all.
@@ -31,6 +33,13 @@ pub fn a_run_explains_what_its_side_sent()
 pub fn a_run_that_is_told_explains_its_side()
     ensures { (own heard : Stream) (begin : Seen) (whole : IsWhole own) → IsTold own heard begin
         → IsExplained begin (tsdus_of heard) whole.told }
+{}
+
+/// `Capture::trace` finds a run of each side, unless memory runs out (its clause `found`). If the judge found that the side kept the
+/// protocol, this run sends all that the side sent: the TSDUs that it explains are those that passed, and none is left out.
+pub fn a_side_that_kept_the_protocol_is_told_to_its_end()
+    ensures { (own heard : Stream) (begin : Seen) (run : HasRun own heard begin) → (observed own.side).finding ≡ Found.Kept →
+        (map octets_told run.whole.told ≡ tsdus_of own) × IsExplained begin (tsdus_of heard) run.whole.told }
 {}
 
 /// Each session that the judge keeps after a unit comes from one that it kept before it: that one takes TSDUs of the other side, and then

@@ -46,9 +46,9 @@
 //! So there is a run up to the TSDU with which the judge says that the side broke the protocol or left the profile, or that too many
 //! sessions explain it, and for all TSDUs otherwise.
 //!
-//! The contracts say what a line spells, and that the run of a side is one of a session: it is followed from its beginning before it is
-//! told. The law ([`mod@laws`]) says that such a run explains the units of the side. That a run is found is tested; the script that
-//! tells one is played before it is given to anybody.
+//! The contracts say what a line spells, and that a run of each side is found, unless memory runs out: one of a session that sends all
+//! units of the side, up to its limit. The laws ([`mod@laws`]) say that such a run explains the side, and all of it if the judge found
+//! that the side kept the protocol. The script that tells the runs is played before it is given to anybody.
 #![tactic(auto)]
 
 mod calls;
@@ -60,7 +60,6 @@ pub mod laws;
 mod lines;
 mod places;
 mod players;
-mod replays;
 mod streams;
 mod telling;
 mod texts;

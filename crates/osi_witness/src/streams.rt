@@ -1,11 +1,19 @@
 //! One side of a connection: its TSDUs as they passed, and the sessions that the judge kept after each of their units.
 
-ghost use Rattle.std.specs.Prelude.{◌≡◌, ◌≢◌, ◌<◌, ◌≤◌, ◌+◌, ◌++◌, ◌∷◌, [], false, None, drop, get_or, length, IfOk, IfSome, IfNone, OnOk};
+ghost use Rattle.std.specs.Prelude.{◌≡◌, ◌≢◌, ◌<◌, ◌≤◌, ◌+◌, ◌++◌, ◌∷◌, [], false, None, ℕ, List, drop, get_or, length, take};
+ghost use Rattle.std.specs.Prelude.{IfOk, IfSome, IfNone, OnOk};
+ghost use Rattle.osi_message.specs.Reading.{word};
+ghost use Rattle.osi_session.specs.Standing.{Seen};
+ghost use Rattle.osi_spdu.specs.Units.{said_by};
 ghost use Rattle.osi_side.specs.Judging.{Observes};
+ghost use Rattle.osi_side.specs.Kept.{after_word};
+ghost use Rattle.osi_side.specs.Outlines.{outlines};
 ghost use Rattle.osi_side.specs.Sides.{observed};
 ghost use Rattle.osi_side.specs.declared.findings.Finding.{Finding as Found};
+ghost use Rattle.osi_witness.specs.Linked.{last_kept, AreAfter, HasHeard, Leads};
 ghost use Rattle.osi_witness.specs.Passed.{passed_first};
 ghost use Rattle.osi_witness.specs.Streams.{tsdus_of, unfinished, Adds, IsEmpty, Keeps};
+ghost use Rattle.osi_witness.specs.Units.{words_of};
 ghost use Rattle.osi_witness.specs.Whole.{AreUnitsOf, IsWhole, IsWholeBut, TellsLast};
 
 use crate::halts::Halt;
@@ -90,6 +98,16 @@ fn passed_before(heard: &Stream, known: usize, piece: usize) -> usize
     passed
 }
 
+/// The sessions that are kept after the last of these units; those before it if there is none.
+fn last_members<'a>(members: &'a [Member], kept: &'a [Kept]) -> &'a [Member]
+    ensures { result.now ≡ last_kept members.now kept.now }
+{
+    match kept.last() {
+        Some(last) => last.members.as_slice(),
+        None => members,
+    }
+}
+
 /// The sessions that are kept after a unit, of those that go on from these.
 fn members_after(
     alloc: Global,
@@ -98,7 +116,10 @@ fn members_after(
     unit: &Spdu<'_>,
     octets: usize,
     before: usize,
-) -> Result<Vec<Member>, AllocError> {
+) -> Result<Vec<Member>, AllocError>
+    ensures { IfOk result (λ next. before ≤ length (observed side.now).heard
+        → next.items ≡ after_word (observed side.now).heard octets before from.now (word (said_by unit.now))) }
+{
     if before > side.heard() {
         return Ok(Vec::new(alloc));
     }
@@ -113,15 +134,14 @@ fn kept_after(
     number: usize,
     before: usize,
 ) -> Result<Vec<Kept>, AllocError>
-    ensures { IfOk result (λ kept. AreUnitsOf tsdu.now number before kept.items) }
+    ensures units { IfOk result (λ kept. AreUnitsOf tsdu.now number before kept.items) }
+    ensures after { IfOk result (λ kept. before ≤ length (observed side.now).heard
+        → AreAfter (observed side.now).heard (length tsdu.now) before (observed side.now).members (words_of tsdu.now) kept.items) }
 {
     let mut kept: Vec<Kept> = Vec::new(alloc);
     'units: while let Some(unit) = acting_unit(tsdu, kept.len()) {
         let place = kept.len();
-        let from = match kept.last() {
-            Some(last) => last.members.as_slice(),
-            None => side.members(),
-        };
+        let from = last_members(side.members(), kept.as_slice());
         let members = members_after(alloc, side, from, &unit, tsdu.len(), before)?;
         kept.push(Kept {
             tsdu: number,
@@ -146,6 +166,7 @@ impl Stream {
         ensures side { IfOk result (λ s. observed s.side ≡ observed side) }
         ensures empty { IfOk result IsEmpty }
         ensures whole { IfOk result IsWhole }
+        ensures leads { (observed side).begin ≡ begin → IfOk result (Leads begin) }
     {
         let mut members = Vec::new(alloc);
         members.push(Member {
@@ -185,17 +206,17 @@ impl Stream {
     }
 
     /// Those that are kept before the unit with this number.
-    pub(crate) fn kept_before(&self, number: usize) -> &[Member] {
-        let earlier = self.kept.get(..number).unwrap_or_default();
-        match earlier.last() {
-            Some(kept) => kept.members.as_slice(),
-            None => &self.begin,
-        }
+    pub(crate) fn kept_before(&self, number: usize) -> &[Member]
+        requires { number ≤ length self.now.kept.items }
+        ensures { result.now ≡ last_kept self.now.begin.items (take number self.now.kept.items) }
+    {
+        last_members(&self.begin, &self.kept[..number])
     }
 
     /// There is no run with the TSDU at this place.
     fn stop_at(&mut self, place: Place, halt: Halt)
         ensures keeps { Keeps self.old self.new }
+        ensures side { self.new.side ≡ self.old.side }
         ensures limit { self.new.limit ≢ None }
         ensures said { self.new.said ≡ self.old.said }
     {
@@ -212,7 +233,8 @@ impl Stream {
     pub(crate) fn has_run(&mut self, run: Option<Vec<Said>>)
         ensures keeps { Keeps self.old self.new }
         ensures whole { IsWhole self.old → IsWhole self.new }
-        ensures some { IfSome run (λ said. self.new.said.items ≡ said.items) }
+        ensures some { IfSome run (λ said. (self.new.said.items ≡ said.items) × (self.new.limit ≡ self.old.limit)) }
+        ensures side { self.new.side ≡ self.old.side }
         ensures none { IfNone run (self.new.said ≡ self.old.said) }
     {
         match run {
@@ -224,6 +246,7 @@ impl Stream {
     fn stop_at_first(&mut self)
         ensures keeps { Keeps self.old self.new }
         ensures whole { IsWhole self.old → IsWhole self.new }
+        ensures side { self.new.side ≡ self.old.side }
         ensures said { self.new.said ≡ self.old.said }
     {
         if let Some(tsdu) = self.tsdus.first() {
@@ -247,6 +270,8 @@ impl Stream {
         ensures end { IfOk result (λ is_last. is_last ≡ end) }
         ensures adds { OnOk result (IsWhole self.old → Adds end user.now self.old self.new) }
         ensures whole { OnOk result (IsWhole self.old → IsWhole self.new) }
+        ensures leads { OnOk result ((begin : Seen) → IsWhole self.old → Leads begin self.old → Leads begin self.new) }
+        ensures heard { OnOk result ((observed self.new.side).heard ≡ (observed self.old.side).heard) }
         ensures said { self.new.said ≡ self.old.said }
     {
         self.gather(user)?;
@@ -265,6 +290,8 @@ impl Stream {
         ensures adds { OnOk result (IsWhole self.old → Adds false octets.now self.old self.new) }
         ensures said { self.new.said ≡ self.old.said }
         ensures whole { OnOk result (IsWhole self.old → IsWhole self.new) }
+        ensures leads { OnOk result ((begin : Seen) → IsWhole self.old → Leads begin self.old → Leads begin self.new) }
+        ensures side { self.new.side ≡ self.old.side }
     {
         self.octets.extend_from_slice(octets)?;
         Ok(())
@@ -276,6 +303,8 @@ impl Stream {
         ensures said { self.new.said ≡ self.old.said }
         ensures unfinished { OnOk result (unfinished self.new ≡ []) }
         ensures whole { OnOk result (IsWhole self.old → IsWhole self.new) }
+        ensures leads { OnOk result ((begin : Seen) → IsWhole self.old → Leads begin self.old → Leads begin self.new) }
+        ensures heard { OnOk result ((observed self.new.side).heard ≡ (observed self.old.side).heard) }
     {
         let number = self.tsdus.len();
         self.push_tsdu(place)?;
@@ -289,6 +318,8 @@ impl Stream {
         ensures count { OnOk result (length self.new.tsdus.items ≡ length self.old.tsdus.items + 1) }
         ensures unfinished { OnOk result (unfinished self.new ≡ []) }
         ensures whole { OnOk result (IsWhole self.old → IsWholeBut 1 self.new) }
+        ensures leads { OnOk result ((begin : Seen) → IsWhole self.old → Leads begin self.old → Leads begin self.new) }
+        ensures side { self.new.side ≡ self.old.side }
     {
         let start = self.start;
         let end = self.octets.len();
@@ -305,6 +336,8 @@ impl Stream {
         ensures said { self.new.said ≡ self.old.said }
         ensures unfinished { OnOk result (unfinished self.new ≡ unfinished self.old) }
         ensures whole { OnOk result (IsWholeBut 1 self.old → IsWhole self.new) }
+        ensures leads { OnOk result ((begin : Seen) → IsWholeBut 1 self.old → Leads begin self.old → Leads begin self.new) }
+        ensures heard { OnOk result ((observed self.new.side).heard ≡ (observed self.old.side).heard) }
     {
         if self.limit.is_some() {
             return Ok(());
@@ -340,6 +373,9 @@ impl Stream {
         ensures keeps { OnOk result (Keeps self.old self.new) }
         ensures said { self.new.said ≡ self.old.said }
         ensures whole { OnOk result (IsWhole self.old → IsWhole self.new) }
+        ensures leads { OnOk result ((begin : Seen) → Leads begin self.old → Leads begin self.new) }
+        ensures heard { OnOk result ((us : List (List ℕ)) (u : List ℕ) → tsdus_of other.now ≡ us ++ u ∷ []
+            → (observed self.old.side).heard ≡ outlines us → HasHeard self.new other.now) }
     {
         let last = other.tsdus.len().saturating_sub(1);
         self.side.hear(other.tsdu(last))

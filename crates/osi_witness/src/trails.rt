@@ -3,19 +3,21 @@
 //! The judge keeps a session after a unit only if one that it kept before the unit goes on to it. So from the last unit on,
 //! each session has one before it, and only the TSDUs between the two are looked at.
 
-ghost use Rattle.std.specs.Prelude.{◌≡◌, ◌≤◌, ◌-◌, MatchBool, IfNone, IfOk, IfSome};
+ghost use Rattle.std.specs.Prelude.{◌≡◌, ◌<◌, ◌≤◌, ◌-◌, MatchBool, IfNone, IfOk, IfSome};
+ghost use Rattle.osi_session.specs.Standing.{Seen};
 ghost use Rattle.osi_session.specs.Steady.{Hears};
 ghost use Rattle.osi_session.specs.Steps.{reply_of};
 ghost use Rattle.osi_side.specs.declared.members.Member.{Member};
 ghost use Rattle.osi_side.specs.Onward.{IsAmong};
 ghost use Rattle.osi_side.specs.Walking.{HearsTo};
-ghost use Rattle.osi_witness.specs.Found.{Stays};
+ghost use Rattle.osi_witness.specs.Backwards.{IsLatest, IsNext, StepsTo, last_before};
+ghost use Rattle.osi_witness.specs.Found.{ComesFrom, Stays};
+ghost use Rattle.osi_witness.specs.Linked.{IsFollowed};
 ghost use Rattle.osi_witness.specs.Steps.{AnswersBy, AnswersTo, GoesTo, Leading, SaysBy, SaysTo, Waits};
 ghost use Rattle.osi_witness.specs.Streams.{tsdus_of};
-ghost use Rattle.osi_witness.specs.Trails.{Runs};
+ghost use Rattle.osi_witness.specs.Trails.{Runs, remark_of};
 
-use crate::replays::replays;
-use crate::streams::{Said, Stream};
+use crate::streams::{Kept, Said, Stream};
 use crate::units::acting_unit;
 use osi_session::{Reply, Standing, is_restart_unit};
 use osi_side::Member;
@@ -197,7 +199,10 @@ impl Goal<'_> {
 
     /// The same step after one TSDU more; none if the session can't take this TSDU before the unit, or is in another state then
     /// than if it takes it after the unit.
-    fn later(&self, alloc: Global, step: &Step) -> Result<Option<Step>, AllocError> {
+    fn later(&self, alloc: Global, step: &Step) -> Result<Option<Step>, AllocError>
+        requires { step.now.taken < self.now.before }
+        ensures { IfOk result (λ later. IfSome later (IsNext self.now step.now)) }
+    {
         let tsdu = self.heard.tsdu(step.taken);
         let Some(from) = hears(alloc, &step.from, tsdu)? else {
             return Ok(None);
@@ -212,7 +217,7 @@ impl Goal<'_> {
             return Ok(None);
         }
         Ok(Some(Step {
-            taken: step.taken.saturating_add(1),
+            taken: step.taken + 1,
             is_answer: false,
             from,
             standing: said,
@@ -220,12 +225,15 @@ impl Goal<'_> {
     }
 
     /// The same step after as many TSDUs more as it can take, up to so many in all. An answer stays where it is.
-    fn latest(&self, alloc: Global, step: Step, most: usize) -> Result<Step, AllocError> {
+    fn latest(&self, alloc: Global, step: Step, most: usize) -> Result<Step, AllocError>
+        ensures { IfOk result (IsLatest self.now most step) }
+    {
         let mut last = step;
-        if last.is_answer {
+        if step.is_answer {
             return Ok(last);
         }
-        'takes: for _ in step.taken..most.min(self.before) {
+        let top = most.min(self.before);
+        'takes: while last.taken < top {
             match self.later(alloc, &last)? {
                 Some(later) => last = later,
                 None => return Ok(last),
@@ -253,19 +261,25 @@ impl Goal<'_> {
     }
 }
 
-/// The session before the unit with this number, and how it went on to it and to the session after it. It sends the unit as early as
-/// it can, or later, if it is in the same state then: after up to so many TSDUs of the other side.
+/// Of the sessions that are kept before this unit one that goes on to it and to the session after it, and how. It sends the unit as
+/// early as it can, or later, if it is in the same state then: after up to so many TSDUs of the other side.
 fn step_back(
     alloc: Global,
     own: &Stream,
     heard: &Stream,
-    number: usize,
+    kept: &Kept,
+    members: &[Member],
     after: &Member,
     most: usize,
-) -> Result<Option<(Member, Step)>, AllocError> {
-    let Some(kept) = own.kept().get(number) else {
+) -> Result<Option<(Member, Said)>, AllocError>
+    ensures some { IfOk result (λ step. IfSome step (λ s. IsAmong s.0 members.now
+        × StepsTo (tsdus_of own.now) (tsdus_of heard.now) most kept.now s.0 s.1 after.now)) }
+    ensures none { IfOk result (λ step. IfNone step (after.now.taken ≤ kept.now.before
+        → ComesFrom (tsdus_of heard.now) (remark_of (tsdus_of own.now) kept.now) members.now after.now → ⊥)) }
+{
+    if after.taken > kept.before {
         return Ok(None);
-    };
+    }
     let tsdu = own.tsdu(kept.tsdu);
     let Some(unit) = acting_unit(tsdu, kept.place) else {
         return Ok(None);
@@ -277,70 +291,77 @@ fn step_back(
         after,
         heard,
     };
-    let Some((before, step)) = goal.first_step(alloc, own.kept_before(number))? else {
+    let Some((before, step)) = goal.first_step(alloc, members)? else {
         return Ok(None);
     };
     let latest = goal.latest(alloc, step, most)?;
-    Ok(Some((before, latest)))
+    let said = Said {
+        tsdu: kept.tsdu,
+        place: kept.place,
+        taken: latest.taken,
+        is_answer: latest.is_answer,
+        standing: latest.standing,
+    };
+    Ok(Some((before, said)))
 }
 
-/// How many TSDUs of the other side a session took at most before the unit that it sent before this step.
-fn most_before(step: &Step) -> usize {
-    if step.is_answer {
-        step.taken.saturating_sub(1)
+/// How many TSDUs of the other side a session took at most before the unit that it sent before this one.
+fn most_before(said: &Said) -> usize
+    ensures { result ≡ last_before said.now }
+{
+    if said.is_answer {
+        said.taken.saturating_sub(1)
     } else {
-        step.taken
+        said.taken
     }
 }
 
-/// Units that are not told yet, one for each that has sessions.
-fn untold(alloc: Global, own: &Stream) -> Result<Vec<Said>, AllocError> {
-    let mut said = Vec::new(alloc);
-    'units: for kept in own.kept() {
-        said.push(Said {
-            tsdu: kept.tsdu,
-            place: kept.place,
-            taken: 0,
-            is_answer: false,
-            standing: Standing::called(),
-        })?;
-    }
-    Ok(said)
-}
-
-/// A run of a session that sends what a side sent, up to its limit: that of the first session that is kept at its end. If it is late,
-/// the session takes what it can before it sends a unit, and otherwise it takes as little as it can. None if a session has none before
-/// it, which doesn't happen.
+/// A run of a session that sends what a side sent, up to its limit: that of the first session that is kept at its end; and the session
+/// with which it begins. If it is late, the session takes what it can before it sends a unit, and otherwise it takes as little as it
+/// can. None if a session has none before it, which doesn't happen.
 fn run_of(
     alloc: Global,
     own: &Stream,
     heard: &Stream,
     is_late: bool,
-) -> Result<Option<Vec<Said>>, AllocError> {
-    let mut said = untold(alloc, own)?;
-    let Some(last) = own.kept_before(own.kept().len()).first() else {
+) -> Result<Option<(Member, Vec<Said>)>, AllocError>
+    ensures runs { IfOk result (λ run. IfSome run (λ r. IsAmong r.0 own.now.begin.items
+        × Runs (tsdus_of own.now) (tsdus_of heard.now) own.now.kept.items r.1.items r.0.taken r.0.standing)) }
+    ensures found { IfOk result (λ run. IfNone run ((begin : Seen) → IsFollowed own.now heard.now begin → ⊥)) }
+{
+    let kept = own.kept();
+    let Some(last) = own.kept_before(kept.len()).first() else {
         return Ok(None);
     };
     let mut after = *last;
     let mut most = if is_late { usize::MAX } else { 0 };
-    let mut number = own.kept().len();
-    'units: for unit in said.iter_mut().rev() {
-        number = number.saturating_sub(1);
-        match step_back(alloc, own, heard, number, &after, most)? {
-            Some((before, step)) => {
-                most = most.min(most_before(&step));
-                unit.taken = step.taken;
-                unit.is_answer = step.is_answer;
-                unit.standing = step.standing;
-                after = before;
-            }
-            None => return Ok(None),
-        }
+    let mut said: Vec<Said> = Vec::new(alloc);
+    let mut number = kept.len();
+    'units: while number > 0 {
+        number -= 1;
+        let unit = &kept[number];
+        let Some((before, step)) = step_back(
+            alloc,
+            own,
+            heard,
+            unit,
+            own.kept_before(number),
+            &after,
+            most,
+        )?
+        else {
+            return Ok(None);
+        };
+        most = most.min(most_before(&step));
+        said.push(step)?;
+        after = before;
     }
-    Ok(Some(said))
+    said.reverse();
+    Ok(Some((after, said)))
 }
 
-/// The same run, if its session, followed from the state in which it begins, sends all that is told of it.
+/// The same run, if it begins with a session in this state that has taken nothing. There is always one where the sessions that are
+/// kept of the side lead back to this state.
 pub(crate) fn run_from(
     alloc: Global,
     own: &Stream,
@@ -348,14 +369,18 @@ pub(crate) fn run_from(
     begin: Standing,
     is_late: bool,
 ) -> Result<Option<Vec<Said>>, AllocError>
-    ensures { IfOk result (λ run. IfSome run (λ said.
+    ensures runs { IfOk result (λ run. IfSome run (λ said.
         Runs (tsdus_of own.now) (tsdus_of heard.now) own.now.kept.items said.items 0 begin)) }
+    ensures found { IfOk result (λ run. IfNone run (IsFollowed own.now heard.now begin → ⊥)) }
 {
-    let Some(said) = run_of(alloc, own, heard, is_late)? else {
+    let Some((first, said)) = run_of(alloc, own, heard, is_late)? else {
         return Ok(None);
     };
-    if replays(alloc, own, heard, begin, said.as_slice())? {
-        return Ok(Some(said));
+    if first.taken > 0 {
+        return Ok(None);
     }
-    Ok(None)
+    if !first.standing.is_same(&begin) {
+        return Ok(None);
+    }
+    Ok(Some(said))
 }
