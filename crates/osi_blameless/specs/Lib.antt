@@ -1,3 +1,4 @@
+pub mod EndAndJudge
 pub mod ends
 pub mod transport
 pub mod accord

@@ -1,6 +1,6 @@
 -- Two sides of a connection that kept the protocol run together; and where two sessions make a connection, neither is blamed.
 -- For the law that two kept sides are a pair.
-use Rattle.osi_blameless.proofs.accord.Vocabulary.{[], ap, arith, List, map, None, Option, refl, Some, subst, sym, take-append-drop, ℕ, ◌+◌}
+use Rattle.osi_blameless.proofs.accord.Vocabulary.{[], ap, arith, List, map, refl, Some, subst, sym, take-append-drop, ℕ, ◌+◌}
 use Rattle.osi_blameless.proofs.accord.Vocabulary.{◌-◌, ◌<◌}
 use Rattle.osi_blameless.proofs.accord.Vocabulary.{◌^◌, ◌∙◌, ◌∷◌, ◌≡◌, seen_called, seen_calling, front_told, Told, Capture, IsExplained}
 use Rattle.osi_blameless.proofs.accord.Vocabulary.{Direction}

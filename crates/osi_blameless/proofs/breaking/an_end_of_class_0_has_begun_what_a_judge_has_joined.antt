@@ -21,10 +21,10 @@ use Rattle.osi_blameless.proofs.coming.what_is_in_flight_to_an_end.{known_of}
 -- If class 0 is selected, and class 2 is not, what a judge has joined of the unfinished TSDU of the other side is what the link has
 -- begun.
 abbrev pub HasBegun : (d : Direction) → ((ℕ → Deeds) → Joint → Type 0) → Type 0
-HasBegun d Inv = (deeds : ℕ → Deeds) (j : Joint) → Inv deeds j → HaveCourses d deeds j → IsSane j.holding →
-    IsFirm j.course.traffic.course → j.course.traffic.course.class ≡ Some Zero → (j.course.traffic.course.class ≡ Some Two → ⊥) →
-    AllByRecursion MayBeFollowed (units_in j.coming) → (r peer : ℕ) (link : Standing) → IsZeroAt r peer link j.holding.end.carrier →
-    (o : IsOnly j.course.traffic) (x : Joined) → slice_get j.course.sessions.live o.place ≡ Some x →
+HasBegun d Inv = (deeds : ℕ → Deeds) (j : Joint) → Inv deeds j → HaveCourses d deeds j → IsSane j.end →
+    IsFirm j.judge.traffic.course → j.judge.traffic.course.class ≡ Some Zero → (j.judge.traffic.course.class ≡ Some Two → ⊥) →
+    AllByRecursion MayBeFollowed (units_in j.coming) → (r peer : ℕ) (link : Standing) → IsZeroAt r peer link j.end.end.carrier →
+    (o : IsOnly j.judge.traffic) (x : Joined) → slice_get j.judge.sessions.live o.place ≡ Some x →
     begun_octets (spoken (other d) x).begun ≡ link.ends.joining.begun
 
 -- ---- the connection of the end
@@ -48,14 +48,14 @@ module _ (r peer : ℕ) (link : Standing) (c : Carrier) (z : IsZeroAt r peer lin
 
 pub begun_until_two : (d : Direction) (local : Local) → HasBegun d (StandsUntilTwo d local)
 begun_until_two d local deeds j (inl before) courses sane firm class not all r peer link at o x here =
-    none_some j.course.traffic.course.class Zero (none_selected d local deeds j before) class
+    none_some j.judge.traffic.course.class Zero (none_selected d local deeds j before) class
 begun_until_two d local deeds j (inr h) courses sane firm class not all r peer link at o x here =
-    let end = j.holding.end.carrier in
+    let end = j.end.end.carrier in
     let z = h.zero in
     let same : r ≡ h.r = h.amid_is r peer (is_some r peer link end at sane.between.sound.orderly.rise) (is_amid r peer link end at) in
-    let there : o.place ≡ z.one.place = place_of_one d h.r (IsGone end) j.course.traffic j.course.sessions o z.one in
-    joined_is_begun d deeds (known_in end (honest.units_in j.coming)) j.put j.begun j.course.traffic j.course.sessions
-    j.holding.end z.all courses r peer link at o.place o.connection x o.there here
+    let there : o.place ≡ z.one.place = place_of_one d h.r (IsGone end) j.judge.traffic j.judge.sessions o z.one in
+    joined_is_begun d deeds (known_in end (honest.units_in j.coming)) j.put j.begun j.judge.traffic j.judge.sessions
+    j.end.end z.all courses r peer link at o.place o.connection x o.there here
     (z.all.judged firm.firm o.place o.connection o.there) (own_open d o)
-    (z.one.mine x (ap (slice_get j.course.sessions.live) (sym there) ∙ here) ∙ ap (λ (n : ℕ). Some n) (sym same))
+    (z.one.mine x (ap (slice_get j.judge.sessions.live) (sym there) ∙ here) ∙ ap (λ (n : ℕ). Some n) (sym same))
     (λ q later is sure. none_later r peer link end at j.coming all q later is sure.1)

@@ -55,12 +55,12 @@ module _ (local : Local) (w : Whole) (c : Carrier) (still : w.end.ended ≡ None
 -- ---- at a judge
 
 module _ (local : Local) where
-  pub end_opens : (d : Direction) (j : Joint) → IsFollowed d (wholes.begin (calls_from d) local) j → IsFirm j.course.traffic.course →
-      j.course.traffic.course.class ≡ Some Zero → AllByRecursion MayBeFollowed (units_in j.coming) → j.holding.end.carrier.ended ≡ None →
-      IsOpenIn j.holding.end.carrier
+  pub end_opens : (d : Direction) (j : Joint) → IsFollowed d (wholes.begin (calls_from d) local) j → IsFirm j.judge.traffic.course →
+      j.judge.traffic.course.class ≡ Some Zero → AllByRecursion MayBeFollowed (units_in j.coming) → j.end.end.carrier.ended ≡ None →
+      IsOpenIn j.end.end.carrier
   end_opens d j f firm class all lasts =
       let still = none_of f.whole.end.ended (sym f.like.over ∙ ap is_some lasts) in
       let same = f.like.lasts still in
-      opens_by local f.whole j.holding.end.carrier still lasts (ap (λ (c : Carrier). c.class) same)
+      opens_by local f.whole j.end.end.carrier still lasts (ap (λ (c : Carrier). c.class) same)
       (ap (λ (c : Carrier). c.live) same) (ap (λ (t : State). t.course.class) f.judge ∙ class) d (stage_of d local j f firm)
       (subst (AllByRecursion MayBeFollowed) (sym (f.coming lasts)) all)

@@ -135,7 +135,7 @@ module _ (local : Local) (v : Value) (w : Whole) (rest : List Value) (put : w.pu
   own_after = record w { put = rest; begun = false; judge = (takes way.Left v w.judge).state }
 
   own_joined : Follows local own_after
-  own_joined = next_joined local wholes.passes_own w own_after (v, put, begun, refl) j
+  own_joined = next_joined local wholes.passes_own w own_after (v, (put, begun, refl)) j
 
   own_clear : IsOngoing w.judge.course
   own_clear = before_going (passing way.Left v) w.judge then_clear
@@ -333,14 +333,14 @@ none_later r xs ys none = last (waiting_for (Some r) xs) (waiting_for (Some r) y
 -- ---- an end and a judge
 
 abbrev pub AreQuietNow : Joint → Type 0
-AreQuietNow j = IsQuiet j.holding.end.carrier (units_in j.coming) j.course.traffic
+AreQuietNow j = IsQuiet j.end.end.carrier (units_in j.coming) j.judge.traffic
 
 -- as long as both sides are judged, and class 0 is not selected
 abbrev pub AreQuiet : Joint → Type 0
-AreQuiet j = IsOngoing j.course.traffic.course → AreQuietNow j
+AreQuiet j = IsOngoing j.judge.traffic.course → AreQuietNow j
 
 pub begin_quiet : (holding : Holding) → AreQuiet (begin holding)
-begin_quiet holding = λ clear. record { before = λ r may. inr refl; closed = λ p c at. absurd (cc at) }
+begin_quiet end = λ clear. record { before = λ r may. inr refl; closed = λ p c at. absurd (cc at) }
 
 -- a packet begins
 begun_left : (d : Way) (c : Connection) → (begins d c).left ≡ c.left
@@ -359,7 +359,7 @@ begins_other_quiet old new is q =
     subst AreQuiet (sym is) (search (arith, after_map, begun_left, waiting_for, begun_tracked, before_going))
 
 module _ (local : Local) (two : local.class2 ≡ true) where
-  joint_alike : (j : Joint) (f : IsFollowed Left (first local two) j) (r : ℕ) → MayOpen j.holding.end.carrier r →
+  joint_alike : (j : Joint) (f : IsFollowed Left (first local two) j) (r : ℕ) → MayOpen j.end.end.carrier r →
       MayOpen f.whole.end r × (f.whole.coming ≡ units_in j.coming)
   joint_alike j f r may = grind (arith, early_lasts, stage_at, none_of, same_units)
 
@@ -367,27 +367,27 @@ module _ (local : Local) (two : local.class2 ≡ true) where
   to_whole j f q = grind (arith, quiet_as, early_lasts, stage_at, none_of, same_units)
 
   pub passes_own_quiet : (deeds : ℕ → Deeds) (at : ℕ) (unit : Value) (old new : Joint) → Steps Left (passes_own at unit) old new →
-      OwnInTwo Left local deeds old → HaveSamePlaces old.course.traffic.connections old.course.sessions.live → AreQuiet old →
+      OwnInTwo Left local deeds old → HaveSamePlaces old.judge.traffic.connections old.judge.sessions.live → AreQuiet old →
       AreQuiet new
-  passes_own_quiet deeds at unit old new (read, octets, put, begun, is) h places q =
+  passes_own_quiet deeds at unit old new (read, octets, (put, begun, is)) h places q =
       let f = h.ahead.followed in
       let s : f.whole.put ≡ unit ∷ new.put = f.put ∙ put in
-      let knows : (takes way.Left unit old.course.traffic).state ≡ (unit_passes Left at unit old.course).traffic =
-      sym (unit_knows Left at unit old.course) in
-      let judge : (takes way.Left unit f.whole.judge).state ≡ (unit_passes Left at unit old.course).traffic =
+      let knows : (takes way.Left unit old.judge.traffic).state ≡ (unit_passes Left at unit old.judge).traffic =
+      sym (unit_knows Left at unit old.judge) in
+      let judge : (takes way.Left unit f.whole.judge).state ≡ (unit_passes Left at unit old.judge).traffic =
       ap (λ (t : State). (takes way.Left unit t).state) f.judge ∙ knows in
       subst AreQuiet (sym is) (λ clear.
-      quiet_as f.whole.end old.holding.end.carrier f.whole.coming (units_in old.coming) (takes way.Left unit f.whole.judge).state
-      (unit_passes Left at unit old.course).traffic (sym judge) (λ r may. let (m, same) = joint_alike old f r may in (m, sym same))
-      (own_quiet local unit f.whole new.put s (f.begun ∙ begun) old.course.sessions
-      (subst (λ (t : State). HaveSamePlaces t.connections old.course.sessions.live) (sym f.judge) places) (whole_joined local two old f)
+      quiet_as f.whole.end old.end.end.carrier f.whole.coming (units_in old.coming) (takes way.Left unit f.whole.judge).state
+      (unit_passes Left at unit old.judge).traffic (sym judge) (λ r may. let (m, same) = joint_alike old f r may in (m, sym same))
+      (own_quiet local unit f.whole new.put s (f.begun ∙ begun) old.judge.sessions
+      (subst (λ (t : State). HaveSamePlaces t.connections old.judge.sessions.live) (sym f.judge) places) (whole_joined local two old f)
       (subst (λ (t : State). IsOngoing t.course) (sym judge) clear)
-      (to_whole old f (q (before_going (passing way.Left unit) old.course.traffic
+      (to_whole old f (q (before_going (passing way.Left unit) old.judge.traffic
       (subst (λ (t : State). IsOngoing t.course) (sym knows) clear))))))
 
   pub passes_other_quiet : (deeds : ℕ → Deeds) (at : ℕ) (bytes : List ℕ) (units : List Value) (old new : Joint) →
       Steps Left (passes_other at bytes units) old new → OwnInTwo Left local deeds old →
-      AreFine Left at units old.course → AreQuiet old → AreQuiet new
+      AreFine Left at units old.judge → AreQuiet old → AreQuiet new
   passes_other_quiet deeds at bytes units old new (octets, read, is) h fine q =
       let f = h.ahead.followed in
       let one : units_in (bytes ∷ []) ≡ units = append-nil (units_read (units_of bytes)) ∙ ap units_read read in
@@ -395,30 +395,30 @@ module _ (local : Local) (two : local.class2 ≡ true) where
       units_join old.coming (bytes ∷ []) ∙ ap (λ (l : List Value). units_in old.coming ++ l) one in
       let ranges = all_so Fits HasFieldsInRange units (λ v h. h.in_range)
       (units_fit units bytes (units_found bytes units octets read)) in
-      let after = (units_pass Right at units old.course).traffic in
+      let after = (units_pass Right at units old.judge).traffic in
       subst AreQuiet (sym is) (λ clear.
-      quiet_as f.whole.end old.holding.end.carrier (f.whole.coming ++ units) (units_in (old.coming ++ bytes ∷ [])) after after refl
+      quiet_as f.whole.end old.end.end.carrier (f.whole.coming ++ units) (units_in (old.coming ++ bytes ∷ [])) after after refl
       (λ r may. let (m, same) = joint_alike old f r may in (m, all ∙ ap (λ (l : List Value). l ++ units) (sym same)))
-      (units_quiet local at units f.whole old.course fine clear ranges (whole_joined local two old f) f.judge
-      (to_whole old f (q (ongoing_first at units old.course fine clear)))))
+      (units_quiet local at units f.whole old.judge fine clear ranges (whole_joined local two old f) f.judge
+      (to_whole old f (q (ongoing_first at units old.judge fine clear)))))
 
 pub turns_quiet : (turn : Turn) (old new : Joint) (t : TakesTurn turn old new) (deeds : ℕ → Deeds) →
     TurnDoes true deeds turn old new t → AreQuiet old → AreQuiet new
 turns_quiet turn old new t deeds does q clear =
     let now = q (subst (λ (c : Course). IsOngoing c.traffic.course) t.course clear) in
-    subst (λ (c : Course). IsQuiet new.holding.end.carrier (units_in new.coming) c.traffic) (sym t.course) (record {
+    subst (λ (c : Course). IsQuiet new.end.end.carrier (units_in new.coming) c.traffic) (sym t.course) (record {
       before = λ r may. by r (now.before r (was r may));
       closed = λ p c at shut may. now.closed p c at shut (was c.left.reference may);
     })
   where
-    was : (r : ℕ) → MayOpen new.holding.end.carrier r → MayOpen old.holding.end.carrier r
+    was : (r : ℕ) → MayOpen new.end.end.carrier r → MayOpen old.end.end.carrier r
     was r may = (
       may.0,
       grind (arith, past, early),
     )
 
-    by : (r : ℕ) → Tracked old.course.traffic.connections r ⊎ (waiting_for (Some r) (units_in old.coming) ≡ []) →
-        Tracked old.course.traffic.connections r ⊎ (waiting_for (Some r) (units_in new.coming) ≡ [])
+    by : (r : ℕ) → Tracked old.judge.traffic.connections r ⊎ (waiting_for (Some r) (units_in old.coming) ≡ []) →
+        Tracked old.judge.traffic.connections r ⊎ (waiting_for (Some r) (units_in new.coming) ≡ [])
     by r (inl tracked) = inl tracked
     by r (inr none) =
         inr (none_later r (units_in t.used) (units_in new.coming) (ap (waiting_for (Some r)) (sym (turn_leaves turn old new t)) ∙ none))

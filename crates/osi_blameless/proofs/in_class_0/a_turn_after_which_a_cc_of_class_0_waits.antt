@@ -60,8 +60,8 @@ module _ (local : Local) (j : Joint) (f : IsFollowed Right (first local) j) (n :
       subst (AllByRecursion IsDt0) (same_later _ _ z.more rest (sym z.put ∙ f.put ∙ put))
       (all_data limit 0 z.more (zero_puts limit f.whole.end 0 z.more z.end))
 
-  selects : IsFirm j.course.traffic.course → j.course.traffic.course.class ≡ None →
-      HaveSamePlaces j.course.traffic.connections j.course.sessions.live → (x.class ≡ 2 → ⊥) → Selecting local f.whole
+  selects : IsFirm j.judge.traffic.course → j.judge.traffic.course.class ≡ None →
+      HaveSamePlaces j.judge.traffic.connections j.judge.sessions.live → (x.class ≡ 2 → ⊥) → Selecting local f.whole
   selects sure class places not =
       by (answers_or_selects local j f
       (grind (arith, none_some)) places)
@@ -75,10 +75,10 @@ module _ (local : Local) (j : Joint) (f : IsFollowed Right (first local) j) (n :
 module _ (local : Local) (turn : Turn) (old new : Joint) (t : TakesTurn turn old new) (deeds : ℕ → Deeds)
     (does : TurnDoes false deeds turn old new t) where
   abbrev end : Carrier
-  end = old.holding.end.carrier
+  end = old.end.end.carrier
 
   abbrev then_end : Carrier
-  then_end = new.holding.end.carrier
+  then_end = new.end.end.carrier
 
   abbrev coming : List Value
   coming = units_in old.coming
@@ -151,7 +151,7 @@ module _ (local : Local) (turn : Turn) (old new : Joint) (t : TakesTurn turn old
 
   -- ---- the CC was put before
 
-  module _ (sure : IsFirm old.course.traffic.course) (h : StandsAnswering local deeds old) where
+  module _ (sure : IsFirm old.judge.traffic.course) (h : StandsAnswering local deeds old) where
     g : GoesOn Right (first local) h.ahead.bound new
     g = turns_ahead Right (first local) turn old new t h.ahead
 

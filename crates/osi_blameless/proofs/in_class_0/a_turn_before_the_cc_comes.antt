@@ -31,10 +31,10 @@ quiet_no_cc r (v ∷ vs) h = ((λ x is. absurd (subst IsQuiet is h.0)), quiet_no
 module _ (local : Local) (turn : Turn) (old new : Joint) (t : TakesTurn turn old new) (deeds : ℕ → Deeds)
     (does : TurnDoes true deeds turn old new t) (h : StandsUnanswered local deeds old) where
   abbrev end : Carrier
-  end = old.holding.end.carrier
+  end = old.end.end.carrier
 
   abbrev then_end : Carrier
-  then_end = new.holding.end.carrier
+  then_end = new.end.end.carrier
 
   abbrev coming : List Value
   coming = units_in old.coming
@@ -66,7 +66,7 @@ module _ (local : Local) (turn : Turn) (old new : Joint) (t : TakesTurn turn old
       let u = turn_uses turn old new t true deeds does.on (early_lasts r end may) in
       grind (arith, quiet_turn, stage_at r then_end, waiting_for (Some r), quiet_none r coming h.none.quiet)
 
-  turns : Turns Left does.on.more (known_in end coming) (known_in then_end (units_in new.coming)) t.units old.course.traffic old.course.sessions
+  turns : Turns Left does.on.more (known_in end coming) (known_in then_end (units_in new.coming)) t.units old.judge.traffic old.judge.sessions
   turns = record {
     puts = λ i c j r there here mine live.
         let some : 0 < r = (h.ahead.below.live i j r here mine).0 in

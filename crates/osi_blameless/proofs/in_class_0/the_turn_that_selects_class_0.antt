@@ -38,18 +38,18 @@ module _ (deeds : ℕ → Deeds) (known then_known : Known) (put : List Value) (
 -- It has selected no class, or its CC of class 2 waits: each connection that it has open has a CC that waits.
 pub record StandsUnselected (local : Local) (deeds : ℕ → Deeds) (j : Joint) : Type 0 where
   pub stands : StandsInTwo Right local deeds j
-  pub sure : Sure j.course
-  pub class : j.course.traffic.course.class ≡ None
+  pub sure : Sure j.judge
+  pub class : j.judge.traffic.course.class ≡ None
   pub quiet : AllByRecursion IsQuiet (units_in j.coming)
-  pub uncalled : AreUncalled j.course.sessions
-  pub shut : (q peer : ℕ) → 0 < q → stage_at q j.holding.end.carrier ≡ amid peer → (n : ℕ) × HasCc n q j.put
+  pub uncalled : AreUncalled j.judge.sessions
+  pub shut : (q peer : ℕ) → 0 < q → stage_at q j.end.end.carrier ≡ amid peer → (n : ℕ) × HasCc n q j.put
 
 pub unselected_so : (local : Local) (deeds : ℕ → Deeds) (j : Joint) → StandsUnselected local deeds j →
     StandInNone Right deeds j
 unselected_so local deeds j h = record {
   sure = h.sure;
   class = h.class;
-  all = all_unnamed deeds (known_at j) (known_in j.holding.end.carrier (units_in j.coming)) j.put j.begun j.course.traffic j.course.sessions
+  all = all_unnamed deeds (known_at j) (known_in j.end.end.carrier (units_in j.coming)) j.put j.begun j.judge.traffic j.judge.sessions
       h.uncalled h.stands.standing.all;
   quiet = h.quiet;
   new = h.uncalled;
@@ -82,12 +82,12 @@ same_cc : (n m : ℕ) (x y : Connect) → confirm n x ≡ confirm m y → y.sour
 same_cc n m x y e = cc
 
 module _ (local : Local) (turn : Turn) (old new : Joint) (t : TakesTurn turn old new) (deeds : ℕ → Deeds)
-    (does : TurnDoes false deeds turn old new t) (sure : IsFirm old.course.traffic.course) (all : StandsUnselected local deeds old) where
+    (does : TurnDoes false deeds turn old new t) (sure : IsFirm old.judge.traffic.course) (all : StandsUnselected local deeds old) where
   abbrev h : StandsInTwo Right local deeds old
   h = all.stands
 
   abbrev end : Carrier
-  end = old.holding.end.carrier
+  end = old.end.end.carrier
 
   abbrev pub ahead : GoesOn Right (first local) h.own.ahead.bound new
   ahead = turns_ahead Right (first local) turn old new t h.own.ahead
@@ -95,8 +95,8 @@ module _ (local : Local) (turn : Turn) (old new : Joint) (t : TakesTurn turn old
   abbrev f : IsFollowed Right (first local) new
   f = ahead.ahead.followed
 
-  clear : IsClear old.course.traffic.course
-  clear = record { sure = sure; two = λ zero_is. none_some old.course.traffic.course.class Zero all.class zero_is }
+  clear : IsClear old.judge.traffic.course
+  clear = record { sure = sure; two = λ zero_is. none_some old.judge.traffic.course.class Zero all.class zero_is }
 
   module _ (z : Selecting local f.whole) where
     abbrev answer : Connect
@@ -144,7 +144,7 @@ module _ (local : Local) (turn : Turn) (old new : Joint) (t : TakesTurn turn old
     some : old.begun ≡ true → old.put ≡ [] → ⊥
     some begun =
         let g = h.own.ahead.followed in
-        let lines = has_lines local old g (going_on old.course.traffic.course clear) h.own.holds.two in
+        let lines = has_lines local old g (going_on old.judge.traffic.course clear) h.own.holds.two in
         λ none. lines.called.some (g.begun ∙ begun) (sym lines.called.put ∙ g.put ∙ none)
 
     pub turns_selecting : StandsAnswering local (λ r. then_did (deeds r) (does.on.more r)) new

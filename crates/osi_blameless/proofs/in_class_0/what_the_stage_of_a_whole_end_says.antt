@@ -6,7 +6,7 @@ use Rattle.osi_blameless.proofs.Vocabulary.{eqb-true, AllByRecursion, confirm, C
 use Rattle.osi_blameless.proofs.Vocabulary.{has_given, Traffic as State, takes, Connection, Offer, early, past, stage_at, stage_is, IsOver}
 use Rattle.osi_blameless.proofs.Vocabulary.{one, answered, Calling, known, quiet, refused, begun_by, anyhow, zero_puts, PutsData}
 use Rattle.osi_blameless.proofs.Vocabulary.{calm_judge, done_takes, GoesOn, Waits, Whole, arith, ended, waits, Stage as CalledStage}
-use Rattle.osi_blameless.proofs.Vocabulary.{Direction, Left, Carrier, calls_from, IsFirm, Joint, Event, HappenAlong, Holds, holds_first}
+use Rattle.osi_blameless.proofs.Vocabulary.{Direction, Left, Carrier, calls_from, IsFirm, Joint, Holds, holds_first}
 use Rattle.osi_blameless.proofs.Vocabulary.{holds_next, IsInZero, lines, selected, selecting, stage_there, ◌≤◌, ◌<◌, is_some}
 use Rattle.osi_blameless.proofs.Vocabulary.{units_in, Steps, passes_own, Disconnects}
 use Rattle.osi_rules.specs.declared.directions.Direction.TheVariants.{Right}
@@ -22,6 +22,8 @@ use Rattle.osi_blameless.proofs.putting.each_reference_of_an_end_is_new.{IsAhead
 use Rattle.osi_blameless.proofs.small_facts_that_many_lemmas_use.{same_units}
 use Rattle.osi_blameless.proofs.keeping.a_carrier_does_events.{none_of}
 use Rattle.osi_blameless.proofs.in_class_0.units_of_class_0_come_after_its_cc.{HasCc}
+use Rattle.osi_blameless.proofs.what_each_thing_keeps_all_of_them_keep.{along_keeps}
+use Rattle.osi_blameless.proofs.Vocabulary.{Happens}
 
 -- ---- small facts
 
@@ -150,18 +152,13 @@ abbrev pub StageOf : Direction → Local → Whole → Type 0
 StageOf side.Left local w = Stage local w
 StageOf side.Right local w = CalledStage local w
 
-staged_along : (local : Local) (events : List Event) (old new : Whole) → HappenAlong way.Left old events new → Holds local old →
-    Holds local new
-staged_along local [] old new e h = subst (Holds local) (sym e) h
-staged_along local (event ∷ events) old new (mid, first, more) h =
-    staged_along local events mid new more (holds_next local event old mid first h)
-
 pub runs_staged : (local : Local) (j : Joint) (f : IsFollowed side.Left (wholes.begin true local) j) → Holds local f.whole
-runs_staged local j f = staged_along local f.events (wholes.begin true local) f.whole f.along (holds_first local)
+runs_staged local j f =
+    along_keeps (Happens way.Left) (Holds local) (holds_next local) f.events (wholes.begin true local) f.whole f.along (holds_first local)
 
 -- as long as all is judged
 pub stage_of : (d : Direction) (local : Local) (j : Joint) (f : IsFollowed d (wholes.begin (calls_from d) local) j) →
-    IsFirm j.course.traffic.course → StageOf d local f.whole
+    IsFirm j.judge.traffic.course → StageOf d local f.whole
 stage_of side.Left local j f firm = (runs_staged local j f).stage (ap (λ (s : State). s.course.left_stopped) f.judge ∙ firm.left)
 stage_of side.Right local j f firm = (called_joined local j f).stage (grind arith)
 
@@ -173,10 +170,10 @@ zero_put side.Right local w class h = called_puts local w class h
 
 -- so a unit of it that passes is one
 pub own_is_dt : (local : Local) (d : Direction) (at : ℕ) (v : Value) (old new : Joint) → Steps d (passes_own at v) old new →
-    IsFollowed d (wholes.begin (calls_from d) local) old → IsFirm old.course.traffic.course → old.course.traffic.course.class ≡ Some Zero →
+    IsFollowed d (wholes.begin (calls_from d) local) old → IsFirm old.judge.traffic.course → old.judge.traffic.course.class ≡ Some Zero →
     IsDt0 v
 own_is_dt local d at v old new step f firm class =
-    let s : f.whole.put ≡ v ∷ new.put = f.put ∙ step.2 in
+    let s : f.whole.put ≡ v ∷ new.put = f.put ∙ step.2.0 in
     (subst (AllByRecursion IsDt0) s
     (zero_put d local f.whole (ap (λ (t : State). t.course.class) f.judge ∙ class) (stage_of d local old f firm))).0
 
@@ -191,12 +188,12 @@ awaits_by side.Left local w r class some given lasts may h = cc_waits local w r 
 awaits_by side.Right local w r class some given lasts may h = absurd (not_early local w class r some given lasts may h)
 
 pub zero_awaits : (d : Direction) (local : Local) (j : Joint) (a : IsAhead d (wholes.begin (calls_from d) local) j) (r : ℕ) →
-    IsFirm j.course.traffic.course → j.course.traffic.course.class ≡ Some Zero → IsWithin a.bound r →
-    stage_at r j.holding.end.carrier ≡ early → AwaitsCc d (units_in j.coming)
+    IsFirm j.judge.traffic.course → j.judge.traffic.course.class ≡ Some Zero → IsWithin a.bound r →
+    stage_at r j.end.end.carrier ≡ early → AwaitsCc d (units_in j.coming)
 zero_awaits d local j a r firm class within may =
     let f = a.followed in
     let w = f.whole in
-    let end = j.holding.end.carrier in
+    let end = j.end.end.carrier in
     let lasts = early_lasts r end may in
     let whole_lasts = none_of w.end.ended (sym f.like.over ∙ ap is_some lasts) in
     let stage = stage_of d local j f firm in

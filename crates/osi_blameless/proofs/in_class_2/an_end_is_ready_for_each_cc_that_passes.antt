@@ -102,10 +102,10 @@ module _ (local : Local) where
 
   -- such a reference is above all that the judge knows
   pub early_above : (deeds : ℕ → Deeds) (j : Joint) (h : OwnInTwo Right local deeds j) →
-      IsOngoing j.course.traffic.course → (r : ℕ) → 0 < r → stage_at r j.holding.end.carrier ≡ early → h.ahead.bound < r
+      IsOngoing j.judge.traffic.course → (r : ℕ) → 0 < r → stage_at r j.end.end.carrier ≡ early → h.ahead.bound < r
   early_above deeds j h clear r some may =
       let f = h.ahead.followed in
-      let lasts = none_of f.whole.end.ended (sym f.like.over ∙ ap is_some (early_lasts r j.holding.end.carrier may)) in
+      let lasts = none_of f.whole.end.ended (sym f.like.over ∙ ap is_some (early_lasts r j.end.end.carrier may)) in
       let there : stage_at r f.whole.end ≡ early = ap (stage_at r) (f.like.lasts lasts) ∙ may in
       let given = early_not_given r f.whole.end lasts (has_lines local j f clear h.holds.two).end.none there in
       let up = h.ahead.above.given in grind (arith, above_given, up)
@@ -118,18 +118,18 @@ module _ (local : Local) where
   -- ---- a unit that passes
 
   pub is_ready : (deeds : ℕ → Deeds) (at : ℕ) (unit : Value) (old new : Joint) → Steps Right (passes_own at unit) old new →
-      HaveSamePlaces old.course.traffic.connections old.course.sessions.live → AreKnown old.course → OwnInTwo Right local deeds old →
-      IsReady Right deeds (known_from (may_take old.holding.end.carrier) (units_in old.coming)) unit new.put old.course.traffic
-      old.course.sessions
-  is_ready deeds at (confirm m x) old new (read, octets, put, begun, is) places known h =
-      let less = passes_above Right first at (confirm m x) x.source refl old new (read, octets, put, begun, is) h.ahead in
+      HaveSamePlaces old.judge.traffic.connections old.judge.sessions.live → AreKnown old.judge → OwnInTwo Right local deeds old →
+      IsReady Right deeds (known_from (may_take old.end.end.carrier) (units_in old.coming)) unit new.put old.judge.traffic
+      old.judge.sessions
+  is_ready deeds at (confirm m x) old new (read, octets, (put, begun, is)) places known h =
+      let less = passes_above Right first at (confirm m x) x.source refl old new (read, octets, (put, begun, is)) h.ahead in
       let has : HasCc m x.source old.put = subst (HasCc m x.source) (sym put) (inl (refl, refl)) in
       let all : (deeds x.source).put ≡ waiting_for (Some m) new.put =
       h.holds.waits m x.source has ∙ ap (waiting_for (Some m)) put in
       let none = h.holds.unheard x.source less in (
         λ p j place here.
-            let (c, there) = there_too old.course.traffic.connections old.course.sessions.live p j places here in
-            grind (arith, waiting_for, joined_any Right (confirm m x) old.course m p c j places refl place there (known p c there) here),
+            let (c, there) = there_too old.judge.traffic.connections old.judge.sessions.live p j places here in
+            grind (arith, waiting_for, joined_any Right (confirm m x) old.judge m p c j places refl place there (known p c there) here),
         parts_taken (deeds x.source).calls ∙ ap parts_of none,
         search (arith, left_empty, none_waits),
       )
@@ -148,18 +148,18 @@ module _ (local : Local) where
   spent_next deeds b r unit rest up less h = grind (arith, gives_so)
 
   pub own_passes : (deeds : ℕ → Deeds) (at : ℕ) (unit : Value) (old new : Joint) →
-      Steps Right (passes_own at unit) old new → HaveSamePlaces old.course.traffic.connections old.course.sessions.live →
+      Steps Right (passes_own at unit) old new → HaveSamePlaces old.judge.traffic.connections old.judge.sessions.live →
       OwnInTwo Right local deeds old → OwnInTwo Right local deeds new
   own_passes deeds at unit old new step places h =
       let p = passes_own_ahead Right first at unit old new step places h.ahead in
       let g = p.on in
-      let put = step.2 in
+      let put = step.2.0 in
       let ordered : AreOrdered (unit ∷ new.put) = subst AreOrdered put h.holds.ordered in
       record {
         ahead = g.ahead;
         holds = record {
           below = below_higher h.ahead.bound g.ahead.bound (units_in new.coming) g.rises
-              (subst (λ (j : Joint). AllByRecursion (IsBelow h.ahead.bound) (units_in j.coming)) (sym step.4) h.holds.below);
+              (subst (λ (j : Joint). AllByRecursion (IsBelow h.ahead.bound) (units_in j.coming)) (sym step.2.2) h.holds.below);
           unheard = λ r less. h.holds.unheard r (omega (arith, less));
           waits = λ n r has.
               h.holds.waits n r (subst (HasCc n r) (sym put) (inr has)) ∙ ap (waiting_for (Some n)) put
@@ -177,10 +177,10 @@ module _ (local : Local) where
 
   module _ (turn : Turn) (old new : Joint) (t : TakesTurn turn old new) (deeds : ℕ → Deeds)
       (does : TurnDoes false deeds turn old new t)
-      (places : HaveSamePlaces old.course.traffic.connections old.course.sessions.live) (clear : IsOngoing old.course.traffic.course)
+      (places : HaveSamePlaces old.judge.traffic.connections old.judge.sessions.live) (clear : IsOngoing old.judge.traffic.course)
       (h : OwnInTwo Right local deeds old) (turn_two : AllByRecursion AnswersTwo new.put) where
     abbrev carrier : Carrier
-    carrier = old.holding.end.carrier
+    carrier = old.end.end.carrier
 
     abbrev f : IsFollowed Right first old
     f = h.ahead.followed
@@ -201,7 +201,7 @@ module _ (local : Local) where
     above_old : (n r : ℕ) → HasCc n r new.put → h.ahead.bound < r
     above_old n r has = grind (arith, g, waits_above new g.ahead n r has)
 
-    home_low : (i j : ℕ) → HasHome Right i j old.course.traffic old.course.sessions → i ≤ h.ahead.bound
+    home_low : (i j : ℕ) → HasHome Right i j old.judge.traffic old.judge.sessions → i ≤ h.ahead.bound
     home_low i j home = (h.ahead.below.live home.place home.joined i home.here home.mine).1
 
     -- a CC that has come is for a reference of the judge: the end has answered its connection, or closed it
@@ -216,14 +216,14 @@ module _ (local : Local) where
         by early may = let over = early_above deeds old h clear q some may in absurd (omega (arith, low, is, over))
         by (amid peer) here = not_amid peer (is_some carrier.ended) (has_given q carrier) (value_at q carrier.live) shut here
         by past gone =
-            let w : WhenPast q does.on.took does.on.put (stage_at q new.holding.end.carrier) =
-            subst (λ (s : Stage). Life false q s does.on.took does.on.put (stage_at q new.holding.end.carrier)) gone (does.life q some) in
+            let w : WhenPast q does.on.took does.on.put (stage_at q new.end.end.carrier) =
+            subst (λ (s : Stage). Life false q s does.on.took does.on.put (stage_at q new.end.end.carrier)) gone (does.life q some) in
             w.none_put
 
     turn_ordered : AreOrdered new.put
     turn_ordered =
         subst AreOrdered g.ahead.followed.put
-        (put_ordered local g.ahead.followed.whole new.course.sessions after (grind (arith, g)))
+        (put_ordered local g.ahead.followed.whole new.judge.sessions after (grind (arith, g)))
 
     put_more : (n r : ℕ) → HasCc n r new.put → (does.on.more r).put ≡ waiting_for (Some n) (all_units does.on.put)
     put_more n r has = search (arith, puts_for, g, before, after, no_cc, home_low, above_old)
@@ -273,7 +273,7 @@ module _ (local : Local) where
 
       spent_by : ((deeds r).put ≡ []) ⊎ ((n : ℕ) × HasCc n r old.put) →
           AreApart r does.on.put ⊎ (HasCc (does.on.lives r some).peer r new.put
-          ⊎ HasHome Right r (does.on.lives r some).peer old.course.traffic old.course.sessions) →
+          ⊎ HasHome Right r (does.on.lives r some).peer old.judge.traffic old.judge.sessions) →
           ((then_did (deeds r) (does.on.more r)).put ≡ []) ⊎ ((n : ℕ) × HasCc n r new.put)
       spent_by (inr (n, waited)) k =
           inr (n, subst (HasCc n r) (sym turn_put) (has_front n r old.put (all_units does.on.put) waited))
@@ -289,27 +289,27 @@ module _ (local : Local) where
 
     -- ---- each unit of the turn has a home
 
-    all_new : (vs : List Value) → ((n r : ℕ) → HasCc n r vs → IsUnused Right r old.course.sessions) →
-        AllByRecursion (λ (v : Value). GivesNew Right v old.course.sessions) vs
+    all_new : (vs : List Value) → ((n r : ℕ) → HasCc n r vs → IsUnused Right r old.judge.sessions) →
+        AllByRecursion (λ (v : Value). GivesNew Right v old.judge.sessions) vs
     all_new [] unused = tt
     all_new (v ∷ vs) unused = grind (arith, one_new, all_new vs (λ n r has. unused n r (inr has)))
 
-    news : AllByRecursion (λ (v : Value). GivesNew Right v old.course.sessions) (all_units does.on.put)
+    news : AllByRecursion (λ (v : Value). GivesNew Right v old.judge.sessions) (all_units does.on.put)
     news =
         all_new (all_units does.on.put)
-        (λ n r has. above_unused Right h.ahead.bound r old.course.sessions h.ahead.below
+        (λ n r has. above_unused Right h.ahead.bound r old.judge.sessions h.ahead.below
         (above_old n r (subst (HasCc n r) (sym turn_put) (has_back n r old.put (all_units does.on.put) has))))
 
-    pub turn_homed : AllByRecursion (IsMarked Right old.course.traffic old.course.sessions) does.on.put
+    pub turn_homed : AllByRecursion (IsMarked Right old.judge.traffic old.judge.sessions) does.on.put
     turn_homed = by carrier.ended refl
       where
-        by : (o : Option EndReason) → carrier.ended ≡ o → AllByRecursion (IsMarked Right old.course.traffic old.course.sessions) does.on.put
+        by : (o : Option EndReason) → carrier.ended ≡ o → AllByRecursion (IsMarked Right old.judge.traffic old.judge.sessions) does.on.put
         by None lasts =
             called_marked local deeds turn old new t does.on f before places news
             (turn_puts Right first turn old new t (all_units does.on.put) does.units g.ahead.followed IsNotZero
             (called_put_two local g.ahead.followed.whole after.called)) no_cc
         by (Some reason) gone =
-            let done = over_acts turn old.holding new.holding (subst IsSome (sym gone) refl) t.takes in
+            let done = over_acts turn old.end new.end (subst IsSome (sym gone) refl) t.takes in
             grind (arith, none_put)
 
     -- ---- all of it

@@ -7,7 +7,7 @@ use Rattle.osi_blameless.proofs.standing.what_stands_of_a_connection.{is_part}
 use Rattle.osi_blameless.proofs.in_class_0.what_the_stage_of_a_whole_end_says.{runs_staged}
 
 pub puts_no_dt : (local : Local) → local.class2 ≡ false → (at : ℕ) (v : Value) (old new : Joint) → Steps Left (passes_own at v) old new →
-    IsFollowed Left (begin true local) old → IsOngoing old.course.traffic.course → is_part v ≡ false
-puts_no_dt local without at v old new (read, octets, put, begun, is) f clear =
+    IsFollowed Left (begin true local) old → IsOngoing old.judge.traffic.course → is_part v ≡ false
+puts_no_dt local without at v old new (read, octets, (put, begun, is)) f clear =
     let s : f.whole.put ≡ v ∷ new.put = f.put ∙ put in
     grind (arith, runs_staged local old f)

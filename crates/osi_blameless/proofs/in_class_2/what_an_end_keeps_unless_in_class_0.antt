@@ -52,7 +52,7 @@ fine_of d at (v ∷ vs) c (one, more) = (
 -- none while no class is selected.
 abbrev Besides : Direction → Joint → Type 0
 Besides Left j = AreQuiet j
-Besides Right j = UncalledUntil j.course
+Besides Right j = UncalledUntil j.judge
 
 pub record StandsBeside (d : Direction) (local : Local) (deeds : ℕ → Deeds) (j : Joint) : Type 0 where
   pub two : MayGetTwo d local
@@ -75,7 +75,7 @@ besides_own_passes Right local deeds at v old new step h =
     step_kept UncalledUntil uncalled_claim Right (passes_own at v) old new step h.besides
 
 besides_other_passes : (d : Direction) (local : Local) (deeds : ℕ → Deeds) (at : ℕ) (octets : List ℕ) (units : List Value)
-    (old new : Joint) → Steps d (passes_other at octets units) old new → AreFine d at units old.course → StandsBeside d local deeds old →
+    (old new : Joint) → Steps d (passes_other at octets units) old new → AreFine d at units old.judge → StandsBeside d local deeds old →
     Besides d new
 besides_other_passes Left local deeds at octets units old new step fine h =
     passes_other_quiet local h.two deeds at octets units old new step h.stands.own fine h.besides
@@ -98,8 +98,8 @@ module _ (local : Local) where
 
   -- its CC would select class 0
   none_passes : {A : Type 0} (deeds : ℕ → Deeds) (at : ℕ) (v : Value) (old new : Joint) → Steps Right (passes_own at v) old new →
-      IsOngoing old.course.traffic.course → (new.course.traffic.course.class ≡ Some Zero → ⊥) → HasSelected deeds old → A
-  none_passes deeds at v old new (read, octets, put, begun, is) clear then_two h =
+      IsOngoing old.judge.traffic.course → (new.judge.traffic.course.class ≡ Some Zero → ⊥) → HasSelected deeds old → A
+  none_passes deeds at v old new (read, octets, (put, begun, is)) clear then_two h =
       absurd (by (answers_or_selects local old h.followed clear h.places))
     where
       by : AllByRecursion AnswersTwo old.put ⊎ Selecting local h.followed.whole → ⊥
@@ -137,7 +137,7 @@ all_mute deeds known put b s t a firm uncalled = grind (arith, there_too)
 -- A called end may select class 0 in it.
 turn_beside : (d : Direction) (local : Local) (turn : Turn) (old new : Joint) (t : TakesTurn turn old new)
     (deeds : ℕ → Deeds) (does : TurnDoes (calls_from d) deeds turn old new t) → IsFollowed d (wholes.begin (calls_from d) local) old →
-    IsFollowed d (wholes.begin (calls_from d) local) new → IsOngoing old.course.traffic.course → StandsBeside d local deeds old →
+    IsFollowed d (wholes.begin (calls_from d) local) new → IsOngoing old.judge.traffic.course → StandsBeside d local deeds old →
     UnlessZero d local (λ r. then_did (deeds r) (does.on.more r)) new
 turn_beside Left local turn old new t deeds does f g clear h =
     inl (record {
@@ -148,15 +148,15 @@ turn_beside Left local turn old new t deeds does f g clear h =
       besides = turns_quiet turn old new t deeds does h.besides;
     })
   where
-    closed_so : AreQuiet old → (i : ℕ) (c : Connection) → slice_get old.course.traffic.connections i ≡ Some c →
-        is_closing c.right.phase ≡ true → 0 < c.left.reference → stage_at c.left.reference old.holding.end.carrier ≡ early →
-        Tracked old.course.traffic.connections c.left.reference
+    closed_so : AreQuiet old → (i : ℕ) (c : Connection) → slice_get old.judge.traffic.connections i ≡ Some c →
+        is_closing c.right.phase ≡ true → 0 < c.left.reference → stage_at c.left.reference old.end.end.carrier ≡ early →
+        Tracked old.judge.traffic.connections c.left.reference
     closed_so quiet i c there closing some may = let q = quiet clear in grind arith
 turn_beside Right local turn old new t deeds does f g clear h =
     by (answers_or_selects local new g (subst (λ (c : Passed). IsOngoing c.traffic.course) (sym t.course) clear)
     (subst Agree (sym t.course) h.stands.standing.all.places))
   where
-    uncalled : UncalledUntil new.course
+    uncalled : UncalledUntil new.judge
     uncalled = step_kept UncalledUntil uncalled_claim Right (turns turn) old new t h.besides
 
     by : AllByRecursion AnswersTwo new.put ⊎ Selecting local g.whole →
@@ -167,9 +167,9 @@ turn_beside Right local turn old new t deeds does f g clear h =
       besides = uncalled;
     })
     by (inr z) =
-        let no_class : old.course.traffic.course.class ≡ None =
+        let no_class : old.judge.traffic.course.class ≡ None =
         ap (λ (c : Passed). c.traffic.course.class) (sym t.course) ∙ ap (λ (s : State). s.course.class) (sym g.judge) ∙ z.class in
-        let firm : old.course.traffic.course.loose ≡ false =
+        let firm : old.judge.traffic.course.loose ≡ false =
         ap (λ (c : Passed). c.traffic.course.loose) (sym t.course) ∙ ap (λ (s : State). s.course.loose) (sym g.judge)
         ∙ firm_unless_two g.whole.judge.course (called_joined local new g).two
         (λ two. none_some g.whole.judge.course.class Two z.class two) in
@@ -177,7 +177,7 @@ turn_beside Right local turn old new t deeds does f g clear h =
           followed = g;
           places = subst Agree (sym t.course) h.stands.standing.all.places;
           mute = subst (λ (c : Passed). IsMute Right c.sessions) (sym t.course)
-              (all_mute deeds (known_at old) old.put old.begun old.course.traffic old.course.sessions h.stands.standing.all firm
+              (all_mute deeds (known_at old) old.put old.begun old.judge.traffic old.judge.sessions h.stands.standing.all firm
               (h.besides no_class));
           why = λ two. first_not_zero z.x.source (acceptance Zero z.size z.x local z.r) z.more new.put (sym z.put ∙ g.put) refl two;
         })
@@ -203,7 +203,7 @@ module _ (local : Local) where
       besides = besides_own_passes d local deeds at v old new step h;
     });
     other_passes = λ deeds at octets units old new step taken not h.
-        let fine = fine_of d at units old.course taken in
+        let fine = fine_of d at units old.judge taken in
         inl (record {
           two = h.two;
           stands = stands_other_passes d local h.two deeds at octets units old new step fine h.stands;
@@ -212,8 +212,8 @@ module _ (local : Local) where
     turn = λ turn old new t deeds does f g clear h. turn_beside d local turn old new t deeds does f g clear h;
     stands = λ deeds j h. all_stand (known_at j) h.stands.standing.all;
     stands_amid = λ deeds at octets front back old new step taken not h.
-        all_stand (known_from (may_take old.holding.end.carrier) (units_in old.coming ++ front))
-        (hears_front d local h.two deeds at octets front back old step.0 step.1 (fine_of d at front old.course taken) h.stands).heard.stand;
+        all_stand (known_from (may_take old.end.end.carrier) (units_in old.coming ++ front))
+        (hears_front d local h.two deeds at octets front back old step.0 step.1 (fine_of d at front old.judge taken) h.stands).heard.stand;
   }
 
   begins_unless : (d : Direction) (h : Holding) → IsFresh (calls_from d) local h → UnlessZero d local (λ r. no_deeds) (begin h)

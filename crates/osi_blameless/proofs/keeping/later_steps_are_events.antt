@@ -9,8 +9,10 @@ use Rattle.osi_blameless.specs.transport.Wholes as wholes
 use Rattle.osi_rules.specs.Sides as sides
 use Rattle.osi_rules.specs.Traffic as traffic
 use Rattle.osi_blameless.proofs.keeping.a_break_ends_no_judging_or_all.{refused_traffic, refuses, unread_if}
-use Rattle.osi_blameless.proofs.keeping.a_carrier_does_events.{happen_join, units_join}
+use Rattle.osi_blameless.proofs.keeping.a_carrier_does_events.{units_join}
 use Rattle.osi_blameless.proofs.keeping.steps_are_events.{IsFollowed, passes_other_so, step_followed, turned}
+use Rattle.osi_blameless.proofs.what_each_thing_keeps_all_of_them_keep.{along_join}
+use Rattle.osi_blameless.proofs.Vocabulary.{Happens}
 
 fits_by : (r : Result (List Value) TpduFault) (packet : List ℕ) → IsOctets packet → units_of packet ≡ r → AllByRecursion Fits (units_by r)
 fits_by (Ok units) packet octets is = units_fit units packet (units_found packet units octets is)
@@ -26,9 +28,9 @@ module _ (d : Direction) (first : Whole) where
   later_followed (passes_other at packet units) old new (octets, read, is) f = grind (arith, passes_other_so, fits_by)
 
   module _ (at : ℕ) (cause : Cause) (packets : List (List ℕ)) (none : units_in packets ≡ []) (j : Joint) (f : IsFollowed d first j) where
-    spoilt_by : (b : Bool) → is_some (marks_of (other d) j.course).halted ≡ b → IsFollowed d first (spoilt d at cause packets j)
+    spoilt_by : (b : Bool) → is_some (marks_of (other d) j.judge).halted ≡ b → IsFollowed d first (spoilt d at cause packets j)
     spoilt_by true halted =
-        let same : unread (other d) at cause j.course ≡ j.course = ap (λ (b : Bool). unread_if b (other d) at cause j.course) halted in
+        let same : unread (other d) at cause j.judge ≡ j.judge = ap (λ (b : Bool). unread_if b (other d) at cause j.judge) halted in
         record {
           whole = f.whole;
           events = f.events;
@@ -40,13 +42,13 @@ module _ (d : Direction) (first : Whole) where
           like = f.like;
         }
     spoilt_by false goes =
-        let is : unread (other d) at cause j.course ≡ refuses (other d) at cause j.course =
-        ap (λ (b : Bool). unread_if b (other d) at cause j.course) goes in
+        let is : unread (other d) at cause j.judge ≡ refuses (other d) at cause j.judge =
+        ap (λ (b : Bool). unread_if b (other d) at cause j.judge) goes in
         let next : Whole = record f.whole { judge = traffic.refused (sides.other (way_of d)) f.whole.judge } in
         record {
           whole = next;
           events = f.events ++ wholes.passes_rubbish ∷ [];
-          along = happen_join (way_of d) f.events (wholes.passes_rubbish ∷ []) first f.whole next f.along (next, refl, refl);
+          along = along_join (Happens (way_of d)) f.events (wholes.passes_rubbish ∷ []) first f.whole next f.along (next, refl, refl);
           put = f.put;
           begun = f.begun;
           judge = grind (arith, turned, refused_traffic);
@@ -55,4 +57,4 @@ module _ (d : Direction) (first : Whole) where
         }
 
     pub spoilt_followed : IsFollowed d first (spoilt d at cause packets j)
-    spoilt_followed = spoilt_by (is_some (marks_of (other d) j.course).halted) refl
+    spoilt_followed = spoilt_by (is_some (marks_of (other d) j.judge).halted) refl

@@ -11,9 +11,11 @@ use Rattle.osi_rules.specs.Traffic as traffic
 use Rattle.osi_blameless.specs.transport.Pieces.{units_in}
 use Rattle.osi_blameless.specs.transport.Wholes as wholes
 use Rattle.osi_blameless.proofs.small_facts_that_many_lemmas_use.{over_none}
-use Rattle.osi_blameless.proofs.keeping.a_carrier_does_events.{IsLike, IsNext, comes, happen_join, none_of, units_join}
+use Rattle.osi_blameless.proofs.keeping.a_carrier_does_events.{IsLike, IsNext, comes, none_of, units_join}
 use Rattle.osi_blameless.proofs.steps.all_is_judged_or_nothing.{changes_traffic}
 use Rattle.osi_blameless.proofs.keeping.what_waits_changes_nothing.{bare}
+use Rattle.osi_blameless.proofs.what_each_thing_keeps_all_of_them_keep.{along_join}
+use Rattle.osi_blameless.proofs.Vocabulary.{Happens}
 
 -- ---- what the rules know of a unit, and of the units of a packet
 
@@ -36,9 +38,9 @@ pub record IsFollowed (d : Direction) (first : Whole) (j : Joint) : Type 0 where
   pub along : HappenAlong (way_of d) first events whole
   pub put : whole.put ≡ j.put
   pub begun : whole.begun ≡ j.begun
-  pub judge : whole.judge ≡ j.course.traffic
-  pub coming : j.holding.end.carrier.ended ≡ None → whole.coming ≡ units_in j.coming
-  pub like : IsLike whole.end j.holding.end.carrier
+  pub judge : whole.judge ≡ j.judge.traffic
+  pub coming : j.end.end.carrier.ended ≡ None → whole.coming ≡ units_in j.coming
+  pub like : IsLike whole.end j.end.end.carrier
 
 -- units of the other side pass
 record Passed (d : Direction) (at : ℕ) (units : List Value) (w : Whole) (c : Course) : Type 0 where
@@ -50,14 +52,15 @@ module _ (d : Direction) (first : Whole) where
 
   module _ (turn : Turn) (old new : Joint) (t : TakesTurn turn old new) (f : IsFollowed d first old) where
     -- with what is still to come after the turn
-    done : (later : List Value) → IsNext f.whole t.took later → (new.holding.end.carrier.ended ≡ None → later ≡ units_in new.coming) →
+    done : (later : List Value) → IsNext f.whole t.took later → (new.end.end.carrier.ended ≡ None → later ≡ units_in new.coming) →
         IsFollowed d first new
     done later now then_is =
-        let h = comes (way_of d) old.holding.end.carrier t.there t.took t.units t.makes f.whole later f.like now in
+        let h = comes (way_of d) old.end.end.carrier t.there t.took t.units t.makes f.whole later f.like now in
         record {
           whole = record f.whole { end = h.end; put = f.whole.put ++ t.units; coming = h.coming };
           events = f.events ++ h.events;
-          along = grind (arith, happen_join);
+          along = along_join (Happens (way_of d)) f.events h.events first f.whole
+              (record f.whole { end = h.end; put = f.whole.put ++ t.units; coming = h.coming }) f.along h.along;
           put = ap (λ (l : List Value). l ++ t.units) f.put ∙ sym t.put;
           begun = f.begun ∙ sym t.begun;
           judge = f.judge ∙ sym (ap (λ (c : Course). c.traffic) t.course);
@@ -67,7 +70,7 @@ module _ (d : Direction) (first : Whole) where
           like = subst (IsLike h.end) (sym t.same) (record { over = h.like.over; lasts = h.like.lasts });
         }
 
-    turn_by : (o : Option EndReason) → old.holding.end.carrier.ended ≡ o → IsFollowed d first new
+    turn_by : (o : Option EndReason) → old.end.end.carrier.ended ≡ o → IsFollowed d first new
     turn_by None lasts =
         done (t.left ++ units_in new.coming)
         (λ still. f.coming lasts ∙ ap units_in t.coming ∙ units_join t.used new.coming
@@ -78,18 +81,18 @@ module _ (d : Direction) (first : Whole) where
         (λ still. over_none f.whole.end.ended (sym f.like.over ∙ ap is_some over) still) (λ still. refl)
 
     turn_followed : IsFollowed d first new
-    turn_followed = turn_by old.holding.end.carrier.ended refl
+    turn_followed = turn_by old.end.end.carrier.ended refl
 
   -- ---- the judge
 
   begins_own_so : (old new : Joint) → old.put ≢ [] → old.begun ≡ false →
-      new ≡ record old { begun = true; course = packet_begins d old.course } → IsFollowed d first old → IsFollowed d first new
+      new ≡ record old { begun = true; judge = packet_begins d old.judge } → IsFollowed d first old → IsFollowed d first new
   begins_own_so old new some none is f =
       let next : Whole = record f.whole { begun = true; judge = traffic.packet_begins (way_of d) f.whole.judge } in
       subst (IsFollowed d first) (sym is) (record {
         whole = next;
         events = f.events ++ wholes.begins_own ∷ [];
-        along = happen_join (way_of d) f.events (wholes.begins_own ∷ []) first f.whole next f.along
+        along = along_join (Happens (way_of d)) f.events (wholes.begins_own ∷ []) first f.whole next f.along
             (next, ((λ nothing. some (sym f.put ∙ nothing)), f.begun ∙ none, refl), refl);
         put = f.put;
         begun = refl;
@@ -99,7 +102,7 @@ module _ (d : Direction) (first : Whole) where
       })
 
   passes_own_so : (old new : Joint) (at : ℕ) (unit : Value) → old.put ≡ unit ∷ new.put → old.begun ≡ true →
-      new ≡ record old { put = new.put; begun = false; course = units_pass d at (unit ∷ []) old.course } → IsFollowed d first old →
+      new ≡ record old { put = new.put; begun = false; judge = units_pass d at (unit ∷ []) old.judge } → IsFollowed d first old →
       IsFollowed d first new
   passes_own_so old new at unit put begun is f =
       let first_is : f.whole.put ≡ unit ∷ new.put = f.put ∙ put in
@@ -107,23 +110,23 @@ module _ (d : Direction) (first : Whole) where
       subst (IsFollowed d first) (sym is) (record {
         whole = next;
         events = f.events ++ wholes.passes_own ∷ [];
-        along = happen_join (way_of d) f.events (wholes.passes_own ∷ []) first f.whole next f.along
-            (next, (unit, first_is, f.begun ∙ begun, refl), refl);
+        along = along_join (Happens (way_of d)) f.events (wholes.passes_own ∷ []) first f.whole next f.along
+            (next, (unit, (first_is, f.begun ∙ begun, refl)), refl);
         put = refl;
         begun = refl;
-        judge = ap (λ (t : Traffic). (takes (way_of d) unit t).state) f.judge ∙ sym (unit_traffic d at unit old.course);
+        judge = ap (λ (t : Traffic). (takes (way_of d) unit t).state) f.judge ∙ sym (unit_traffic d at unit old.judge);
         coming = f.coming;
         like = f.like;
       })
 
-  begins_other_so : (old new : Joint) → new ≡ record old { course = packet_begins (other d) old.course } → IsFollowed d first old →
+  begins_other_so : (old new : Joint) → new ≡ record old { judge = packet_begins (other d) old.judge } → IsFollowed d first old →
       IsFollowed d first new
   begins_other_so old new is f =
       let next : Whole = record f.whole { judge = traffic.packet_begins (sides.other (way_of d)) f.whole.judge } in
       subst (IsFollowed d first) (sym is) (record {
         whole = next;
         events = f.events ++ wholes.begins_other ∷ [];
-        along = happen_join (way_of d) f.events (wholes.begins_other ∷ []) first f.whole next f.along (next, refl, refl);
+        along = along_join (Happens (way_of d)) f.events (wholes.begins_other ∷ []) first f.whole next f.along (next, refl, refl);
         put = f.put;
         begun = f.begun;
         judge = grind (arith, turned);
@@ -151,17 +154,17 @@ module _ (d : Direction) (first : Whole) where
 
   pub passes_other_so : (old new : Joint) (at : ℕ) (packet : List ℕ) (units : List Value) → AllByRecursion Fits units →
       units_by (units_of packet) ≡ units →
-      new ≡ record old { course = units_pass (other d) at units old.course; coming = old.coming ++ packet ∷ [] } →
+      new ≡ record old { judge = units_pass (other d) at units old.judge; coming = old.coming ++ packet ∷ [] } →
       IsFollowed d first old → IsFollowed d first new
   passes_other_so old new at packet units fits read is f =
-      let p = units_so at units f.whole old.course fits f.judge in
-      let next : Whole = record f.whole { judge = (units_pass (other d) at units old.course).traffic; coming = f.whole.coming ++ units } in
+      let p = units_so at units f.whole old.judge fits f.judge in
+      let next : Whole = record f.whole { judge = (units_pass (other d) at units old.judge).traffic; coming = f.whole.coming ++ units } in
       let one : units_in (packet ∷ []) ≡ units =
       append-nil (units_by (units_of packet)) ∙ read in
       subst (IsFollowed d first) (sym is) (record {
         whole = next;
         events = f.events ++ p.events;
-        along = happen_join (way_of d) f.events p.events first f.whole next f.along p.along;
+        along = along_join (Happens (way_of d)) f.events p.events first f.whole next f.along p.along;
         put = f.put;
         begun = f.begun;
         judge = refl;
@@ -174,7 +177,7 @@ module _ (d : Direction) (first : Whole) where
   pub step_followed : (step : Step) (old new : Joint) → Steps d step old new → IsFollowed d first old → IsFollowed d first new
   step_followed (turns turn) old new t f = turn_followed turn old new t f
   step_followed begins_own old new (some, none, is) f = begins_own_so old new some none is f
-  step_followed (passes_own at unit) old new (read, octets, put, begun, is) f = passes_own_so old new at unit put begun is f
+  step_followed (passes_own at unit) old new (read, octets, (put, begun, is)) f = passes_own_so old new at unit put begun is f
   step_followed begins_other old new is f = begins_other_so old new is f
   step_followed (passes_other at packet units) old new (octets, read, is) f =
       passes_other_so old new at packet units (units_fit units packet (units_found packet units octets read)) (ap units_by read) is f

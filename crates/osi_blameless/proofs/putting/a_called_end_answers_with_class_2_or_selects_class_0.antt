@@ -11,12 +11,12 @@ use Rattle.osi_blameless.proofs.putting.each_cc_of_a_called_end_opens_another_co
 use Rattle.osi_blameless.proofs.putting.ccs_among_units.{AnswersTwo}
 
 module _ (local : Local) (j : Joint) (f : IsFollowed side.Right (begin false local) j)
-    (clear : IsOngoing j.course.traffic.course) (places : HaveSamePlaces j.course.traffic.connections j.course.sessions.live) where
+    (clear : IsOngoing j.judge.traffic.course) (places : HaveSamePlaces j.judge.traffic.connections j.judge.sessions.live) where
   by : HasLines local f.whole ⊎ Selecting local f.whole → AllByRecursion AnswersTwo j.put ⊎ Selecting local f.whole
   by (inl h) =
-      let there : HaveSamePlaces f.whole.judge.connections j.course.sessions.live =
-      subst (λ (s : Traffic). HaveSamePlaces s.connections j.course.sessions.live) (sym f.judge) places in
-      inl (subst (AllByRecursion AnswersTwo) f.put (put_answers_two local f.whole j.course.sessions h there))
+      let there : HaveSamePlaces f.whole.judge.connections j.judge.sessions.live =
+      subst (λ (s : Traffic). HaveSamePlaces s.connections j.judge.sessions.live) (sym f.judge) places in
+      inl (subst (AllByRecursion AnswersTwo) f.put (put_answers_two local f.whole j.judge.sessions h there))
   by (inr z) = inr z
 
   pub answers_or_selects : AllByRecursion AnswersTwo j.put ⊎ Selecting local f.whole

@@ -18,14 +18,14 @@ units_more some packet units read =
 pub record UsesSo (old new : Joint) (took : List Value) : Type 0 where
   pub left : List Value
   pub coming : units_in old.coming ≡ took ++ (left ++ units_in new.coming)
-  pub all : new.holding.end.carrier.ended ≡ None → left ≡ []
+  pub all : new.end.end.carrier.ended ≡ None → left ≡ []
 
 pub turn_uses : (turn : Turn) (old new : Joint) (t : TakesTurn turn old new) (is_caller : Bool) (deeds : ℕ → Deeds)
-    (on : Continues is_caller deeds old.holding turn new.holding) → old.holding.end.carrier.ended ≡ None →
+    (on : Continues is_caller deeds old.end turn new.end) → old.end.end.carrier.ended ≡ None →
     UsesSo old new (all_units on.took)
 turn_uses turn old new t is_caller deeds on lasts =
-    let a : AreFirst on.used t.used new.holding.end.carrier.ended =
-    are_first on.used t.used (old.holding.held.octets ++ turn.used) on.rest t.rest new.holding.end.carrier.ended on.cut (t.cut lasts)
+    let a : AreFirst on.used t.used new.end.end.carrier.ended =
+    are_first on.used t.used (old.end.held.octets ++ turn.used) on.rest t.rest new.end.end.carrier.ended on.cut (t.cut lasts)
     (λ still. on.held still ∙ sym (t.held still)) (t.all lasts) in
     record {
       left = units_in a.more;

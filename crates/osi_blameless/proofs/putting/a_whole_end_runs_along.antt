@@ -14,7 +14,7 @@ use Rattle.osi_blameless.proofs.putting.ccs_among_units.{AnswersTwo, first_not_z
 
 -- ---- as long as both sides are judged
 
-judged_along : (d : Direction) (first : Whole) (j : Joint) (f : IsFollowed d first j) → IsOngoing j.course.traffic.course →
+judged_along : (d : Direction) (first : Whole) (j : Joint) (f : IsFollowed d first j) → IsOngoing j.judge.traffic.course →
     IsOngoing f.whole.judge.course
 judged_along d first j f clear = subst (λ (s : State). IsOngoing s.course) (sym f.judge) clear
 
@@ -28,11 +28,11 @@ module _ (local : Local) (two : local.class2 ≡ true) where
     pub whole_joined : Follows local f.whole
     whole_joined = all_joined local f.events first f.whole f.along (first_joined local two)
 
-    module _ (clear : IsOngoing j.course.traffic.course) where
+    module _ (clear : IsOngoing j.judge.traffic.course) where
       pub whole_followed : Followed local f.whole
       whole_followed = whole_joined.followed (judged_along Left first j f clear)
 
-      pub peers_apart : AreUsedApart Left j.course.traffic.connections
+      pub peers_apart : AreUsedApart Left j.judge.traffic.connections
       peers_apart =
           subst (λ (s : State). AreUsedApart Left s.connections) f.judge
           (named_apart Left f.whole.judge.connections whole_joined.kept.sane.apart
@@ -51,7 +51,7 @@ module _ (local : Local) (j : Joint) (f : IsFollowed Right (wholes.begin false l
   pub called_joined : fair.Joined local f.whole
   called_joined = fair.all_joined local f.events (wholes.begin false local) f.whole f.along (fair.first_joined local)
 
-  module _ (clear : IsOngoing j.course.traffic.course) where
+  module _ (clear : IsOngoing j.judge.traffic.course) where
     abbrev judge_clear : IsOngoing f.whole.judge.course
     judge_clear = judged_along Right (wholes.begin false local) j f clear
 

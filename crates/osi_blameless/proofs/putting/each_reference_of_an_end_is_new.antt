@@ -10,7 +10,6 @@ use Rattle.osi_blameless.proofs.Vocabulary.{turns, HaveSamePlaces}
 use Rattle.osi_blameless.specs.transport.Wholes as wholes
 use Rattle.osi_judge.specs.Connections.{packet_begins}
 use Rattle.osi_judge.specs.Connections as joined
-use Rattle.osi_blameless.proofs.keeping.a_carrier_does_events.{happen_join}
 use Rattle.osi_blameless.proofs.keeping.steps_are_events.{IsFollowed, begin_followed, step_followed}
 use Rattle.osi_blameless.proofs.standing.all_connections_stand.{map_of}
 use Rattle.osi_blameless.proofs.shown.connections_have_the_same_places.{unit_agrees, unit_joins, unit_knows}
@@ -18,6 +17,8 @@ use Rattle.osi_blameless.proofs.putting.units_that_wait_give_references_above_th
 use Rattle.osi_blameless.proofs.putting.references_of_an_end_are_distinct.{GivesNew, IsUnused}
 use Rattle.osi_blameless.proofs.standing.what_a_unit_does_at_its_place.{Does, asks_again, asks_more, nowhere, somewhere, unit_does}
 use Rattle.osi_blameless.proofs.standing.what_stands_of_a_connection.{named_begun}
+use Rattle.osi_blameless.proofs.what_each_thing_keeps_all_of_them_keep.{along_join}
+use Rattle.osi_blameless.proofs.Vocabulary.{Happens}
 
 -- ---- references at a judge
 
@@ -122,7 +123,7 @@ pub record IsAhead (d : Direction) (first : Whole) (j : Joint) : Type 0 where
   pub followed : IsFollowed d first j
   pub bound : ℕ
   pub above : AreAbove d bound followed.whole
-  pub below : AreUpTo d bound j.course.sessions
+  pub below : AreUpTo d bound j.judge.sessions
 
 first_above : (d : Direction) (local : Local) → AreAbove d 0 (wholes.begin (calls_from d) local)
 first_above d local = record { rise = tt; up = tt; given = omega arith }
@@ -171,7 +172,7 @@ module _ (d : Direction) (first : Whole) where
   -- ---- each step
 
   goes_on : (step : Step) (old new : Joint) → Steps d step old new → (h : IsAhead d first old) →
-      AreUpTo d h.bound new.course.sessions → GoesOn d first h.bound new
+      AreUpTo d h.bound new.judge.sessions → GoesOn d first h.bound new
   goes_on step old new does h up =
       let f = h.followed in
       let g : IsFollowed d f.whole new = step_followed d f.whole step old new does (from_here old f) in
@@ -179,7 +180,7 @@ module _ (d : Direction) (first : Whole) where
         followed = record {
           whole = g.whole;
           events = f.events ++ g.events;
-          along = happen_join (way_of d) f.events g.events first f.whole g.whole f.along g.along;
+          along = along_join (Happens (way_of d)) f.events g.events first f.whole g.whole f.along g.along;
           put = g.put;
           begun = g.begun;
           judge = g.judge;
@@ -202,85 +203,85 @@ module _ (d : Direction) (first : Whole) where
       GoesOn d first h.bound new
   begins_own_ahead old new step h =
       goes_on begins_own old new step h
-      (subst (λ (j : Joint). AreUpTo d h.bound j.course.sessions) (sym step.2) (begins_up d d h.bound old.course.sessions h.below))
+      (subst (λ (j : Joint). AreUpTo d h.bound j.judge.sessions) (sym step.2) (begins_up d d h.bound old.judge.sessions h.below))
 
   pub begins_other_ahead : (old new : Joint) → Steps d begins_other old new → (h : IsAhead d first old) →
       GoesOn d first h.bound new
   begins_other_ahead old new step h =
       goes_on begins_other old new step h
-      (subst (λ (j : Joint). AreUpTo d h.bound j.course.sessions) (sym step) (begins_up d (other d) h.bound old.course.sessions h.below))
+      (subst (λ (j : Joint). AreUpTo d h.bound j.judge.sessions) (sym step) (begins_up d (other d) h.bound old.judge.sessions h.below))
 
   -- the units of the other side give no reference
   pub passes_other_ahead : (at : ℕ) (packet : List ℕ) (units : List Value) (old new : Joint) →
-      Steps d (passes_other at packet units) old new → (h : IsAhead d first old) → AreUpTo d h.bound new.course.sessions →
+      Steps d (passes_other at packet units) old new → (h : IsAhead d first old) → AreUpTo d h.bound new.judge.sessions →
       GoesOn d first h.bound new
   passes_other_ahead at packet units old new step h up = goes_on (passes_other at packet units) old new step h up
 
   pub other_up : (at b : ℕ) (packet : List ℕ) (units : List Value) (old new : Joint) → Steps d (passes_other at packet units) old new →
-      HaveSamePlaces old.course.traffic.connections old.course.sessions.live → AllByRecursion (IsUpTo d b) units →
-      AreUpTo d b old.course.sessions → AreUpTo d b new.course.sessions
+      HaveSamePlaces old.judge.traffic.connections old.judge.sessions.live → AllByRecursion (IsUpTo d b) units →
+      AreUpTo d b old.judge.sessions → AreUpTo d b new.judge.sessions
   other_up at b packet units old new step places none h =
-      subst (λ (j : Joint). AreUpTo d b j.course.sessions) (sym step.2) (units_up d (other d) b at units old.course places none h)
+      subst (λ (j : Joint). AreUpTo d b j.judge.sessions) (sym step.2) (units_up d (other d) b at units old.judge places none h)
 
   -- ---- a unit of the end
 
   -- the reference of one that passes is above
   pub passes_above : (at : ℕ) (v : Value) (r : ℕ) → gives d v ≡ Some r → (old new : Joint) → Steps d (passes_own at v) old new →
       (h : IsAhead d first old) → h.bound < r
-  passes_above at v r given old new (read, octets, put, begun, is) h =
+  passes_above at v r given old new (read, octets, (put, begun, is)) h =
       let w = h.followed.whole in
       let s : h.followed.whole.put ≡ v ∷ new.put = h.followed.put ∙ put in
       (passes_given d h.bound r v new.put w (record w { put = new.put }) given s refl refl h.above).new_is
 
   pub gives_new : (at : ℕ) (v : Value) (old new : Joint) → Steps d (passes_own at v) old new → IsAhead d first old →
-      GivesNew d v old.course.sessions
+      GivesNew d v old.judge.sessions
   gives_new at v old new step h = by (gives d v) refl
     where
-      by : (o : Option ℕ) → gives d v ≡ o → GivesNew d v old.course.sessions
-      by None none = none_new d v old.course.sessions none
-      by (Some r) given = some_new d v r old.course.sessions given
-          (above_unused d h.bound r old.course.sessions h.below (passes_above at v r given old new step h))
+      by : (o : Option ℕ) → gives d v ≡ o → GivesNew d v old.judge.sessions
+      by None none = none_new d v old.judge.sessions none
+      by (Some r) given = some_new d v r old.judge.sessions given
+          (above_unused d h.bound r old.judge.sessions h.below (passes_above at v r given old new step h))
 
   pub passes_highest : (at : ℕ) (v : Value) (r : ℕ) → gives d v ≡ Some r → (old new : Joint) → Steps d (passes_own at v) old new →
-      HaveSamePlaces old.course.traffic.connections old.course.sessions.live → (h : IsAhead d first old) →
+      HaveSamePlaces old.judge.traffic.connections old.judge.sessions.live → (h : IsAhead d first old) →
       GivesHighest d first h.bound r new
-  passes_highest at v r given old new (read, octets, put, begun, is) places h =
+  passes_highest at v r given old new (read, octets, (put, begun, is)) places h =
       let f = h.followed in
       let s : f.whole.put ≡ v ∷ new.put = f.put ∙ put in
       let next : Whole = record f.whole { put = new.put; begun = false; judge = (takes (way_of d) v f.whole.judge).state } in
       let k = passes_given d h.bound r v new.put f.whole next given s refl refl h.above in
       let less = k.new_is in
-      let mid : Joint = record old { put = new.put; begun = false; course = units_pass d at (v ∷ []) old.course } in
+      let mid : Joint = record old { put = new.put; begun = false; judge = units_pass d at (v ∷ []) old.judge } in
       let ahead : IsAhead d first mid = record {
         followed = record {
           whole = next;
           events = f.events ++ wholes.passes_own ∷ [];
-          along = happen_join (way_of d) f.events (wholes.passes_own ∷ []) first f.whole next f.along
-              (next, (v, s, f.begun ∙ begun, refl), refl);
+          along = along_join (Happens (way_of d)) f.events (wholes.passes_own ∷ []) first f.whole next f.along
+              (next, (v, (s, f.begun ∙ begun, refl)), refl);
           put = refl;
           begun = refl;
-          judge = ap (λ (t : State). (takes (way_of d) v t).state) f.judge ∙ sym (unit_knows d at v old.course);
+          judge = ap (λ (t : State). (takes (way_of d) v t).state) f.judge ∙ sym (unit_knows d at v old.judge);
           coming = f.coming;
           like = f.like;
         };
         bound = r;
         above = k.above;
-        below = unit_up d d r at v old.course places (some_up d r r v given (omega (arith, less)) (omega arith))
-            (up_higher d h.bound r old.course.sessions (omega (arith, less)) h.below);
+        below = unit_up d d r at v old.judge places (some_up d r r v given (omega (arith, less)) (omega arith))
+            (up_higher d h.bound r old.judge.sessions (omega (arith, less)) h.below);
       } in
       subst (GivesHighest d first h.bound r) (sym is) (record { higher = less; ahead = ahead; bound = refl })
 
   passes_another : (at : ℕ) (v : Value) (old new : Joint) → Steps d (passes_own at v) old new →
-      HaveSamePlaces old.course.traffic.connections old.course.sessions.live → (h : IsAhead d first old) → gives d v ≡ None →
+      HaveSamePlaces old.judge.traffic.connections old.judge.sessions.live → (h : IsAhead d first old) → gives d v ≡ None →
       PassesOn d first h.bound v new
   passes_another at v old new step places h none =
       let g = goes_on (passes_own at v) old new step h
-      (subst (λ (j : Joint). AreUpTo d h.bound j.course.sessions) (sym step.4)
-      (unit_up d d h.bound at v old.course places (none_up d h.bound v none) h.below)) in
+      (subst (λ (j : Joint). AreUpTo d h.bound j.judge.sessions) (sym step.2.2)
+      (unit_up d d h.bound at v old.judge places (none_up d h.bound v none) h.below)) in
       record { on = g; up = none_up d g.ahead.bound v none }
 
   pub passes_own_ahead : (at : ℕ) (v : Value) (old new : Joint) → Steps d (passes_own at v) old new →
-      HaveSamePlaces old.course.traffic.connections old.course.sessions.live → (h : IsAhead d first old) → PassesOn d first h.bound v new
+      HaveSamePlaces old.judge.traffic.connections old.judge.sessions.live → (h : IsAhead d first old) → PassesOn d first h.bound v new
   passes_own_ahead at v old new step places h = by (gives d v) refl
     where
       by : (o : Option ℕ) → gives d v ≡ o → PassesOn d first h.bound v new

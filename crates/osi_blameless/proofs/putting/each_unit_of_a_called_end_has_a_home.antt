@@ -178,25 +178,25 @@ module _ (local : Local) (w : Whole) (t : Sessions) (lined : HasLines local w) (
 
 -- no connection opens by a CC that has come
 abbrev pub OpensByNoCc : (local : Local) (deeds : ℕ → Deeds) (turn : Turn) (old new : Joint) (step : TakesTurn turn old new)
-    (on : Continues false deeds old.holding turn new.holding) → IsFollowed Right (begin false local) old → Type 1
-OpensByNoCc local deeds turn old new step on f = old.holding.end.carrier.ended ≡ None → (q : ℕ) → 0 < q →
-    open_link q old.holding.end.carrier ≡ None → (n : ℕ) (x : Connect) → n ≡ q → IsThere (confirm n x) f.whole.coming → AreApart q on.put
+    (on : Continues false deeds old.end turn new.end) → IsFollowed Right (begin false local) old → Type 1
+OpensByNoCc local deeds turn old new step on f = old.end.end.carrier.ended ≡ None → (q : ℕ) → 0 < q →
+    open_link q old.end.end.carrier ≡ None → (n : ℕ) (x : Connect) → n ≡ q → IsThere (confirm n x) f.whole.coming → AreApart q on.put
 
 module _ (local : Local) (deeds : ℕ → Deeds) (turn : Turn) (old new : Joint) (step : TakesTurn turn old new)
-    (on : Continues false deeds old.holding turn new.holding) (f : IsFollowed Right (begin false local) old)
+    (on : Continues false deeds old.end turn new.end) (f : IsFollowed Right (begin false local) old)
     (h : HasLines local f.whole)
-    (places : HaveSamePlaces old.course.traffic.connections old.course.sessions.live)
-    (news : AllByRecursion (λ (v : Value). GivesNew Right v old.course.sessions) (all_units on.put))
+    (places : HaveSamePlaces old.judge.traffic.connections old.judge.sessions.live)
+    (news : AllByRecursion (λ (v : Value). GivesNew Right v old.judge.sessions) (all_units on.put))
     (class_2 : AllByRecursion IsNotZero (all_units on.put))
     (no_cc : OpensByNoCc local deeds turn old new step on f) where
   abbrev s : State
-  s = old.course.traffic
+  s = old.judge.traffic
 
   abbrev t : Sessions
-  t = old.course.sessions
+  t = old.judge.sessions
 
   abbrev carrier : Carrier
-  carrier = old.holding.end.carrier
+  carrier = old.end.end.carrier
 
   abbrev LivedSo : ℕ → Type 0
   LivedSo q = Lived Right false (begin false local) deeds turn old new step on f q
@@ -213,7 +213,7 @@ module _ (local : Local) (deeds : ℕ → Deeds) (turn : Turn) (old new : Joint)
       (subst (AllByRecursion (λ (m : Marked). GivesNew Right m.1 t)) (parts ∙ ap (λ (x : List Marked). others ++ x) is) before))
 
   home_by : (lasts : carrier.ended ≡ None) (q : ℕ) → 0 < q → (l : LivedSo q) →
-      Begins false q l.peer carrier new.holding.end.carrier l.arrived l.left → (AreApart q on.put → ⊥) →
+      Begins false q l.peer carrier new.end.end.carrier l.arrived l.left → (AreApart q on.put → ⊥) →
       IsHomed Right q l.peer f.whole.judge t
   home_by lasts q positive l (opened link there none none_left) some =
       linked_homed local f.whole t h (grind arith)

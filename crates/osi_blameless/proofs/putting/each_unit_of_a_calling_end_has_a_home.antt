@@ -114,16 +114,16 @@ linked_by false given (Some (linked q link)) peer is =
 
 module _ (local : Local) (two : local.class2 ≡ true) (deeds : ℕ → Deeds) (turn : Turn) (old new : Joint) (step : TakesTurn turn old new)
     (does : TurnDoes true deeds turn old new step) (f : IsFollowed Left (begin true local) old)
-    (g : IsFollowed Left (begin true local) new) (clear : IsOngoing old.course.traffic.course)
-    (places : HaveSamePlaces old.course.traffic.connections old.course.sessions.live) where
+    (g : IsFollowed Left (begin true local) new) (clear : IsOngoing old.judge.traffic.course)
+    (places : HaveSamePlaces old.judge.traffic.connections old.judge.sessions.live) where
   abbrev s : State
-  s = old.course.traffic
+  s = old.judge.traffic
 
   abbrev t : Sessions
-  t = old.course.sessions
+  t = old.judge.sessions
 
   abbrev carrier : Carrier
-  carrier = old.holding.end.carrier
+  carrier = old.end.end.carrier
 
   abbrev IsPut : ℕ → Type 0
   IsPut q = IsPutFor Left true (begin true local) deeds turn old new step does.on f q f.whole.judge t
@@ -210,22 +210,22 @@ module _ (local : Local) (two : local.class2 ≡ true) (deeds : ℕ → Deeds) (
     by_free u free (opens_by peer unit o front later apart is others answer put_later apart_too no_answer ans so w) =
         not_given peer unit o front later is free
 
-    by_stage : (x : Stage) → stage_at q carrier ≡ x → Life true q x does.on.took does.on.put (stage_at q new.holding.end.carrier) → IsPut q
+    by_stage : (x : Stage) → stage_at q carrier ≡ x → Life true q x does.on.took does.on.put (stage_at q new.end.end.carrier) → IsPut q
     by_stage past is w = absurd (some w.none_put)
     by_stage (amid peer) is w =
         let (link, here) = linked_by (is_some carrier.ended) (has_given q carrier) (value_at q carrier.live) peer is in
         record {
           peer = peer;
-          goes = gives_so peer [] does.on.put does.on.took (stage_at q new.holding.end.carrier) w tt refl;
+          goes = gives_so peer [] does.on.put does.on.took (stage_at q new.end.end.carrier) w tt refl;
           homed = known (linked_home local f.whole t followed places_so wholes q peer link ((grind (arith, wholes)) ∙ here));
         }
     by_stage early is w = by (has_given q carrier) refl
       where
         by : (b : Bool) → has_given q carrier ≡ b → IsPut q
         by true has =
-            by_opening (has_given q new.holding.end.carrier) (stage_at q new.holding.end.carrier) (asked_so q carrier has is).1
+            by_opening (has_given q new.end.end.carrier) (stage_at q new.end.end.carrier) (asked_so q carrier has is).1
             (does.first q positive has is)
-        by false free = by_free (stage_at q new.holding.end.carrier) free w
+        by false free = by_free (stage_at q new.end.end.carrier) free w
 
     is_put : IsPut q
     is_put = by_stage (stage_at q carrier) refl (does.life q positive)

@@ -78,22 +78,22 @@ never_early s e h = absurd (cc (sym e ∙ h))
 
 pub turn_undone : (b : ℕ) (turn : Turn) (old new : Joint) (t : TakesTurn turn old new) (deeds : ℕ → Deeds)
     (does : TurnDoes true deeds turn old new t) →
-    (old.holding.end.carrier.ended ≡ None → (r : ℕ) → b < r → stage_at r old.holding.end.carrier ≡ early →
-    AllByRecursion (IsNotCc r) (units_in old.coming)) → AreUndone b deeds old.holding.end.carrier →
-    AreUndone b (λ r. then_did (deeds r) (does.on.more r)) new.holding.end.carrier
+    (old.end.end.carrier.ended ≡ None → (r : ℕ) → b < r → stage_at r old.end.end.carrier ≡ early →
+    AllByRecursion (IsNotCc r) (units_in old.coming)) → AreUndone b deeds old.end.end.carrier →
+    AreUndone b (λ r. then_did (deeds r) (does.on.more r)) new.end.end.carrier
 turn_undone b turn old new t deeds does none u r less =
     let some : 0 < r = omega (arith, less) in
-    life_undone r (deeds r) (does.on.more r) does.on.took does.on.put (does.on.own r some) (does.on.taken r some) (stage_at r old.holding.end.carrier)
-    (stage_at r new.holding.end.carrier) (does.life r some) (λ is. by old.holding.end.carrier.ended refl is) (u r less)
+    life_undone r (deeds r) (does.on.more r) does.on.took does.on.put (does.on.own r some) (does.on.taken r some) (stage_at r old.end.end.carrier)
+    (stage_at r new.end.end.carrier) (does.life r some) (λ is. by old.end.end.carrier.ended refl is) (u r less)
   where
-    by : (o : Option EndReason) → old.holding.end.carrier.ended ≡ o → stage_at r old.holding.end.carrier ≡ early →
+    by : (o : Option EndReason) → old.end.end.carrier.ended ≡ o → stage_at r old.end.end.carrier ≡ early →
         AllByRecursion (IsNotCc r) (all_units does.on.took)
     by None lasts is =
         let s = turn_uses turn old new t true deeds does.on lasts in
         all_left (IsNotCc r) (all_units does.on.took) (s.left ++ units_in new.coming)
         (subst (AllByRecursion (IsNotCc r)) s.coming (none lasts r less is))
     by (Some reason) over is =
-        never_early (stage_at r old.holding.end.carrier) (stage_over r old.holding.end.carrier (ap is_some over)) is
+        never_early (stage_at r old.end.end.carrier) (stage_over r old.end.end.carrier (ap is_some over)) is
 
 -- ---- what has come, as the whole end has it
 
@@ -124,15 +124,15 @@ module _ (b : ℕ) (s : State) (t : Sessions) (end : Carrier) (places : HaveSame
       by x is (inr has) = tracked_low (h.0 r x is lasts (inl (asked_so r end has may).1)).0
 
 pub none_come : (b : ℕ) (local : Local) (first : Whole) (j : Joint) (f : IsFollowed Left first j) → Followed local f.whole →
-    HaveSamePlaces j.course.traffic.connections j.course.sessions.live → AreUpTo Left b j.course.sessions →
-    j.holding.end.carrier.ended ≡ None → (r : ℕ) → b < r → stage_at r j.holding.end.carrier ≡ early →
+    HaveSamePlaces j.judge.traffic.connections j.judge.sessions.live → AreUpTo Left b j.judge.sessions →
+    j.end.end.carrier.ended ≡ None → (r : ℕ) → b < r → stage_at r j.end.end.carrier ≡ early →
     AllByRecursion (IsNotCc r) (units_in j.coming)
 none_come b local first j f h places up lasts r less may =
     let whole_lasts = none_of f.whole.end.ended (sym f.like.over ∙ ap is_some lasts) in
-    let alike : stage_at r f.whole.end ≡ stage_at r j.holding.end.carrier = ap (stage_at r) (f.like.lasts whole_lasts) in
+    let alike : stage_at r f.whole.end ≡ stage_at r j.end.end.carrier = ap (stage_at r) (f.like.lasts whole_lasts) in
     subst (AllByRecursion (IsNotCc r)) (f.coming lasts ∙ same_units j.coming)
-    (none_comes b f.whole.judge j.course.sessions f.whole.end
-    (subst (λ (s : State). HaveSamePlaces s.connections j.course.sessions.live) (sym f.judge) places) up whole_lasts r less (alike ∙ may)
+    (none_comes b f.whole.judge j.judge.sessions f.whole.end
+    (subst (λ (s : State). HaveSamePlaces s.connections j.judge.sessions.live) (sym f.judge) places) up whole_lasts r less (alike ∙ may)
     f.whole.coming h.answers h.few)
 
 -- ---- a CR that passes
@@ -190,7 +190,7 @@ cr_ready b deeds c x coming rest s t less u none = grind (arith, parts_taken, pa
 -- as the whole end says of a CR that it has put
 pub cr_calm : (local : Local) (first : Whole) (j : Joint) (f : IsFollowed Left first j) → Followed local f.whole → (x : Connect)
     (rest : List Value) → f.whole.put ≡ request x ∷ rest → AllByRecursion IsNoZero (units_in j.coming) →
-    j.holding.end.carrier.ended ≡ None → waiting_for (Some x.source) (units_in j.coming) ≡ []
+    j.end.end.carrier.ended ≡ None → waiting_for (Some x.source) (units_in j.coming) ≡ []
 cr_calm local first j f h x rest put zero lasts =
     let asking =
     (subst (AllByRecursion (λ (v : Value). (y : Connect) → v ≡ request y → IsAsking local f.whole.end f.whole.coming y)) put h.requests).0

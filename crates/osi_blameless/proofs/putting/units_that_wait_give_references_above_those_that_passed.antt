@@ -12,6 +12,7 @@ use Rattle.osi_blameless.proofs.Vocabulary.{ended_gives, not_less, sent_gives, R
 use Rattle.osi_blameless.proofs.Vocabulary.{Direction, Left, Right, way_of}
 use Rattle.osi_carrier.specs.State.{Outcome}
 use Rattle.osi_blameless.specs.transport.Wholes as wholes
+use Rattle.osi_blameless.proofs.what_each_thing_keeps_all_of_them_keep.{along_keeps}
 
 -- ---- which references units give
 
@@ -212,12 +213,11 @@ module _ (d : Direction) (b : ℕ) where
   above_happens (wholes.calls call) old new (may, is) a =
       subst (AreAbove d b) (sym is) (grows old (user_does call old.end) (put_by call old.end) old.coming (by_call d call old.end) a)
   above_happens wholes.begins_own old new (some, none, is) a = grind arith
-  above_happens wholes.passes_own old new (v, put, begun, is) a =
+  above_happens wholes.passes_own old new (v, (put, begun, is)) a =
       passes (gives d v) v old new refl put (ap (λ (w : Whole). w.end) is) a
   above_happens wholes.begins_other old new is a = grind arith
   above_happens (wholes.passes_other v) old new (ranges, is) a = grind arith
   above_happens wholes.passes_rubbish old new is a = grind arith
 
   pub above_along : (events : List Event) (old new : Whole) → HappenAlong (way_of d) old events new → AreAbove d b old → AreAbove d b new
-  above_along [] old new e a = subst (AreAbove d b) (sym e) a
-  above_along (event ∷ events) old new (mid, first, more) a = above_along events mid new more (above_happens event old mid first a)
+  above_along = along_keeps (Happens (way_of d)) (AreAbove d b) above_happens

@@ -76,12 +76,12 @@ by_units P [] h = tt
 by_units P (m ∷ units) h = (h.0, by_units P units h.1)
 
 module _ (d : Direction) (is_caller : Bool) (first : Whole) (deeds : ℕ → Deeds) (turn : Turn) (old new : Joint)
-    (step : TakesTurn turn old new) (on : Continues is_caller deeds old.holding turn new.holding) (f : IsFollowed d first old) where
+    (step : TakesTurn turn old new) (on : Continues is_caller deeds old.end turn new.end) (f : IsFollowed d first old) where
   abbrev carrier : Carrier
-  carrier = old.holding.end.carrier
+  carrier = old.end.end.carrier
 
   abbrev pub Lived : ℕ → Type 0
-  Lived q = Lives is_caller q carrier on.took on.put new.holding.end.carrier
+  Lived q = Lives is_caller q carrier on.took on.put new.end.end.carrier
 
   module _ (lasts : carrier.ended ≡ None) where
     pub whole_lasts : f.whole.end.ended ≡ None
@@ -94,7 +94,7 @@ module _ (d : Direction) (is_caller : Bool) (first : Whole) (deeds : ℕ → Dee
     -- the unit with which a connection opens had come
     pub came : (x : Value) (some : List Marked) (q : ℕ) (l : Lived q) → l.arrived.before ≡ some ++ (0, x) ∷ [] → IsThere x f.whole.coming
     came x some q l is P all =
-        let a = are_first on.used step.used (old.holding.held.octets ++ turn.used) on.rest step.rest new.holding.end.carrier.ended
+        let a = are_first on.used step.used (old.end.held.octets ++ turn.used) on.rest step.rest new.end.end.carrier.ended
         on.cut (step.cut lasts) (λ still. on.held still ∙ sym (step.held still)) (step.all lasts) in
         search (arith, append_assoc, units_join, all_front, same_units, all_units_more, one_of)
 
@@ -142,5 +142,5 @@ module _ (d : Direction) (is_caller : Bool) (first : Whole) (deeds : ℕ → Dee
         by : (o : Option EndReason) → carrier.ended ≡ o → AllByRecursion (IsMarked d s t) on.put
         by None lasts = all_marked lasts [] on.put refl
         by (Some reason) gone =
-            let done = over_acts turn old.holding new.holding (subst IsSome (sym gone) refl) step.takes in
+            let done = over_acts turn old.end new.end (subst IsSome (sym gone) refl) step.takes in
             none_put (IsMarked d s t) on.put (sym on.written ∙ done.1)

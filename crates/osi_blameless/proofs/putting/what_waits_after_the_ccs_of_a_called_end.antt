@@ -47,15 +47,15 @@ module _ (local : Local) (deeds : ℕ → Deeds) (turn : Turn) (old new : Joint)
     (does : TurnDoes false deeds turn old new step) (f : IsFollowed Right (begin false local) old)
     (g : IsFollowed Right (begin false local) new) (before : HasLines local f.whole) (after : HasLines local g.whole)
     (no_cc : OpensByNoCc local deeds turn old new step does.on f)
-    (places : HaveSamePlaces old.course.traffic.connections old.course.sessions.live) where
+    (places : HaveSamePlaces old.judge.traffic.connections old.judge.sessions.live) where
   abbrev s : State
-  s = old.course.traffic
+  s = old.judge.traffic
 
   abbrev t : Sessions
-  t = old.course.sessions
+  t = old.judge.sessions
 
   abbrev carrier : Carrier
-  carrier = old.holding.end.carrier
+  carrier = old.end.end.carrier
 
   abbrev LivedSo : ℕ → Type 0
   LivedSo q = Lived Right false (begin false local) deeds turn old new step does.on f q
@@ -78,7 +78,7 @@ module _ (local : Local) (deeds : ℕ → Deeds) (turn : Turn) (old new : Joint)
   IsNamed q peer = HasCc peer q new.put ⊎ HasHome Right q peer s t
 
   open_named : carrier.ended ≡ None → (q : ℕ) → 0 < q → (l : LivedSo q) →
-      Begins false q l.peer carrier new.holding.end.carrier l.arrived l.left → AreApart q does.on.put ⊎ IsNamed q l.peer
+      Begins false q l.peer carrier new.end.end.carrier l.arrived l.left → AreApart q does.on.put ⊎ IsNamed q l.peer
   open_named lasts q positive l (opened link there none none_left) =
       by (open_there local f.whole t before (grind arith)
       (whole_lasts Right false (begin false local) deeds turn old new step does.on f lasts) q l.peer link
@@ -108,7 +108,7 @@ module _ (local : Local) (deeds : ℕ → Deeds) (turn : Turn) (old new : Joint)
       by : (o : Option EndReason) → carrier.ended ≡ o → AreApart q does.on.put ⊎ IsNamed q l.peer
       by None lasts = open_named lasts q positive l l.begins
       by (Some reason) gone =
-          let done = over_acts turn old.holding new.holding (subst IsSome (sym gone) refl) step.takes in
+          let done = over_acts turn old.end new.end (subst IsSome (sym gone) refl) step.takes in
           inl (subst (AreApart q) (sym (none_put does.on.put (sym does.on.written ∙ done.1))) tt)
 
   -- ---- the marks of the units

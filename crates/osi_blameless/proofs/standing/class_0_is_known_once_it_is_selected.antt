@@ -1,13 +1,14 @@
 -- The calling side knows of class 0 only once it is selected, whatever passes.
 -- For the units of both sides that are no breaks.
-use Rattle.osi_blameless.proofs.Vocabulary.{◌≡◌, sym, subst, ℕ, Bool, List, [], ◌∷◌, Option, Some, Value, Zero, Local, Direction}
+use Rattle.osi_blameless.proofs.Vocabulary.{◌≡◌, sym, subst, ℕ, Bool, List, Option, Some, Value, Zero, Local, Direction}
 use Rattle.osi_blameless.proofs.Vocabulary.{Connection, Rules, Way, Reach, Route, Outcome, Traffic, at_found, routed, takes, unnamed_told}
 use Rattle.osi_blameless.proofs.Vocabulary.{Passing, passes, unit, Event, HappenAlong, Happens, Whole, arrives, calls, passes_rubbish}
-use Rattle.osi_blameless.proofs.Vocabulary.{zero_stays, arith, Joint}
+use Rattle.osi_blameless.proofs.Vocabulary.{zero_stays, arith, Joint, way_of}
 use Rattle.osi_rules.specs.Sides as sides
 use Rattle.osi_rules.specs.Traffic.{reached}
 use Rattle.osi_blameless.specs.transport.Wholes.{begin, begins_other, begins_own, passes_other, passes_own}
 use Rattle.osi_blameless.proofs.keeping.steps_are_events.{IsFollowed}
+use Rattle.osi_blameless.proofs.what_each_thing_keeps_all_of_them_keep.{along_keeps}
 
 -- ---- a unit leaves what the calling side knows
 
@@ -45,17 +46,16 @@ event_known_once : (d : Way) (event : Event) (w new : Whole) → Happens d event
 event_known_once d arrives w new (u, coming, is) h = subst (λ (x : Whole). IsKnownOnce x.judge) (sym is) h
 event_known_once d (calls call) w new (may, is) h = subst (λ (x : Whole). IsKnownOnce x.judge) (sym is) h
 event_known_once d begins_own w new (some, none, is) h = grind (arith, known_once)
-event_known_once d passes_own w new (v, put, begun, is) h = grind (arith, known_once (unit d v) w.judge h)
+event_known_once d passes_own w new (v, (put, begun, is)) h = grind (arith, known_once (unit d v) w.judge h)
 event_known_once d begins_other w new is h = grind (arith, known_once)
 event_known_once d (passes_other v) w new (ranges, is) h = grind (arith, known_once (unit (sides.other d) v) w.judge h)
 event_known_once d passes_rubbish w new is h = grind (arith, known_once)
 
 all_known_once : (d : Way) (events : List Event) (w new : Whole) → HappenAlong d w events new → IsKnownOnce w.judge → IsKnownOnce new.judge
-all_known_once d [] w new e h = subst (λ (x : Whole). IsKnownOnce x.judge) (sym e) h
-all_known_once d (event ∷ events) w new (mid, first, more) h =
-    all_known_once d events mid new more (event_known_once d event w mid first h)
+all_known_once d = along_keeps (Happens d) (λ w. IsKnownOnce w.judge) (event_known_once d)
 
 -- at every step of an end and a judge
 pub joint_known_once : (d : Direction) (is_caller : Bool) (local : Local) (j : Joint) → IsFollowed d (begin is_caller local) j →
-    IsKnownOnce j.course.traffic
-joint_known_once d is_caller local j f = grind (arith, all_known_once)
+    IsKnownOnce j.judge.traffic
+joint_known_once d is_caller local j f =
+    subst IsKnownOnce f.judge (all_known_once (way_of d) f.events (begin is_caller local) f.whole f.along (λ k. absurd (cc k)))

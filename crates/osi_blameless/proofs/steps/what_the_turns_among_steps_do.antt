@@ -14,10 +14,10 @@ use Rattle.osi_blameless.proofs.steps.the_packets_that_an_end_took_come_first.{a
 
 -- what a turn does at each connection, at which this was done before
 pub record TurnDoes (is_caller : Bool) (deeds : ℕ → Deeds) (turn : Turn) (old new : Joint) (t : TakesTurn turn old new) : Type 0 where
-  pub on : Continues is_caller deeds old.holding turn new.holding
-  pub life : (r : ℕ) → 0 < r → Life is_caller r (stage_at r old.holding.end.carrier) on.took on.put (stage_at r new.holding.end.carrier)
+  pub on : Continues is_caller deeds old.end turn new.end
+  pub life : (r : ℕ) → 0 < r → Life is_caller r (stage_at r old.end.end.carrier) on.took on.put (stage_at r new.end.end.carrier)
   -- if the connection awaits its CC
-  pub first : (r : ℕ) → 0 < r → FirstOf is_caller r old.holding.end.carrier on.took on.put new.holding.end.carrier
+  pub first : (r : ℕ) → 0 < r → FirstOf is_caller r old.end.end.carrier on.took on.put new.end.end.carrier
   pub units : t.units ≡ all_units on.put
 
 -- and what each turn among these steps does
@@ -37,20 +37,20 @@ pub record TakesFirst (old : Holding) (used : List (List ℕ)) (took : List Valu
   pub first : old.end.carrier.ended ≡ None → pieces.units_in used ≡ took ++ left
   pub none_left : new.end.carrier.ended ≡ None → left ≡ []
 
-module _ (is_caller : Bool) (deeds : ℕ → Deeds) (turn : Turn) (j : Joint) (new : Holding) (takes : Takes j.holding turn new)
-    (on : Continues is_caller deeds j.holding turn new) (used later : List (List ℕ)) (rest : List ℕ) (coming : j.coming ≡ used ++ later)
-    (cut : j.holding.end.carrier.ended ≡ None → ArePackets used (j.holding.held.octets ++ turn.used) rest)
+module _ (is_caller : Bool) (deeds : ℕ → Deeds) (turn : Turn) (j : Joint) (new : Holding) (takes : Takes j.end turn new)
+    (on : Continues is_caller deeds j.end turn new) (used later : List (List ℕ)) (rest : List ℕ) (coming : j.coming ≡ used ++ later)
+    (cut : j.end.end.carrier.ended ≡ None → ArePackets used (j.end.held.octets ++ turn.used) rest)
     (held : new.end.carrier.ended ≡ None → rest ≡ new.held.octets)
-    (all : j.holding.end.carrier.ended ≡ None → new.end.carrier.ended ≢ None → (more : List (List ℕ)) (last : List ℕ) →
+    (all : j.end.end.carrier.ended ≡ None → new.end.carrier.ended ≢ None → (more : List (List ℕ)) (last : List ℕ) →
     ArePackets more rest last → more ≡ []) where
-  pub first_by : (o : Option EndReason) → j.holding.end.carrier.ended ≡ o → TakesFirst j.holding used (units_in on.used) new
+  pub first_by : (o : Option EndReason) → j.end.end.carrier.ended ≡ o → TakesFirst j.end used (units_in on.used) new
   first_by (Some reason) over = record {
     left = [];
     first = λ lasts. absurd (let no : Some reason ≡ None = sym over ∙ lasts in cc);
     none_left = λ still. refl;
   }
   first_by None lasts =
-      let a = are_first on.used used (j.holding.held.octets ++ turn.used) on.rest rest new.end.carrier.ended on.cut (cut lasts)
+      let a = are_first on.used used (j.end.held.octets ++ turn.used) on.rest rest new.end.carrier.ended on.cut (cut lasts)
       (λ still. on.held still ∙ sym (held still)) (all lasts) in
       record {
         left = units_in a.more;
@@ -59,9 +59,9 @@ module _ (is_caller : Bool) (deeds : ℕ → Deeds) (turn : Turn) (j : Joint) (n
       }
 
   -- so an end takes this turn whose connections go on so, with these packets of those that have passed
-  abbrev pub takes_turn : TakesTurn turn j (record j { holding = new; put = j.put ++ all_units on.put; coming = later })
+  abbrev pub takes_turn : TakesTurn turn j (record j { end = new; put = j.put ++ all_units on.put; coming = later })
   takes_turn =
-      let f = first_by j.holding.end.carrier.ended refl in
+      let f = first_by j.end.end.carrier.ended refl in
       record {
         takes = takes;
         units = all_units on.put;
@@ -103,8 +103,8 @@ pub record ComesByDoing (d : Direction) (is_caller : Bool) (capture : Capture) (
   pub last : Joint
   pub along : StepsAlong d (begin first) steps last
   pub does : StepsDo d is_caller (λ r. no_deeds) (begin first) steps last along
-  pub all : ((comes_to capture).course ≡ last.course) ⊎ TurnsBad d capture last.course
-  pub on : ((comes_to capture).course ≡ last.course) ⊎ GoesOn d capture last
+  pub all : ((comes_to capture).course ≡ last.judge) ⊎ TurnsBad d capture last.judge
+  pub on : ((comes_to capture).course ≡ last.judge) ⊎ GoesOn d capture last
 
 pub comes_by_steps : (d : Direction) (is_caller : Bool) (capture : Capture) (first : Holding) → ComesByDoing d is_caller capture first →
     ComesBySteps d capture first

@@ -42,6 +42,7 @@ use Rattle.osi_blameless.proofs.transport.requests.what_lasts_at_the_judge.{last
 use Rattle.osi_blameless.proofs.transport.connections.which_unit_of_the_other_side_passes.{IsCalm, by_reach, calm_before}
 use Rattle.osi_blameless.proofs.transport.connections.which_units_are_for_a_connection.{is_dc}
 use Rattle.osi_blameless.proofs.transport.requests.an_end_has_broken_no_rule.{mild_not, other_fine, own_fine, rubbish_fine}
+use Rattle.osi_blameless.proofs.what_each_thing_keeps_all_of_them_keep.{along_keeps}
 
 -- ---- a unit of the end
 
@@ -196,7 +197,7 @@ next_joined local begins_own w new (some, not_begun, is) j = subst (Joined local
   fine = j.fine;
   informed = next_informed Right begins_own w _ (some, not_begun, refl) j.informed;
 })
-next_joined local passes_own w new (v, put, begun, is) j = subst (Joined local) (sym is) (record {
+next_joined local passes_own w new (v, (put, begun, is)) j = subst (Joined local) (sym is) (record {
   apart = passes_apart (passing Right v) w.judge j.apart;
   judged = still_judged (passing Right v) w.judge j.judged;
   passings = j.passings ++ passing Right v ∷ [];
@@ -214,7 +215,7 @@ next_joined local passes_own w new (v, put, begun, is) j = subst (Joined local) 
       let before : IsCalm w.judge.course = record { left = l.left left; right = j.right (l.left left) } in
       own_fine Right v w.judge (mild_not (takes Right v w.judge).told.finding
       (mild w v (passes_stage local w j v new.put put begun before (j.stage before)).0)) (j.fine (l.left left));
-  informed = next_informed Right passes_own w _ (v, put, begun, refl) j.informed;
+  informed = next_informed Right passes_own w _ (v, (put, begun, refl)) j.informed;
 })
 next_joined local begins_other w new is j = subst (Joined local) (sym is) (record {
   apart = passes_apart (packet Left) w.judge j.apart;
@@ -255,9 +256,7 @@ next_joined local passes_rubbish w new is j = subst (Joined local) (sym is) (rec
 
 pub all_joined : (local : Local) (events : List Event) (w new : Whole) → HappenAlong Right w events new → Joined local w →
     Joined local new
-all_joined local [] w new e j = subst (Joined local) (sym e) j
-all_joined local (event ∷ events) w new (mid, first, more) j =
-    all_joined local events mid new more (next_joined local event w mid first j)
+all_joined local = along_keeps (Happens Right) (Joined local) (next_joined local)
 
 pub first_joined : (local : Local) → Joined local (begin false local)
 first_joined local = record {

@@ -1,6 +1,6 @@
 -- A whole called end is fair in class 0 as long as it is judged, also after the judging of the other side has ended.
 -- For the law on a whole called end.
-use Rattle.osi_blameless.proofs.transport.Vocabulary.{[], ap, arith, arrives, begin, begins_other, begins_own, Bool, calls, Class, Course}
+use Rattle.osi_blameless.proofs.transport.Vocabulary.{ap, arith, arrives, begin, begins_other, begins_own, Bool, calls, Class, Course}
 use Rattle.osi_blameless.proofs.transport.Vocabulary.{Event, false}
 use Rattle.osi_blameless.proofs.transport.Vocabulary.{HappenAlong, Happens, is_stopped, Kept, List, Local, None, Option, passes_rubbish}
 use Rattle.osi_blameless.proofs.transport.Vocabulary.{refl, Right, Some}
@@ -18,6 +18,7 @@ use Rattle.osi_blameless.proofs.transport.class_0.what_comes_to_an_end_of_class_
 use Rattle.osi_blameless.proofs.transport.names.what_keeps_names_apart.{AreApart}
 use Rattle.osi_blameless.proofs.transport.requests.what_lasts_at_the_judge.{lasts_happening}
 use Rattle.osi_blameless.proofs.transport.connections.which_unit_of_the_other_side_passes.{IsCalm}
+use Rattle.osi_blameless.proofs.what_each_thing_keeps_all_of_them_keep.{along_keeps}
 
 -- ---- whatever happens
 
@@ -31,7 +32,7 @@ zeroed_next (calls call) w new (may, is) apart right f =
     subst IsZeroAt (sym is) (zeroed_calls Right w.end w.put w.begun w.judge f call may)
 zeroed_next begins_own w new (some, not_begun, is) apart right f =
     subst IsZeroAt (sym is) (zeroed_begins Right w.end w.put w.begun w.judge f)
-zeroed_next passes_own w new (v, put, begun, is) apart right f =
+zeroed_next passes_own w new (v, (put, begun, is)) apart right f =
     subst IsZeroAt (sym is) (zeroed_passes Right w.end w.put w.begun w.judge v new.put right put begun f).1
 zeroed_next begins_other w new is apart right f = subst IsZeroAt (sym is) (zeroed_elsewhere Right w.end w.put w.begun w.judge f)
 zeroed_next (passes_other v) w new (ranges, is) apart right f =
@@ -67,7 +68,7 @@ alone_first : (local : Local) (event : Event) (w new : Whole) → Happens Right 
 alone_first local arrives w new (u, coming, is) j right was still left = grind (arith, differ)
 alone_first local (calls call) w new (may, is) j right was still left = grind (arith, differ)
 alone_first local begins_own w new (some, not_begun, is) j right was still left = grind (arith, differ)
-alone_first local passes_own w new (v, put, begun, is) j right was still left =
+alone_first local passes_own w new (v, (put, begun, is)) j right was still left =
     let calm = calm_so w right was in
     let course_is = ap (λ (x : Whole). x.judge.course) (sym is) in
     let kept = other_kept Right v w.judge (mild w v (passes_stage local w j v new.put put begun calm (j.stage calm)).0)
@@ -89,11 +90,10 @@ next_alone local event w new h j a still left = by w.judge.course.left_stopped r
         zeroed_next event w new h j.apart right
         (by_seen_class local w (alone_first local event w new h j right was still left) (j.stage (calm_so w right was)))
 
-all_alone : (local : Local) (events : List Event) (w new : Whole) → HappenAlong Right w events new → Joined local w → Alone w →
+all_alone : (local : Local) (events : List Event) (w new : Whole) → HappenAlong Right w events new → Joined local w × Alone w →
     Joined local new × Alone new
-all_alone local [] w new e j a = (subst (Joined local) (sym e) j, subst Alone (sym e) a)
-all_alone local (event ∷ events) w new (mid, first, more) j a =
-    all_alone local events mid new more (next_joined local event w mid first j) (next_alone local event w mid first j a)
+all_alone local = along_keeps (Happens Right) (λ w. Joined local w × Alone w) (λ event old new first (j, a).
+    (next_joined local event old new first j, next_alone local event old new first j a))
 
 zero_so : (local : Local) (w : Whole) → Joined local w → Alone w → (b : Bool) → w.judge.course.left_stopped ≡ b →
     w.judge.course.right_stopped ≡ false → w.judge.course.class ≡ Some Zero → IsZeroAt w
@@ -104,6 +104,6 @@ pub called_fair_in_class_0 : (local : Local) (events : List Event) (w : Whole) (
     HappenAlong Right (begin false local) events w → w.begun ≡ true → w.put ≡ v ∷ rest → is_stopped Right w.judge.course ≡ false →
     w.judge.course.class ≡ Some Zero → (takes Right v w.judge).told.finding ≡ Kept
 called_fair_in_class_0 local events w v rest along begun e right zero =
-    let (j, a) = all_alone local events (begin false local) w along (first_joined local) (λ k left. differ false left refl) in
+    let (j, a) = all_alone local events (begin false local) w along (first_joined local, λ k left. differ false left refl) in
     (zeroed_passes Right w.end w.put w.begun w.judge v rest right e begun
     (zero_so local w j a w.judge.course.left_stopped refl right zero)).0

@@ -267,7 +267,7 @@ module _ (local : Local) (w : Whole) (f : Called local w) (apart : AreApart w.ju
               (tracks_on Right g.r g.peer g.line line (passes_other w.judge.course in_use v ∷ []) g.tracks
               (line, (ranges, dest_r, some, refl), refl)) judge g.put g.begun_is (ap (λ (h : Half). is_open h.phase) next_right ∙ g.there)
               (ap (λ (h : Half). h.reference) next_right) next_left
-              (row_add g.r g.peer g.line.link g.line.coming (named_so g.r v dest_r) g.row) g.shut_is) (asks_none q ∙ none);
+              (row_add g.r g.peer g.line.end g.line.coming (named_so g.r v dest_r) g.row) g.shut_is) (asks_none q ∙ none);
         }
 
     here_by : Stand local f.shut w.end w.coming (units_at q f.tagged) (units_at q f.came) (w.begun && first_at q f.tagged) (f.refs q) c →

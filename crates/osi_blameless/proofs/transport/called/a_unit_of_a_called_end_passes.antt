@@ -368,7 +368,7 @@ module _ (local : Local) (w : Whole) (f : Called local w) (apart : AreApart w.ju
       abbrev line : Line
       line = record g.line { put = units_at p later; begun = false; judge = next }
 
-      not_linked : is_open next.right.phase ≡ false → (r : ℕ) → r ≡ g.r → Row w.end w.coming g.r g.peer g.line.link g.line.coming →
+      not_linked : is_open next.right.phase ≡ false → (r : ℕ) → r ≡ g.r → Row w.end w.coming g.r g.peer g.line.end g.line.coming →
           IsUnlinked w.end r
       not_linked shut r same k live q link here = grind (arith, differ, run.linked)
 

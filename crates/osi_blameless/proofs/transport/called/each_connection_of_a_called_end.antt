@@ -65,7 +65,7 @@ pub data Row (end : State) (coming : List Value) (r peer : ℕ) (link : Option S
 
 -- a line that begins as the CC passes, whatever the judge knows then
 abbrev pub line_of : Option Standing → List Value → List Value → Connection → Line
-line_of link put come judge = record { link = link; put = put; begun = false; judge = judge; coming = come }
+line_of link put come judge = record { end = link; put = put; begun = false; judge = judge; coming = come }
 
 -- the CC is to pass
 pub record Answering (local : Local) (shut : ℕ → Bool) (end : State) (coming mine : List Value) (begun : Bool) (o : Option ℕ)
@@ -100,14 +100,14 @@ pub record Running (shut : ℕ → Bool) (end : State) (coming mine : List Value
   pub there : is_open c.right.phase ≡ true
   pub right : c.right.reference ≡ r
   pub left : c.left.reference ≡ peer
-  pub row : Row end coming r peer line.link line.coming
-  pub shut_is : shut r ≡ true → line.link ≡ None
+  pub row : Row end coming r peer line.end line.coming
+  pub shut_is : shut r ≡ true → line.end ≡ None
 
 -- it goes on so, at another end too
 pub running_on : {shut then : ℕ → Bool} {end after : State} {coming later mine put : List Value} {b a : Bool} {o : Option ℕ}
     {c e : Connection} (g : Running shut end coming mine b o c) (line : Line) → Tracks Right g.r g.peer line → line.judge ≡ e →
     line.put ≡ put → line.begun ≡ a → is_open e.right.phase ≡ true → e.right.reference ≡ c.right.reference →
-    e.left.reference ≡ c.left.reference → Row after later g.r g.peer line.link line.coming → (then g.r ≡ true → line.link ≡ None) →
+    e.left.reference ≡ c.left.reference → Row after later g.r g.peer line.end line.coming → (then g.r ≡ true → line.end ≡ None) →
     Running then after later put a o e
 running_on g line tracks judge put begun there right left row shut_is = record {
   r = g.r;
@@ -177,7 +177,7 @@ module _ (local : Local) (shut : ℕ → Bool) (end after : State) (coming later
   }) (still none)
   stands_at ask still rows un (runs g none) =
       runs (running_on g g.line g.tracks g.judge g.put g.begun_is g.there refl refl
-      (rows g.r g.peer g.line.link g.line.coming g.index g.row) g.shut_is) (still none)
+      (rows g.r g.peer g.line.end g.line.coming g.index g.row) g.shut_is) (still none)
   stands_at ask still rows un (past silent up is none gone off) = past silent up is (still none) (λ r e. un r e (gone r e)) off
 
 -- ---- all

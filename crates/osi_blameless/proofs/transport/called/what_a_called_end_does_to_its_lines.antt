@@ -16,10 +16,11 @@ use Rattle.osi_blameless.proofs.transport.connections.units_by_their_place.{Plac
 use Rattle.osi_blameless.proofs.transport.connections.units_by_their_place.{units_at, values, values_all}
 use Rattle.osi_blameless.proofs.transport.connections.units_by_their_place.{values_join}
 use Rattle.osi_blameless.proofs.transport.connections.what_is_live_at_an_end.{Timely, timely_puts}
-use Rattle.osi_blameless.proofs.transport.lines.what_is_put_before_the_cc_passes.{acts_join}
 use Rattle.osi_blameless.proofs.transport.connections.which_units_are_for_a_connection.{those}
 use Rattle.osi_blameless.proofs.transport.class_0.a_dt_of_class_zero_passes.{unlike}
 use Rattle.osi_blameless.proofs.transport.connections.a_line_since_its_connection_opened.{Tracks, tracks_on}
+use Rattle.osi_blameless.proofs.what_each_thing_keeps_all_of_them_keep.{along_join}
+use Rattle.osi_blameless.proofs.transport.Vocabulary.{Acts}
 
 -- ---- small facts
 
@@ -171,7 +172,7 @@ module _ (local : Local) (w : Whole) (f : Called local w) (t : State) (units : L
         mine_is = mine_here ∙ ap (λ (vs : List Value). vs ++ units) h.mine_is
             ∙ ap (λ (i : ℕ). confirm h.x.source (acceptance Two h.size h.x local i) ∷ (h.more ++ units)) r_is;
         acts = h.acts ++ o.follows.acts;
-        along = λ judge. acts_join Right n h.x.source h.acts o.follows.acts (opened_line (opened_link Two h.size local h.x.credit) judge)
+        along = λ judge. along_join (Acts Right n h.x.source) h.acts o.follows.acts (opened_line (opened_link Two h.size local h.x.credit) judge)
             (line_of h.link h.more h.come judge) (line_of (link_now (value_at n t.live)) (h.more ++ units) o.later judge)
             (subst (λ (i : ℕ). ActsAlong Right i h.x.source (opened_line (opened_link Two h.size local h.x.credit) judge) h.acts
             (line_of h.link h.more h.come judge)) r_is (h.along judge))
@@ -184,10 +185,10 @@ module _ (local : Local) (w : Whole) (f : Called local w) (t : State) (units : L
   runs_on : (c : Connection) (h : Running f.shut s w.coming (units_at p f.tagged) (w.begun && first_at p f.tagged) (Some n) c) → h.r ≡ n →
       Running f.shut t coming (units_at p tagged) (w.begun && first_at p tagged) (Some n) c
   runs_on c h r_is =
-      let row = subst (λ (i : ℕ). Row s w.coming i h.peer h.line.link h.line.coming) r_is h.row in
-      let g = goes h.peer h.line.link h.line.coming row in
+      let row = subst (λ (i : ℕ). Row s w.coming i h.peer h.line.end h.line.coming) r_is h.row in
+      let g = goes h.peer h.line.end h.line.coming row in
       let o = g.took_so in
-      let line : Line = record h.line { link = link_now (value_at n t.live); put = h.line.put ++ units; coming = o.later } in
+      let line : Line = record h.line { end = link_now (value_at n t.live); put = h.line.put ++ units; coming = o.later } in
       record {
         r = n;
         peer = h.peer;

@@ -17,11 +17,12 @@ use Rattle.osi_blameless.proofs.transport.connections.units_by_their_place.{Plac
 use Rattle.osi_blameless.proofs.transport.connections.units_by_their_place.{values, values_all, values_join}
 use Rattle.osi_blameless.proofs.transport.called.what_a_called_end_does_to_its_lines.{above_more, some_more, strays_keep}
 use Rattle.osi_blameless.proofs.transport.connections.what_is_live_at_an_end.{Timely, timely_puts}
-use Rattle.osi_blameless.proofs.transport.lines.what_is_put_before_the_cc_passes.{acts_join}
 use Rattle.osi_blameless.proofs.transport.connections.which_units_are_for_a_connection.{those}
 use Rattle.osi_blameless.proofs.transport.class_0.a_dt_of_class_zero_passes.{unlike}
 use Rattle.osi_blameless.proofs.transport.connections.a_line_since_its_connection_opened.{tracks_on}
 use Rattle.osi_blameless.proofs.transport.called.each_connection_of_a_called_end.{running_on}
+use Rattle.osi_blameless.proofs.what_each_thing_keeps_all_of_them_keep.{along_join}
+use Rattle.osi_blameless.proofs.transport.Vocabulary.{Acts}
 
 -- ---- a unit for a connection that is not open
 
@@ -52,7 +53,7 @@ module _ (local : Local) (w : Whole) (f : Called local w) (t : State) (units : L
   record Step (r peer : ℕ) (link : Option Standing) (come : List Value) : Type 0 where
     later : List Value
     acts : List Act
-    along : (line : Line) → line.link ≡ link → line.coming ≡ come → ActsAlong Right r peer line acts (record line { coming = later })
+    along : (line : Line) → line.end ≡ link → line.coming ≡ come → ActsAlong Right r peer line acts (record line { coming = later })
     row : Row t coming r peer link later
     shut_is : shut r ≡ true → link ≡ None
 
@@ -104,7 +105,7 @@ module _ (local : Local) (w : Whole) (f : Called local w) (t : State) (units : L
         come = g.later;
         mine_is = h.mine_is;
         acts = h.acts ++ g.acts;
-        along = λ judge. acts_join Right h.r h.x.source h.acts g.acts (opened_line (opened_link Two h.size local h.x.credit) judge)
+        along = λ judge. along_join (Acts Right h.r h.x.source) h.acts g.acts (opened_line (opened_link Two h.size local h.x.credit) judge)
             (line_of h.link h.more h.come judge) (line_of h.link h.more g.later judge) (h.along judge)
             (g.along (line_of h.link h.more h.come judge) refl refl);
         seen = h.seen;
@@ -112,7 +113,7 @@ module _ (local : Local) (w : Whole) (f : Called local w) (t : State) (units : L
         shut_is = g.shut_is;
       }) (asks i ∙ none)
   stand_on i c mine begun (runs h none) =
-      let g = step_by h.r h.peer h.line.link h.line.coming (h.r == n) refl h.shut_is h.row in
+      let g = step_by h.r h.peer h.line.end h.line.coming (h.r == n) refl h.shut_is h.row in
       let line = record h.line { coming = g.later } in
       runs (running_on h line (tracks_on Right h.r h.peer h.line line g.acts h.tracks (g.along h.line refl refl)) h.judge h.put h.begun_is
       h.there refl refl g.row g.shut_is) (asks i ∙ none)

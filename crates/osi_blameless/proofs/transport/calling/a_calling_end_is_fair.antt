@@ -2,7 +2,7 @@
 -- For the law of that name.
 use Rattle.osi_blameless.proofs.transport.Vocabulary.{[], arith, begin, Course, Event, false, HappenAlong, Happens, inl, is_stopped, Kept}
 use Rattle.osi_blameless.proofs.transport.Vocabulary.{Left, List}
-use Rattle.osi_blameless.proofs.transport.Vocabulary.{Local, NotJudged, passes, request, Right, rubbish, Some, subst, sym, takes, TooMany}
+use Rattle.osi_blameless.proofs.transport.Vocabulary.{Local, NotJudged, passes, request, Right, rubbish, Some, sym, takes, TooMany}
 use Rattle.osi_blameless.proofs.transport.Vocabulary.{Traffic, true}
 use Rattle.osi_blameless.proofs.transport.Vocabulary.{Two, unit as passing, Value, Whole, Zero, ◌∙◌, ◌∷◌, ◌≡◌, ◌⊎◌}
 use Rattle.osi_blameless.proofs.transport.class_0.an_end_goes_on_in_class_zero.{zeroed_passes}
@@ -13,6 +13,7 @@ use Rattle.osi_blameless.proofs.transport.requests.no_request_is_blamed.{Holds a
 use Rattle.osi_blameless.proofs.transport.calling.the_end_is_judged_as_the_other_side_is.{other_judged, own_judged}
 use Rattle.osi_blameless.proofs.transport.requests.what_lasts_at_the_judge.{lasts_passing}
 use Rattle.osi_blameless.proofs.transport.connections.what_the_other_side_closes.{IsOngoing}
+use Rattle.osi_blameless.proofs.what_each_thing_keeps_all_of_them_keep.{along_keeps}
 
 -- as long as the other side is judged, the end is
 abbrev IsJudged : Course → Type 0
@@ -73,11 +74,10 @@ next_judged : (local : Local) (event : Event) (w new : Whole) → Happens Left e
 next_judged local event w new is j = search (arith, own_stays, lasts_passing, other_stays, rubbish_stays)
 
 all_stand : (local : Local) (events : List Event) (w new : Whole) → HappenAlong Left w events new → Stands local w → Stands local new
-all_stand local [] w new e j = subst (Stands local) (sym e) j
-all_stand local (event ∷ events) w new (mid, first, more) j = all_stand local events mid new more (record {
-  staged = holds_next local event w mid first j.staged;
-  two = λ has. next_joined local event w mid first (j.two has);
-  judged = next_judged local event w mid first j;
+all_stand local = along_keeps (Happens Left) (Stands local) (λ event old new first j. record {
+  staged = holds_next local event old new first j.staged;
+  two = λ has. next_joined local event old new first (j.two has);
+  judged = next_judged local event old new first j;
 })
 
 pub calling_fair : (local : Local) (events : List Event) (w : Whole) (v : Value) (rest : List Value) →

@@ -42,6 +42,7 @@ use Rattle.osi_blameless.proofs.transport.connections.what_the_other_side_closes
 use Rattle.osi_blameless.proofs.transport.connections.what_is_live_at_an_end.{Firsts, IsLive, shuts_of}
 use Rattle.osi_blameless.proofs.transport.requests.an_end_has_broken_no_rule.{mild_not, other_fine, own_fine, rubbish_fine}
 use Rattle.osi_blameless.proofs.transport.requests.how_a_calling_end_asks.{over_takes}
+use Rattle.osi_blameless.proofs.what_each_thing_keeps_all_of_them_keep.{along_keeps}
 
 -- ---- all that holds
 
@@ -238,17 +239,17 @@ next_joined local begins_own w new (some, not_begun, is) j =
       fine = λ going. j.fine (before_going (packet Left) w.judge going);
       informed = next_informed Left begins_own w after (some, not_begun, refl) j.informed;
     })
-next_joined local passes_own w new (v, put, begun, is) j =
+next_joined local passes_own w new (v, (put, begun, is)) j =
     let after = record w { put = new.put; begun = false; judge = (takes Left v w.judge).state } in
     subst (Joined local) (sym is) (record {
-      staged = holds_next local passes_own w after (v, put, begun, refl) j.staged;
-      kept = next_holds passes_own w after (v, put, begun, refl) (known_so local w j) j.kept;
+      staged = holds_next local passes_own w after (v, (put, begun, refl)) j.staged;
+      kept = next_holds passes_own w after (v, (put, begun, refl)) (known_so local w j) j.kept;
       orderly = j.orderly;
       local_is = λ going. j.local_is (before_going (passing Left v) w.judge going);
       followed = λ going. (goes local w j v new.put put begun (before_going (passing Left v) w.judge going)).followed;
       peers = λ going. (goes local w j v new.put put begun (before_going (passing Left v) w.judge going)).peers;
       fine = λ going. own_keeps local w v new.put j put begun (before_going (passing Left v) w.judge going);
-      informed = next_informed Left passes_own w after (v, put, begun, refl) j.informed;
+      informed = next_informed Left passes_own w after (v, (put, begun, refl)) j.informed;
     })
 next_joined local begins_other w new is j =
     let after = record w { judge = packet_begins Right w.judge } in
@@ -289,9 +290,7 @@ next_joined local passes_rubbish w new is j =
 
 pub all_joined : (local : Local) (events : List Event) (w new : Whole) → HappenAlong Left w events new → Joined local w →
     Joined local new
-all_joined local [] w new e j = subst (Joined local) (sym e) j
-all_joined local (event ∷ events) w new (mid, first, more) j =
-    all_joined local events mid new more (next_joined local event w mid first j)
+all_joined local = along_keeps (Happens Left) (Joined local) (next_joined local)
 
 pub first_joined : (local : Local) → local.class2 ≡ true → Joined local (begin true local)
 first_joined local two = grind (arith, no_item, known, holds_first local, orderly_fresh true local, first_informed Left true local)

@@ -31,6 +31,7 @@ use Rattle.osi_blameless.proofs.transport.small_facts_that_many_lemmas_use.{all_
 use Rattle.osi_blameless.proofs.transport.requests.what_a_carrier_puts.{Confirms, accepts_any, put_by_so, put_for_so}
 use Rattle.osi_blameless.proofs.transport.requests.what_lasts_at_the_judge.{lasts_passing}
 use Rattle.osi_blameless.proofs.transport.connections.which_units_are_for_a_connection.{is_dc}
+use Rattle.osi_blameless.proofs.what_each_thing_keeps_all_of_them_keep.{along_keeps}
 
 abbrev pub is_dr : Value → Bool
 is_dr (disconnect destination source reason user) = true
@@ -350,7 +351,7 @@ next_informed d begins_own w new (some, not_begun, is) j = subst (Informed d) (s
       put = begins_all d d w.judge is_dc w.put h.put;
       begun = λ b. first_begun d w.judge w.put some h.put;
     })
-next_informed d passes_own w new (v, put, begun, is) j = subst (Informed d) (sym is) (λ judged.
+next_informed d passes_own w new (v, (put, begun, is)) j = subst (Informed d) (sym is) (λ judged.
     let h = j (stopped_before (other d) (passing d v) w.judge judged) in
     let k = takes_keeps d v w.judge in
     let rest = subst (AllByRecursion (Noted d w.judge is_dc)) put h.put in
@@ -411,9 +412,7 @@ pub may_strays : (d : Direction) (k : Disconnects) → may_answer d k ≡ true �
 may_strays d k h = both_first k.strays (knows_disconnect d k) h
 
 all_informed : (d : Direction) (events : List Event) (w new : Whole) → HappenAlong d w events new → Informed d w → Informed d new
-all_informed d [] w new e j = subst (Informed d) (sym e) j
-all_informed d (event ∷ events) w new (mid, first, more) j =
-    all_informed d events mid new more (next_informed d event w mid first j)
+all_informed d = along_keeps (Happens d) (Informed d) (next_informed d)
 
 pub informed_dc : (d : Direction) (is_caller : Bool) (local : Local) (events : List Event) (w : Whole) (n source : ℕ) (rest : List Value) →
     HappenAlong d (begin is_caller local) events w → w.begun ≡ true → w.put ≡ disconnected n source ∷ rest →

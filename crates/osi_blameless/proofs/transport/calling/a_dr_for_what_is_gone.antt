@@ -208,10 +208,10 @@ next_holds begins_own w new (some, not_begun, is) k h =
       timely = λ plain lasts. timely_begins Left Left w.end w.coming w.judge.connections w.put
           (h.timely (before_passing (packet Left) w.judge plain) lasts);
     })
-next_holds passes_own w new (v, put, begun, is) k h =
+next_holds passes_own w new (v, (put, begun, is)) k h =
     let after = record w { put = new.put; begun = false; judge = (takes Left v w.judge).state } in
     subst Holds (sym is) (record {
-      newer = still_newer passes_own w after (v, put, begun, refl) h.newer;
+      newer = still_newer passes_own w after (v, (put, begun, refl)) h.newer;
       offers = λ going. h.offers (before_going (passing Left v) w.judge going);
       sane = sane_left v w.judge (above w v new.put put h.newer IsStarted (grind arith)) h.sane;
       timely = λ plain lasts. own w v new.put put h.newer h.sane.distinct (h.timely (before_passing (passing Left v) w.judge plain) lasts);

@@ -270,7 +270,7 @@ module _ (local : Local) (w : Whole) (f : Followed local w) (sane : IsSane w.jud
     tracked_if h = grind (arith, both, right, next_right, right_there)
 
     -- as long as the end has its link, it has not closed the connection
-    linked_open : (link : Standing) → g.line.link ≡ Some link → is_tracked next ≡ true
+    linked_open : (link : Standing) → g.line.end ≡ Some link → is_tracked next ≡ true
     linked_open link h = tracked_if (passes.linked link h)
 
     row_open : w.end.ended ≡ None → (o : Option Live) → value_at g.r w.end.live ≡ o → is_held o ≡ true →

@@ -113,7 +113,7 @@ module _ (local : Local) (w : Whole) (f : Followed local w) (sane : IsSane w.jud
 
   -- the line ignores it, and what the end puts is spare
   ignored : (more : List Value) (new : Option Live) → value_at n t.live ≡ new → (q : ℕ) → (new ≡ Some (closing q)) ⊎ (new ≡ None) →
-      (c : Connection) (g : Following local w.put w.begun strays s w.coming c) → g.r ≡ n → g.line.link ≡ None →
+      (c : Connection) (g : Following local w.put w.begun strays s w.coming c) → g.r ≡ n → g.line.end ≡ None →
       those g.r w.coming ≡ g.line.coming → ours g.r g.peer (w.put ++ units) ≡ ours g.r g.peer w.put ++ more →
       AllByRecursion (IsSpare strays g.r g.peer) more → Following local (w.put ++ units) w.begun strays t later c
   ignored more new there q h c g same gone all_come puts spares =

@@ -134,7 +134,7 @@ module _ (local : Local) (w : Whole) (f : Followed local w) (t : State) (units t
     grown : Follows_on c
     own : AllOurs n c.right.reference units
 
-  new_row : (r q : ℕ) (line : Line) → r ≡ n → line.link ≡ link_now (value_at r t.live) → those r later ≡ line.coming → Linked n q t →
+  new_row : (r q : ℕ) (line : Line) → r ≡ n → line.end ≡ link_now (value_at r t.live) → those r later ≡ line.coming → Linked n q t →
       Row local t later r q line
   new_row r q line same is coming (still l there) =
       let row = ap (λ (i : ℕ). value_at i t.live) same ∙ there in talks l row (is ∙ ap link_now row) coming
@@ -144,16 +144,16 @@ module _ (local : Local) (w : Whole) (f : Followed local w) (t : State) (units t
       let row = ap (λ (i : ℕ). value_at i t.live) same ∙ there in closes o row i (inr h) (is ∙ ap link_now (row ∙ h)) coming
 
   grows : (c : Connection) (g : Following local w.put w.begun w.judge.course.disconnects.strays w.end w.coming c) → g.r ≡ n →
-      (l : Standing) → value_at g.r w.end.live ≡ Some (linked g.peer l) → g.line.link ≡ Some l → those g.r w.coming ≡ g.line.coming →
+      (l : Standing) → value_at g.r w.end.live ≡ Some (linked g.peer l) → g.line.end ≡ Some l → those g.r w.coming ≡ g.line.coming →
       Grown c
   grows c g same l r is come_all =
       let acts = follows g.r g.peer l same r in
       let coming = sym come_all ∙ come g.r same in
-      let line : Line = record g.line { link = link_now (value_at g.r t.live); put = g.line.put ++ units; coming = those g.r later } in
+      let line : Line = record g.line { end = link_now (value_at g.r t.live); put = g.line.put ++ units; coming = those g.r later } in
       let tracks = tracks_on Left g.r g.peer g.line line acts.acts g.tracks
       (acts.along Left g.line (those g.r later) (is ∙ sym (ap link_now r)) coming) in
       let own = last_ours g.r g.peer g.line.put units (tracks_keep Left g.r g.peer line tracks).ours in
-      let none = spare_none g.spare g.line.link l g.gone is in
+      let none = spare_none g.spare g.line.end l g.gone is in
       record {
         grown = record {
           r = g.r;
@@ -363,10 +363,22 @@ module _ (local : Local) (w : Whole) (f : Followed local w) (sane : IsSane w.jud
   abbrev Answered : Type 0
   Answered = (w.judge.course.loose ≡ false) × (Tracked w.judge.connections n × (value_at n w.end.live ≡ Some asked)) × (is_dc u ≡ false)
 
+  calm_row : (r peer : ℕ) (line : Line) → r ≡ n → value_at r w.end.live ≡ Some asked → is_dc u ≡ false →
+      AllByRecursion IsNoCc line.coming → Row local w.end w.coming r peer line → AllByRecursion IsNoCc (those n later)
+  calm_row r peer line same there none calm (asks here x source two early dcs first link) =
+      subst (λ (i : ℕ). AllByRecursion IsNoCc (those i later)) same
+      (subst (AllByRecursion IsNoCc)
+      (sym (after_early early u (confirm r x) (those r later) line.coming dcs none (sym (first_n r same) ∙ first))) calm)
+  calm_row r peer line same there none calm (talks link here is all) = absurd (cc (sym there ∙ here))
+  calm_row r peer line same there none calm (closes o here q shut is all) = grind arith
+  calm_row r peer line same there none calm (over h) = differ (is_some w.end.ended) h (ap is_some was)
+
   calm_later : Answered → AllByRecursion (λ (v : Value). names n v ≡ true → IsNoCc v) later
   calm_later (firm, ((p, c, at, tracked, is), there), none) =
       let g = f.lines p c at tracked in
-      picked_each IsNoCc (names n) later (grind (arith, after_early, differ))
+      picked_each IsNoCc (names n) later
+      (calm_row g.r g.peer g.line (sym g.left ∙ is) (ap (λ (i : ℕ). value_at i w.end.live) (sym g.left ∙ is) ∙ there) none
+      (g.calm (sane.judged firm p c at)) g.row)
 
   keeps_by : (v : Value) (m : ℕ) (x : Connect) → v ≡ confirm m x → m ≡ n → w.judge.course.loose ≡ false →
       Tracked w.judge.connections n × (value_at n w.end.live ≡ Some asked) → (Answered → names n v ≡ true → IsNoCc v) → (d : Bool) →

@@ -27,7 +27,7 @@ row_other local end coming r peer line v e (closes o there q k is all) = closes 
 row_other local end coming r peer line v e (over h) = over h
 
 pub row_add : (local : Local) (end : State) (coming : List Value) (r peer : ℕ) (line after : Line) (v : Value) → names r v ≡ true →
-    after.link ≡ line.link → after.coming ≡ line.coming ++ v ∷ [] → Row local end coming r peer line →
+    after.end ≡ line.end → after.coming ≡ line.coming ++ v ∷ [] → Row local end coming r peer line →
     Row local end (coming ++ v ∷ []) r peer after
 row_add local end coming r peer line after v e link same (asks there x source two early dcs first is) =
     asks there x source two early dcs (grind (arith, picked_more, names, append_assoc))

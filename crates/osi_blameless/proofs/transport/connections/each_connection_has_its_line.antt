@@ -38,11 +38,11 @@ pub data Row (local : Local) (end : State) (coming : List Value) (r peer : ℕ) 
   -- it has not taken the CC, which selects class 2, nor DCs that came before it
   asks : value_at r end.live ≡ Some asked → (x : Connect) → x.source ≡ peer → (x.class == 2) ≡ true → (early : List Value) →
       AllByRecursion IsDc early → those r coming ≡ early ++ confirm r x ∷ line.coming →
-      line.link ≡ Some (opened_link Two (agreed_size x.parameters.size local) local x.credit) → Row local end coming r peer line
-  talks : (link : Standing) → value_at r end.live ≡ Some (linked peer link) → line.link ≡ Some link → those r coming ≡ line.coming →
+      line.end ≡ Some (opened_link Two (agreed_size x.parameters.size local) local x.credit) → Row local end coming r peer line
+  talks : (link : Standing) → value_at r end.live ≡ Some (linked peer link) → line.end ≡ Some link → those r coming ≡ line.coming →
       Row local end coming r peer line
   -- it has closed it
-  closes : (o : Option Live) → value_at r end.live ≡ o → (q : ℕ) → (o ≡ Some (closing q)) ⊎ (o ≡ None) → line.link ≡ None →
+  closes : (o : Option Live) → value_at r end.live ≡ o → (q : ℕ) → (o ≡ Some (closing q)) ⊎ (o ≡ None) → line.end ≡ None →
       those r coming ≡ line.coming → Row local end coming r peer line
   -- it has ended
   over : is_some end.ended ≡ true → Row local end coming r peer line
@@ -75,7 +75,7 @@ pub record Following (local : Local) (put : List Value) (begun strays : Bool) (e
   pub spare : List Value
   pub put_is : ours r peer put ≡ line.put ++ spare
   pub spares : AllByRecursion (IsSpare strays r peer) spare
-  pub gone : spare ≢ [] → line.link ≡ None
+  pub gone : spare ≢ [] → line.end ≡ None
   pub begun_is : IsFirst line.put spare → line.begun ≡ (begun && leads (is_ours r peer) put)
   pub row : Row local end coming r peer line
   -- a second CC ends the judging of the connection
@@ -104,7 +104,7 @@ followed_at g same spares begun row = record {
   calm = g.calm;
 }
 
-row_same : (local : Local) (end : State) (coming : List Value) (r peer : ℕ) (line after : Line) → after.link ≡ line.link →
+row_same : (local : Local) (end : State) (coming : List Value) (r peer : ℕ) (line after : Line) → after.end ≡ line.end →
     after.coming ≡ line.coming → Row local end coming r peer line → Row local end coming r peer after
 row_same local end coming r peer line after link same (asks there x source two early dcs first is) =
     asks there x source two early dcs (first ∙ ap (λ (l : List Value). early ++ confirm r x ∷ l) (sym same)) (link ∙ is)
@@ -114,7 +114,7 @@ row_same local end coming r peer line after link same (over h) = over h
 
 -- and if its line goes on, with the same link and the same units that have come
 pub followed_on : {local : Local} {put puts : List Value} {b a s t : Bool} {end : State} {coming : List Value} {c e : Connection}
-    (g : Following local put b s end coming c) (line : Line) → Tracks Left g.r g.peer line → line.judge ≡ e → line.link ≡ g.line.link →
+    (g : Following local put b s end coming c) (line : Line) → Tracks Left g.r g.peer line → line.judge ≡ e → line.end ≡ g.line.end →
     line.coming ≡ g.line.coming → e.left.reference ≡ c.left.reference → e.right.reference ≡ c.right.reference →
     ours g.r g.peer puts ≡ line.put ++ g.spare → AllByRecursion (IsSpare t g.r g.peer) g.spare →
     (IsFirst line.put g.spare → line.begun ≡ (a && leads (is_ours g.r g.peer) puts)) → (e.is_judged ≡ true → c.is_judged ≡ true) →

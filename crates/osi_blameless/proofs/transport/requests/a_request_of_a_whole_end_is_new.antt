@@ -110,7 +110,7 @@ pub still_newer : (event : Event) (old new : Whole) → Happens Left event old n
 still_newer arrives old new (unit, coming, is) n = grind (arith, grows, unit_asks, unit_gives)
 still_newer (calls call) old new (may, is) n = subst Newer (sym is) (by_call call old n)
 still_newer begins_own old new (some, not_begun, is) n = grind (arith, still_below (suc n.last) (packet Left) old.judge tt n.below)
-still_newer passes_own old new (v, put, begun, is) n = subst Newer (sym is) (grind (arith, passes_asked, passes_another))
+still_newer passes_own old new (v, (put, begun, is)) n = subst Newer (sym is) (grind (arith, passes_asked, passes_another))
 still_newer begins_other old new is n = grind (arith, still_below (suc n.last) (packet Right) old.judge tt n.below)
 still_newer (passes_other v) old new (ranges, is) n = search (arith, still_below (suc n.last) (passing Right v) old.judge tt n.below)
 still_newer passes_rubbish old new is n = grind (arith, still_below)

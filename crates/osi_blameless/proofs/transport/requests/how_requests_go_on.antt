@@ -370,7 +370,7 @@ pub still_staged : (local : Local) (event : Event) (w new : Whole) → Happens L
 still_staged local arrives w new (unit, coming, is) goes newer st = grind (arith, taking local w unit new.coming coming st)
 still_staged local (calls call) w new (may, is) goes newer st = subst (Stage local) (sym is) (calling local w call may st)
 still_staged local begins_own w new (some, not_begun, is) goes newer st = subst (Stage local) (sym is) (beginning local w some st)
-still_staged local passes_own w new (v, put, begun, is) goes newer st =
+still_staged local passes_own w new (v, (put, begun, is)) goes newer st =
     subst (Stage local) (sym is) (own local w v new.put put begun newer (subst (λ (x : Whole). GoesOn x.judge) is goes) st)
 still_staged local begins_other w new is goes newer st = subst (Stage local) (sym is) (begun_elsewhere local w st)
 still_staged local (passes_other v) w new (ranges, is) goes newer st =

@@ -91,7 +91,7 @@ pub lasts_happening : (d : Direction) (event : Event) (w new : Whole) → Happen
 lasts_happening d arrives w new (u, coming, is) = subst (LastsTo w.judge) (sym is) (lasts_same w.judge.course)
 lasts_happening d (calls call) w new (may, is) = subst (LastsTo w.judge) (sym is) (lasts_same w.judge.course)
 lasts_happening d begins_own w new (some, not_begun, is) = subst (LastsTo w.judge) (sym is) (lasts_passing (packet d) w.judge)
-lasts_happening d passes_own w new (v, put, begun, is) = subst (LastsTo w.judge) (sym is) (lasts_passing (unit d v) w.judge)
+lasts_happening d passes_own w new (v, (put, begun, is)) = subst (LastsTo w.judge) (sym is) (lasts_passing (unit d v) w.judge)
 lasts_happening d begins_other w new is = subst (LastsTo w.judge) (sym is) (lasts_passing (packet (other d)) w.judge)
 lasts_happening d (passes_other v) w new (ranges, is) = subst (LastsTo w.judge) (sym is) (lasts_passing (unit (other d) v) w.judge)
 lasts_happening d passes_rubbish w new is = subst (LastsTo w.judge) (sym is) (lasts_passing (rubbish (other d)) w.judge)
