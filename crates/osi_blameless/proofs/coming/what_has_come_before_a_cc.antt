@@ -24,7 +24,7 @@ use Rattle.osi_blameless.proofs.transport.calling.a_calling_end_is_fair_in_class
 use Rattle.osi_blameless.proofs.transport.connections.no_two_open_connections_have_one_peer.{differ}
 use Rattle.osi_blameless.proofs.transport.connections.what_becomes_of_a_connection.{Told}
 use Rattle.osi_blameless.proofs.keeping.a_carrier_does_events.{none_of}
-use Rattle.osi_blameless.proofs.keeping.steps_are_events.{IsFollowed}
+use Rattle.osi_blameless.proofs.keeping.steps_are_events.{whole_of, IsFollowed}
 use Rattle.osi_blameless.proofs.in_class_2.no_unit_waits_for_the_reference_that_a_cc_gives.{one_plain}
 use Rattle.osi_blameless.proofs.in_class_2.an_end_hears_what_breaks_no_rule.{AreFine, IsHeardOn}
 use Rattle.osi_blameless.proofs.putting.a_whole_end_runs_along.{first, whole_joined}
@@ -360,10 +360,10 @@ begins_other_quiet old new is q =
 
 module _ (local : Local) (two : local.class2 ≡ true) where
   joint_alike : (j : Joint) (f : IsFollowed Left (first local two) j) (r : ℕ) → MayOpen j.end.end.carrier r →
-      MayOpen f.whole.end r × (f.whole.coming ≡ units_in j.coming)
+      MayOpen f.end r × (f.come ≡ units_in j.coming)
   joint_alike j f r may = grind (arith, early_lasts, stage_at, none_of, same_units)
 
-  to_whole : (j : Joint) (f : IsFollowed Left (first local two) j) → AreQuietNow j → IsQuiet f.whole.end f.whole.coming f.whole.judge
+  to_whole : (j : Joint) (f : IsFollowed Left (first local two) j) → AreQuietNow j → IsQuiet f.end f.come j.judge.traffic
   to_whole j f q = grind (arith, quiet_as, early_lasts, stage_at, none_of, same_units)
 
   pub passes_own_quiet : (deeds : ℕ → Deeds) (at : ℕ) (unit : Value) (old new : Joint) → Steps Left (passes_own at unit) old new →
@@ -371,17 +371,13 @@ module _ (local : Local) (two : local.class2 ≡ true) where
       AreQuiet new
   passes_own_quiet deeds at unit old new (read, octets, (put, begun, is)) h places q =
       let f = h.ahead.followed in
-      let s : f.whole.put ≡ unit ∷ new.put = f.put ∙ put in
       let knows : (takes way.Left unit old.judge.traffic).state ≡ (unit_passes Left at unit old.judge).traffic =
       sym (unit_knows Left at unit old.judge) in
-      let judge : (takes way.Left unit f.whole.judge).state ≡ (unit_passes Left at unit old.judge).traffic =
-      ap (λ (t : State). (takes way.Left unit t).state) f.judge ∙ knows in
       subst AreQuiet (sym is) (λ clear.
-      quiet_as f.whole.end old.end.end.carrier f.whole.coming (units_in old.coming) (takes way.Left unit f.whole.judge).state
-      (unit_passes Left at unit old.judge).traffic (sym judge) (λ r may. let (m, same) = joint_alike old f r may in (m, sym same))
-      (own_quiet local unit f.whole new.put s (f.begun ∙ begun) old.judge.sessions
-      (subst (λ (t : State). HaveSamePlaces t.connections old.judge.sessions.live) (sym f.judge) places) (whole_joined local two old f)
-      (subst (λ (t : State). IsOngoing t.course) (sym judge) clear)
+      quiet_as f.end old.end.end.carrier f.come (units_in old.coming) (takes way.Left unit old.judge.traffic).state
+      (unit_passes Left at unit old.judge).traffic (sym knows) (λ r may. let (m, same) = joint_alike old f r may in (m, sym same))
+      (own_quiet local unit (whole_of f) new.put put begun old.judge.sessions places (whole_joined local two old f)
+      (subst (λ (t : State). IsOngoing t.course) (sym knows) clear)
       (to_whole old f (q (before_going (passing way.Left unit) old.judge.traffic
       (subst (λ (t : State). IsOngoing t.course) (sym knows) clear))))))
 
@@ -397,9 +393,9 @@ module _ (local : Local) (two : local.class2 ≡ true) where
       (units_fit units bytes (units_found bytes units octets read)) in
       let after = (units_pass Right at units old.judge).traffic in
       subst AreQuiet (sym is) (λ clear.
-      quiet_as f.whole.end old.end.end.carrier (f.whole.coming ++ units) (units_in (old.coming ++ bytes ∷ [])) after after refl
+      quiet_as f.end old.end.end.carrier (f.come ++ units) (units_in (old.coming ++ bytes ∷ [])) after after refl
       (λ r may. let (m, same) = joint_alike old f r may in (m, all ∙ ap (λ (l : List Value). l ++ units) (sym same)))
-      (units_quiet local at units f.whole old.judge fine clear ranges (whole_joined local two old f) f.judge
+      (units_quiet local at units (whole_of f) old.judge fine clear ranges (whole_joined local two old f) refl
       (to_whole old f (q (ongoing_first at units old.judge fine clear)))))
 
 pub turns_quiet : (turn : Turn) (old new : Joint) (t : TakesTurn turn old new) (deeds : ℕ → Deeds) →

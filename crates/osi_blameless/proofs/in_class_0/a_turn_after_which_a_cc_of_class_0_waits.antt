@@ -9,7 +9,7 @@ use Rattle.osi_blameless.proofs.Vocabulary.{Joint, TakesTurn, parts_of, HaveSame
 use Rattle.std.proofs.lemmas.List.Concat.{flat_map-append}
 use Rattle.osi_carrier.specs.State.{State as Carrier}
 use Rattle.osi_judge.specs.Courses.{Course as Passed}
-use Rattle.osi_blameless.proofs.keeping.steps_are_events.{IsFollowed}
+use Rattle.osi_blameless.proofs.keeping.steps_are_events.{whole_of, IsFollowed}
 use Rattle.osi_blameless.proofs.small_facts_that_many_lemmas_use.{none_some, all_front, early_lasts}
 use Rattle.osi_blameless.proofs.putting.a_called_end_answers_with_class_2_or_selects_class_0.{answers_or_selects}
 use Rattle.osi_blameless.proofs.putting.a_turn_does_what_its_deeds_say.{turn_uses}
@@ -54,19 +54,19 @@ none_taken a b before now = grind (arith, parts_taken, taken_more, flat_map-appe
 
 module _ (local : Local) (j : Joint) (f : IsFollowed Right (first local) j) (n : ℕ) (x : Connect) (rest : List Value)
     (put : j.put ≡ confirm n x ∷ rest) where
-  pub dts_after : Selecting local f.whole → AllByRecursion IsDt0 rest
+  pub dts_after : Selecting local (whole_of f) → AllByRecursion IsDt0 rest
   dts_after z =
       let limit = unit_octets z.size - 3 in
-      subst (AllByRecursion IsDt0) (same_later _ _ z.more rest (sym z.put ∙ f.put ∙ put))
-      (all_data limit 0 z.more (zero_puts limit f.whole.end 0 z.more z.end))
+      subst (AllByRecursion IsDt0) (same_later _ _ z.more rest (sym z.put ∙ put))
+      (all_data limit 0 z.more (zero_puts limit f.end 0 z.more z.end))
 
   selects : IsFirm j.judge.traffic.course → j.judge.traffic.course.class ≡ None →
-      HaveSamePlaces j.judge.traffic.connections j.judge.sessions.live → (x.class ≡ 2 → ⊥) → Selecting local f.whole
+      HaveSamePlaces j.judge.traffic.connections j.judge.sessions.live → (x.class ≡ 2 → ⊥) → Selecting local (whole_of f)
   selects sure class places not =
       by (answers_or_selects local j f
       (grind (arith, none_some)) places)
     where
-      by : AllByRecursion AnswersTwo j.put ⊎ Selecting local f.whole → Selecting local f.whole
+      by : AllByRecursion AnswersTwo j.put ⊎ Selecting local (whole_of f) → Selecting local (whole_of f)
       by (inl two) = absurd (not (subst (AllByRecursion AnswersTwo) put two).0)
       by (inr z) = z
 

@@ -3,7 +3,7 @@
 -- in class 0.
 use Rattle.osi_blameless.proofs.Vocabulary.{◌≡◌, ◌∙◌, refl, sym, ap, subst, ℕ, ◌<◌, Bool, true, false, List, ◌∷◌, ◌++◌, Option, Some}
 use Rattle.osi_blameless.proofs.Vocabulary.{inl, inr, ◌⊎◌, ◌==◌, slice_get, AllByRecursion, eqb-true, Connect, Value, confirm, Local}
-use Rattle.osi_blameless.proofs.Vocabulary.{Direction, Left, Right, other, Connection, is_open, own, State, Whole, unlike, IsFirm}
+use Rattle.osi_blameless.proofs.Vocabulary.{Direction, Left, Right, other, Connection, is_open, own, State, unlike, IsFirm}
 use Rattle.osi_blameless.proofs.Vocabulary.{Deeds, then_did, units_in, Marked, all_units, Turn, early, past}
 use Rattle.osi_blameless.proofs.Vocabulary.{stage_at, all_units_more, Joined, reference_of, Joint, TakesTurn, IsOneOf, calls_from, way_of}
 use Rattle.osi_blameless.proofs.Vocabulary.{is_of_link, Time}
@@ -31,6 +31,7 @@ use Rattle.osi_blameless.proofs.coming.what_an_end_takes_at_each_stage.{AreCalm,
 use Rattle.osi_blameless.proofs.standing.what_stands_of_a_connection.{waiting_for}
 use Rattle.osi_blameless.proofs.in_class_0.what_the_stage_of_a_whole_end_says.{AwaitsCc, IsDt0, stage_of, zero_awaits, zero_put}
 use Rattle.osi_blameless.proofs.steps.what_the_turns_among_steps_do.{TurnDoes}
+use Rattle.osi_blameless.proofs.keeping.steps_are_events.{whole_of}
 
 -- nothing is for the connection before it opens
 calm_of : (d : Direction) (r : ℕ) (s : Time) (took : List Marked) (had others : List Value) → AwaitsCc d had →
@@ -64,9 +65,6 @@ module _ (d : Direction) (local : Local) (turn : Turn) (old new : Joint) (t : Ta
   g : GoesOn d (wholes.begin (calls_from d) local) h.ahead.bound new
   g = turns_ahead d (wholes.begin (calls_from d) local) turn old new t h.ahead
 
-  abbrev whole : Whole
-  whole = g.ahead.followed.whole
-
   then_firm : IsFirm new.judge.traffic.course
   then_firm = subst (λ (c : Passed). IsFirm c.traffic.course) (sym t.course) sure
 
@@ -79,8 +77,7 @@ module _ (d : Direction) (local : Local) (turn : Turn) (old new : Joint) (t : Ta
   -- all that it puts is DTs
   dts : AllByRecursion IsDt0 (all_units does.on.put)
   dts =
-      let all = zero_put d local whole (ap (λ (x : State). x.course.class) g.ahead.followed.judge ∙ class_then ∙ z.class)
-      (stage_of d local new g.ahead.followed then_firm) in
+      let all = zero_put d local (whole_of g.ahead.followed) (class_then ∙ z.class) (stage_of d local new g.ahead.followed then_firm) in
       turn_puts d (wholes.begin (calls_from d) local) turn old new t (all_units does.on.put) does.units g.ahead.followed IsDt0 all
 
   -- what holds of all that had come holds of a CC that was taken

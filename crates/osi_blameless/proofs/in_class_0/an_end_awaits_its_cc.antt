@@ -43,6 +43,7 @@ use Rattle.osi_blameless.proofs.standing.what_stands_of_a_connection.{waiting_fo
 use Rattle.osi_blameless.proofs.in_class_0.what_the_stage_of_a_whole_end_says.{AwaitsAnswer, PassesOwn, adding, asking, awaits, cc_comes}
 use Rattle.osi_blameless.proofs.in_class_0.what_the_stage_of_a_whole_end_says.{gone, one_early}
 use Rattle.osi_blameless.proofs.in_class_0.what_the_stage_of_a_whole_end_says.{own_unit, runs_staged}
+use Rattle.osi_blameless.proofs.keeping.steps_are_events.{whole_of}
 
 -- ---- small facts
 
@@ -292,7 +293,14 @@ module _ (local : Local) where
       units_come local deeds j.end.end.carrier j.put j.begun at h.ahead.bound (were_given j h.ahead) front (units_in j.coming) j.judge
       (all_front HasFieldsInRange front back
       (ranges_of (front ++ back) (units_fit (front ++ back) octets (units_found octets (front ++ back) all read)))) passed not
-      (search (arith, runs_staged)) h.ahead.below h.none
+      (record {
+        whole = whole_of h.ahead.followed;
+        holds = runs_staged local j h.ahead.followed;
+        judge = refl;
+        like = h.ahead.followed.like;
+        same = refl;
+      })
+      h.ahead.below h.none
 
   -- ---- at the beginning
 
@@ -435,10 +443,6 @@ module _ (local : Local) where
     unanswered_own_passes at v old new (read, octets, (put, begun, is)) right h =
         let mid = own_passed at v old new.put in
         let f = h.ahead.followed in
-        let s : f.whole.put ≡ v ∷ new.put = f.put ∙ put in
-        let zero_not : f.whole.judge.course.class ≡ Some Two → ⊥ =
-        λ two. none_some old.judge.traffic.course.class Two h.none.class (ap (λ (t : State). t.course.class) (sym f.judge) ∙ two) in
-        let kind = own_unit local f.whole v new.put
-        ((runs_staged local old f).stage (ap (λ (t : State). t.course.left_stopped) f.judge ∙ right.goes)) s
-        (f.begun ∙ begun) zero_not in
-        subst Stands (sym is) (by_kind at v old new.put f.whole f.judge kind (read, octets, (put, begun, refl)) right h)
+        let kind = own_unit local (whole_of f) v new.put ((runs_staged local old f).stage right.goes) put begun
+        (λ two. none_some old.judge.traffic.course.class Two h.none.class two) in
+        subst Stands (sym is) (by_kind at v old new.put (whole_of f) refl kind (read, octets, (put, begun, refl)) right h)

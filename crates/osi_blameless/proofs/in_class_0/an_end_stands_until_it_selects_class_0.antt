@@ -36,6 +36,7 @@ use Rattle.osi_blameless.proofs.in_class_0.what_a_turn_puts_at_the_connections_t
 use Rattle.osi_blameless.proofs.putting.what_a_turn_puts_goes_to_its_peer.{all_back}
 use Rattle.osi_blameless.proofs.in_class_2.what_is_asked_of_what_holds_at_each_step.{ArePassed, HaveCourses, early}
 use Rattle.osi_blameless.proofs.standing.what_passes_leaves_all_standing.{firm_goes, firm_links, mild_stays}
+use Rattle.osi_blameless.proofs.keeping.steps_are_events.{whole_of}
 
 -- ---- small facts
 
@@ -206,7 +207,7 @@ module _ (local : Local) where
     }
 
     turn_by : AllByRecursion AnswersTwo new.put
-        ⊎ Selecting local (turns_ahead Right (first local) turn old new t h.stands.own.ahead).ahead.followed.whole →
+        ⊎ Selecting local (whole_of (turns_ahead Right (first local) turn old new t h.stands.own.ahead).ahead.followed) →
         StandsUnselected local then_deeds new ⊎ StandsAnswering local then_deeds new
     turn_by (inl two) = inl (none_turns two)
     turn_by (inr z) = inr (turns_selecting local turn old new t deeds does firm h z)

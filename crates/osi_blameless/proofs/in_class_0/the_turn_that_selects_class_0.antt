@@ -5,7 +5,7 @@ use Rattle.osi_blameless.proofs.Vocabulary.{arith, AllByRecursion, Connect, Valu
 use Rattle.osi_blameless.proofs.Vocabulary.{Selecting, IsClear, IsFirm, Deeds, then_did, units_in, all_units, Turn}
 use Rattle.osi_blameless.proofs.Vocabulary.{amid, stage_at, all_units_more, Sessions, Joint, TakesTurn, parts_of, going_on}
 use Rattle.osi_carrier.specs.State.{State as Carrier}
-use Rattle.osi_blameless.proofs.keeping.steps_are_events.{IsFollowed}
+use Rattle.osi_blameless.proofs.keeping.steps_are_events.{whole_of, IsFollowed}
 use Rattle.osi_blameless.proofs.small_facts_that_many_lemmas_use.{none_some}
 use Rattle.osi_blameless.proofs.in_class_2.an_end_is_ready_for_each_cc_that_passes.{waits_above}
 use Rattle.osi_blameless.proofs.putting.a_whole_end_runs_along.{has_lines}
@@ -26,6 +26,7 @@ use Rattle.osi_blameless.proofs.coming.what_is_in_flight_to_an_end.{parts_taken}
 use Rattle.osi_blameless.proofs.standing.what_stands_of_a_connection.{Known, waiting_for}
 use Rattle.osi_blameless.proofs.in_class_0.what_the_stage_of_a_whole_end_says.{IsDt0}
 use Rattle.osi_blameless.proofs.steps.what_the_turns_among_steps_do.{TurnDoes}
+use Rattle.osi_blameless.proofs.Vocabulary.{inl}
 
 -- ---- connections without a reference of the end
 
@@ -98,12 +99,12 @@ module _ (local : Local) (turn : Turn) (old new : Joint) (t : TakesTurn turn old
   clear : IsClear old.judge.traffic.course
   clear = record { sure = sure; two = λ zero_is. none_some old.judge.traffic.course.class Zero all.class zero_is }
 
-  module _ (z : Selecting local f.whole) where
+  module _ (z : Selecting local (whole_of f)) where
     abbrev answer : Connect
     answer = acceptance Zero z.size z.x local z.r
 
     put_is : confirm z.x.source answer ∷ z.more ≡ new.put
-    put_is = sym z.put ∙ f.put
+    put_is = sym z.put
 
     starts : StartsWithCc answer.source new.put
     starts = record { n = z.x.source; x = answer; rest = z.more; is = sym put_is; source = refl; not_two = λ two. cc two }
@@ -120,7 +121,9 @@ module _ (local : Local) (turn : Turn) (old new : Joint) (t : TakesTurn turn old
     all_put = sym does.units ∙ ap (λ (l : List Value). l ++ t.units) (sym empty) ∙ sym t.put ∙ starts.is
 
     less : h.own.ahead.bound < x.source
-    less = search (arith, waits_above, first, starts)
+    less =
+        let above = waits_above local new ahead.ahead starts.n x.source (subst (HasCc starts.n x.source) (sym starts.is) (inl (refl, refl))) in
+        let rises = ahead.rises in omega (arith, above, rises)
 
     dts : AllByRecursion IsDt0 starts.rest
     dts = dts_after local new f starts.n x starts.rest starts.is z
@@ -145,7 +148,7 @@ module _ (local : Local) (turn : Turn) (old new : Joint) (t : TakesTurn turn old
     some begun =
         let g = h.own.ahead.followed in
         let lines = has_lines local old g (going_on old.judge.traffic.course clear) h.own.holds.two in
-        λ none. lines.called.some (g.begun ∙ begun) (sym lines.called.put ∙ g.put ∙ none)
+        λ none. lines.called.some begun (sym lines.called.put ∙ none)
 
     pub turns_selecting : StandsAnswering local (λ r. then_did (deeds r) (does.on.more r)) new
     turns_selecting =

@@ -16,7 +16,7 @@ use Rattle.osi_blameless.specs.transport.Wholes as wholes
 use Rattle.osi_blameless.proofs.transport.requests.how_requests_go_on.{Stage, asks, zero}
 use Rattle.osi_blameless.proofs.small_facts_that_many_lemmas_use.{early_lasts, given_so, none_some}
 use Rattle.osi_blameless.proofs.small_facts_that_many_lemmas_use as small
-use Rattle.osi_blameless.proofs.keeping.steps_are_events.{IsFollowed}
+use Rattle.osi_blameless.proofs.keeping.steps_are_events.{whole_of, IsFollowed}
 use Rattle.osi_blameless.proofs.putting.a_whole_end_runs_along.{called_joined}
 use Rattle.osi_blameless.proofs.putting.each_reference_of_an_end_is_new.{IsAhead, IsWithin}
 use Rattle.osi_blameless.proofs.small_facts_that_many_lemmas_use.{same_units}
@@ -152,14 +152,14 @@ abbrev pub StageOf : Direction → Local → Whole → Type 0
 StageOf side.Left local w = Stage local w
 StageOf side.Right local w = CalledStage local w
 
-pub runs_staged : (local : Local) (j : Joint) (f : IsFollowed side.Left (wholes.begin true local) j) → Holds local f.whole
+pub runs_staged : (local : Local) (j : Joint) (f : IsFollowed side.Left (wholes.begin true local) j) → Holds local (whole_of f)
 runs_staged local j f =
-    along_keeps (Happens way.Left) (Holds local) (holds_next local) f.events (wholes.begin true local) f.whole f.along (holds_first local)
+    along_keeps (Happens way.Left) (Holds local) (holds_next local) f.events (wholes.begin true local) (whole_of f) f.along (holds_first local)
 
 -- as long as all is judged
 pub stage_of : (d : Direction) (local : Local) (j : Joint) (f : IsFollowed d (wholes.begin (calls_from d) local) j) →
-    IsFirm j.judge.traffic.course → StageOf d local f.whole
-stage_of side.Left local j f firm = (runs_staged local j f).stage (ap (λ (s : State). s.course.left_stopped) f.judge ∙ firm.left)
+    IsFirm j.judge.traffic.course → StageOf d local (whole_of f)
+stage_of side.Left local j f firm = (runs_staged local j f).stage firm.left
 stage_of side.Right local j f firm = (called_joined local j f).stage (grind arith)
 
 -- it has put DTs alone in class 0
@@ -173,9 +173,7 @@ pub own_is_dt : (local : Local) (d : Direction) (at : ℕ) (v : Value) (old new 
     IsFollowed d (wholes.begin (calls_from d) local) old → IsFirm old.judge.traffic.course → old.judge.traffic.course.class ≡ Some Zero →
     IsDt0 v
 own_is_dt local d at v old new step f firm class =
-    let s : f.whole.put ≡ v ∷ new.put = f.put ∙ step.2.0 in
-    (subst (AllByRecursion IsDt0) s
-    (zero_put d local f.whole (ap (λ (t : State). t.course.class) f.judge ∙ class) (stage_of d local old f firm))).0
+    (subst (AllByRecursion IsDt0) step.2.0 (zero_put d local (whole_of f) class (stage_of d local old f firm))).0
 
 -- The CC has come for a connection that may still open. A called end has none such: it opens the connection with its own CC.
 abbrev pub AwaitsCc : Direction → List Value → Type 0
@@ -192,13 +190,12 @@ pub zero_awaits : (d : Direction) (local : Local) (j : Joint) (a : IsAhead d (wh
     stage_at r j.end.end.carrier ≡ early → AwaitsCc d (units_in j.coming)
 zero_awaits d local j a r firm class within may =
     let f = a.followed in
-    let w = f.whole in
+    let w = (whole_of f) in
     let end = j.end.end.carrier in
     let lasts = early_lasts r end may in
     let whole_lasts = none_of w.end.ended (sym f.like.over ∙ ap is_some lasts) in
     let stage = stage_of d local j f firm in
-    let zero_is : w.judge.course.class ≡ Some Zero = ap (λ (s : State). s.course.class) f.judge ∙ class in
     let given : r ≤ w.end.given =
     (let low = a.above.given in let up = within.1 in omega (arith, low, up)) in
     subst (AwaitsCc d) (f.coming lasts ∙ same_units j.coming)
-    (awaits_by d local w r zero_is within.0 given whole_lasts (ap (stage_at r) (f.like.lasts whole_lasts) ∙ may) stage)
+    (awaits_by d local w r class within.0 given whole_lasts (ap (stage_at r) (f.like.lasts whole_lasts) ∙ may) stage)

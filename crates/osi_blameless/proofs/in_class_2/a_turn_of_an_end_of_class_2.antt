@@ -4,7 +4,7 @@
 use Rattle.osi_blameless.proofs.Vocabulary.{AllByRecursion, Connection, Continues, Course, Deeds, Direction, HaveSamePlaces}
 use Rattle.osi_blameless.proofs.Vocabulary.{IsOngoing, Joined, Joint, Left, Life, List, Local, Right, Some, TakesTurn, Time, Tracked}
 use Rattle.osi_blameless.proofs.Vocabulary.{Turn, Value, [], ap, arith, calls_from, early, false, inl, inr, is_closing, is_some}
-use Rattle.osi_blameless.proofs.Vocabulary.{le-leb, lt-ltb, none_of, number_is, other, reference_of, slice_get, stage_at, subst, sym}
+use Rattle.osi_blameless.proofs.Vocabulary.{none_of, number_is, other, reference_of, slice_get, stage_at, subst, sym}
 use Rattle.osi_blameless.proofs.Vocabulary.{then_did, true, units_in, ℕ, ◌++◌, ◌<◌, ◌∙◌, ◌≡◌, ◌≢◌, ◌≤◌, ◌⊎◌, own, way_of}
 use Rattle.osi_judge.specs.Courses.{Course as Passed}
 use Rattle.osi_blameless.proofs.in_class_2.an_end_is_ready_for_each_cc_that_passes as ccs
@@ -32,6 +32,8 @@ use Rattle.osi_blameless.proofs.coming.what_an_end_takes_at_each_stage.{AreReady
 use Rattle.osi_blameless.proofs.standing.what_stands_of_a_connection.{waiting_for}
 use Rattle.osi_blameless.proofs.small_facts_that_many_lemmas_use.{early_lasts}
 use Rattle.osi_blameless.proofs.steps.what_the_turns_among_steps_do.{TurnDoes}
+use Rattle.osi_blameless.proofs.small_facts_that_many_lemmas_use.{given_so}
+use Rattle.osi_blameless.proofs.keeping.steps_are_events.{whole_of}
 
 first_so : {A B C : Type 0} → (A → C) → A ⊎ B → C ⊎ B
 first_so f (inl a) = inl (f a)
@@ -93,12 +95,15 @@ module _ (local : Local) (two : local.class2 ≡ true) where
   joint_awaits deeds j h clear places r some tracked may =
       let f = h.ahead.followed in
       let lasts = early_lasts r j.end.end.carrier may in
-      let whole_lasts = none_of f.whole.end.ended (sym f.like.over ∙ ap is_some lasts) in
-      let alike : stage_at r f.whole.end ≡ stage_at r j.end.end.carrier = ap (stage_at r) (f.like.lasts whole_lasts) in
+      let whole_lasts = none_of f.end.ended (sym f.like.over ∙ ap is_some lasts) in
+      let alike : stage_at r f.end ≡ stage_at r j.end.end.carrier = ap (stage_at r) (f.like.lasts whole_lasts) in
       let (p, c, at, is, same, judged) = tracked in
       let (k, here, one) = at_same j.judge.traffic.connections j.judge.sessions.live p c places at in
       let low : r ≤ h.ahead.bound = (h.ahead.below.live p k r here (ap (λ (m : ℕ). Some m) (one.calling ∙ same))).1 in
-      grind (arith, awaits_cc, lt-ltb, le-leb, f.coming lasts, same_units j.coming, whole_joined local two j f)
+      let up = h.ahead.above.given in
+      subst (AwaitsCc r) (f.coming lasts ∙ same_units j.coming)
+      (awaits_cc local (whole_of f) r (whole_joined local two j f) clear tracked (given_so r f.end some (omega (arith, low, up))) (alike ∙ may)
+      whole_lasts)
 
   module _ (turn : Turn) (old new : Joint) (t : TakesTurn turn old new) (deeds : ℕ → Deeds)
       (on : Continues true deeds old.end turn new.end) (h : OwnInTwo Left local deeds old)
@@ -170,7 +175,7 @@ module _ (local : Local) (two : local.class2 ≡ true) where
       (judged_tracked deeds old h r i c j there here judged named
       (subst (λ (n : ℕ). 0 < n → stage_at n old.end.end.carrier ≡ early → Tracked old.judge.traffic.connections n) same
       (tracked i c there closing) some may)) may)
-      (λ begun none. (whole_followed local two old f clear).some (f.begun ∙ begun) (f.put ∙ none)) clear h own
+      (λ begun none. (whole_followed local two old f clear).some begun none) clear h own
 
 -- ---- a turn of an end that is called
 
@@ -190,5 +195,5 @@ answers_turn local turn old new t deeds does two clear h =
     (λ i c j r there here judged closing named some may.
     let over = early_above local deeds old h.own clear r some may in
     let low = (h.own.ahead.below.live i j r here named).1 in absurd (omega (arith, low, over)))
-    (λ begun none. lines.called.some (f.begun ∙ begun) (sym lines.called.put ∙ f.put ∙ none)) clear h
+    (λ begun none. lines.called.some begun (sym lines.called.put ∙ none)) clear h
     (ccs.turns_own local turn old new t deeds does a.places clear h.own two)

@@ -16,7 +16,7 @@ use Rattle.osi_blameless.specs.transport.Wholes as wholes
 use Rattle.osi_blameless.proofs.ends.courses.how_long_a_connection_is_open.{Stage}
 use Rattle.osi_blameless.proofs.keeping.a_carrier_does_events.{none_of}
 use Rattle.osi_blameless.proofs.small_facts_that_many_lemmas_use.{amid_not, early_lasts, given_so, past_not}
-use Rattle.osi_blameless.proofs.keeping.steps_are_events.{IsFollowed}
+use Rattle.osi_blameless.proofs.keeping.steps_are_events.{whole_of, IsFollowed}
 use Rattle.osi_blameless.proofs.putting.a_whole_end_runs_along.{HasLines, has_lines}
 use Rattle.osi_blameless.proofs.putting.a_called_end_of_class_2_puts_no_dt_of_class_0.{called_put_two}
 use Rattle.osi_blameless.proofs.in_class_2.an_end_of_class_2_goes_on.{OwnInTwo}
@@ -105,15 +105,15 @@ module _ (local : Local) where
       IsOngoing j.judge.traffic.course → (r : ℕ) → 0 < r → stage_at r j.end.end.carrier ≡ early → h.ahead.bound < r
   early_above deeds j h clear r some may =
       let f = h.ahead.followed in
-      let lasts = none_of f.whole.end.ended (sym f.like.over ∙ ap is_some (early_lasts r j.end.end.carrier may)) in
-      let there : stage_at r f.whole.end ≡ early = ap (stage_at r) (f.like.lasts lasts) ∙ may in
-      let given = early_not_given r f.whole.end lasts (has_lines local j f clear h.holds.two).end.none there in
+      let lasts = none_of f.end.ended (sym f.like.over ∙ ap is_some (early_lasts r j.end.end.carrier may)) in
+      let there : stage_at r f.end ≡ early = ap (stage_at r) (f.like.lasts lasts) ∙ may in
+      let given = early_not_given r f.end lasts (has_lines local j f clear h.holds.two).end.none there in
       let up = h.ahead.above.given in grind (arith, above_given, up)
 
   -- a CC that waits is above all references at the judge
   pub waits_above : (j : Joint) (h : IsAhead Right first j) → (n r : ℕ) → HasCc n r j.put → h.bound < r
   waits_above j h n r has =
-      has_above h.bound n r j.put (subst (λ (l : List Value). Rise h.bound (given_among Right l)) h.followed.put h.above.rise) has
+      has_above h.bound n r j.put h.above.rise has
 
   -- ---- a unit that passes
 
@@ -191,10 +191,10 @@ module _ (local : Local) where
     turn_put : new.put ≡ old.put ++ all_units does.on.put
     turn_put = t.put ∙ ap (λ (l : List Value). old.put ++ l) does.units
 
-    before : HasLines local f.whole
+    before : HasLines local (whole_of f)
     before = has_lines local old f clear h.holds.two
 
-    after : HasLines local g.ahead.followed.whole
+    after : HasLines local (whole_of g.ahead.followed)
     after = has_lines local new g.ahead.followed (grind arith) turn_two
 
     -- the reference of a CC that waits now
@@ -222,8 +222,7 @@ module _ (local : Local) where
 
     turn_ordered : AreOrdered new.put
     turn_ordered =
-        subst AreOrdered g.ahead.followed.put
-        (put_ordered local g.ahead.followed.whole new.judge.sessions after (grind (arith, g)))
+        put_ordered local (whole_of g.ahead.followed) new.judge.sessions after (grind (arith, g))
 
     put_more : (n r : ℕ) → HasCc n r new.put → (does.on.more r).put ≡ waiting_for (Some n) (all_units does.on.put)
     put_more n r has = search (arith, puts_for, g, before, after, no_cc, home_low, above_old)
@@ -234,7 +233,7 @@ module _ (local : Local) where
     none_put_before n r has less (inl none) = none
     none_put_before n r has less (inr (m, waited)) =
         not_twice g.ahead.bound m n r old.put (all_units does.on.put)
-        (subst (λ (l : List Value). Rise g.ahead.bound (given_among Right l)) (g.ahead.followed.put ∙ turn_put) g.ahead.above.rise) waited
+        (subst (λ (l : List Value). Rise g.ahead.bound (given_among Right l)) turn_put g.ahead.above.rise) waited
         has
 
     waits_by : (n r : ℕ) → HasCc n r new.put → HasCc n r old.put ⊎ HasCc n r (all_units does.on.put) →
@@ -307,7 +306,7 @@ module _ (local : Local) where
         by None lasts =
             called_marked local deeds turn old new t does.on f before places news
             (turn_puts Right first turn old new t (all_units does.on.put) does.units g.ahead.followed IsNotZero
-            (called_put_two local g.ahead.followed.whole after.called)) no_cc
+            (called_put_two local (whole_of g.ahead.followed) after.called)) no_cc
         by (Some reason) gone =
             let done = over_acts turn old.end new.end (subst IsSome (sym gone) refl) t.takes in
             grind (arith, none_put)

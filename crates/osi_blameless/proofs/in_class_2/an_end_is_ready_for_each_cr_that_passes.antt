@@ -4,7 +4,6 @@
 use Rattle.osi_blameless.proofs.Vocabulary.{◌≡◌, refl, sym, subst, ℕ, true, AllByRecursion, Value, acknowledge, confirm, data0, data2}
 use Rattle.osi_blameless.proofs.Vocabulary.{disconnect, disconnected, error, request, Local, Left, IsOngoing, Deeds, then_did}
 use Rattle.osi_blameless.proofs.Vocabulary.{units_in, Turn, Joint, Steps, TakesTurn, passes_own, HaveSamePlaces}
-use Rattle.osi_blameless.proofs.Vocabulary.{◌∙◌, ◌∷◌}
 use Rattle.osi_blameless.proofs.putting.a_whole_end_runs_along.{first, whole_followed}
 use Rattle.osi_blameless.proofs.putting.a_turn_does_what_its_deeds_say.{turn_leaves}
 use Rattle.osi_blameless.proofs.putting.what_a_turn_puts_goes_to_its_peer.{all_back}
@@ -15,6 +14,7 @@ use Rattle.osi_blameless.proofs.putting.nothing_is_done_before_a_cr_passes.{IsNo
 use Rattle.osi_blameless.proofs.putting.nothing_is_done_before_a_cr_passes.{may_take, turn_undone}
 use Rattle.osi_blameless.proofs.standing.what_passes_leaves_all_standing.{IsReady}
 use Rattle.osi_blameless.proofs.steps.what_the_turns_among_steps_do.{TurnDoes}
+use Rattle.osi_blameless.proofs.keeping.steps_are_events.{whole_of}
 
 module _ (local : Local) (two : local.class2 ≡ true) where
   -- ---- a unit that passes
@@ -25,12 +25,11 @@ module _ (local : Local) (two : local.class2 ≡ true) where
       old.judge.sessions
   is_ready deeds at (request x) old new (read, octets, (put, begun, is)) clear h =
       let f = h.ahead.followed in
-      let s : f.whole.put ≡ request x ∷ new.put = f.put ∙ put in
-      let k = passes_given Left h.ahead.bound x.source (request x) new.put f.whole (record f.whole { put = new.put }) refl s refl refl
+      let k = passes_given Left h.ahead.bound x.source (request x) new.put (whole_of f) (record (whole_of f) { put = new.put }) refl put refl refl
       h.ahead.above in
       cr_ready h.ahead.bound deeds old.end.end.carrier x (units_in old.coming) new.put old.judge.traffic old.judge.sessions k.new_is
       h.holds.undone
-      (λ lasts. cr_calm local (first local two) old f (whole_followed local two old f clear) x new.put s h.holds.zero lasts)
+      (λ lasts. cr_calm local (first local two) old f (whole_followed local two old f clear) x new.put put h.holds.zero lasts)
   is_ready deeds at (confirm n x) old new step clear h = tt
   is_ready deeds at (disconnect n source reason user) old new step clear h = tt
   is_ready deeds at (disconnected n source) old new step clear h = tt

@@ -5,7 +5,7 @@ use Rattle.osi_blameless.proofs.Vocabulary.{append-nil, slice_get, units_of, Val
 use Rattle.osi_blameless.proofs.Vocabulary.{Holding, Joined, spoken, none, unit_passes, units_pass, heard, begins_other, begins_own, Joint}
 use Rattle.osi_blameless.proofs.Vocabulary.{begin, passes_other, passes_own, Steps, Direction, other, HaveSamePlaces, arith, packet_begins}
 use Rattle.osi_blameless.proofs.Vocabulary.{calls_from, fresh_apart, no_item, HasFieldsInRange, IsFresh, IsOctets, IsOngoing}
-use Rattle.osi_blameless.proofs.Vocabulary.{Left, Local, Ok, Right, State, units_fit, units_found}
+use Rattle.osi_blameless.proofs.Vocabulary.{Left, Local, Ok, Right, units_fit, units_found}
 use Rattle.osi_blameless.specs.ends.Courses.{Course}
 use Rattle.osi_blameless.proofs.shown.a_right_dt_has_one_place.{AreUsedApart, named_apart}
 use Rattle.osi_blameless.proofs.putting.a_turn_does_what_its_deeds_say.{units_more}
@@ -32,6 +32,7 @@ use Rattle.osi_blameless.proofs.in_class_2.no_unit_waits_for_the_reference_that_
 use Rattle.osi_blameless.proofs.in_class_2.no_unit_waits_for_the_reference_that_a_cc_gives.{IsBehind, IsPlain, fine_plain}
 use Rattle.osi_blameless.proofs.in_class_2.no_unit_of_the_calling_side_gives_a_reference as ccs_heard
 use Rattle.osi_blameless.proofs.putting.what_a_turn_puts_goes_to_its_peer.{all_so}
+use Rattle.osi_blameless.proofs.keeping.steps_are_events.{whole_of}
 
 -- what is known of the parts that are left over
 abbrev pub known_at : Joint → Known
@@ -158,7 +159,7 @@ used_apart Left local two deeds j clear h = peers_apart local two j h.own.ahead.
 used_apart Right local two deeds j clear h =
     let f = h.own.ahead.followed in
     let lines = has_lines local j f clear h.own.holds.two in
-    subst (λ (s : State). AreUsedApart Right s.connections) f.judge (named_apart Right f.whole.judge.connections lines.apart lines.named)
+    named_apart Right j.judge.traffic.connections lines.apart lines.named
 
 -- ---- a unit of the end passes
 
@@ -196,7 +197,8 @@ pub hears_front : (d : Direction) (local : Local) → MayGetTwo d local → (dee
 hears_front Left local two deeds at octets front back j all read fine h =
     let f = h.own.ahead.followed in
     let b = h.own.ahead.bound in
-    let behind : IsBehind local j.put j.judge = search (arith, whole_joined) in
+    let behind : IsBehind local j.put j.judge =
+    record { whole = whole_of f; follows = whole_joined local two j f; judge = refl; same = refl } in
     let plain = fine_plain b at front j.judge fine in
     record {
       heard = crs_heard.units_heard local j.put deeds (may_take j.end.end.carrier) j.begun at front

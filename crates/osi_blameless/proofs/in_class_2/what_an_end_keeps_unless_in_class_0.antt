@@ -32,7 +32,7 @@ use Rattle.osi_blameless.proofs.coming.what_has_come_before_a_cc.{AreQuiet, begi
 use Rattle.osi_blameless.proofs.coming.what_has_come_before_a_cc.{passes_other_quiet, passes_own_quiet, turns_quiet}
 use Rattle.osi_blameless.proofs.in_class_2.what_is_asked_of_what_holds_at_each_step.{ArePassed, Keeps, Leads, leads_either}
 use Rattle.osi_blameless.proofs.small_facts_that_many_lemmas_use.{all_front, none_some}
-use Rattle.osi_blameless.proofs.keeping.steps_are_events.{IsFollowed, begin_followed}
+use Rattle.osi_blameless.proofs.keeping.steps_are_events.{whole_of, IsFollowed, begin_followed}
 use Rattle.osi_blameless.proofs.steps.what_passes_keeps_a_claim.{step_kept}
 use Rattle.osi_blameless.proofs.steps.what_the_turns_among_steps_do.{TurnDoes}
 use Rattle.osi_blameless.proofs.in_class_2.what_is_asked_of_what_holds_at_each_step.{leads_more}
@@ -102,16 +102,14 @@ module _ (local : Local) where
   none_passes deeds at v old new (read, octets, (put, begun, is)) clear then_two h =
       absurd (by (answers_or_selects local old h.followed clear h.places))
     where
-      by : AllByRecursion AnswersTwo old.put ⊎ Selecting local h.followed.whole → ⊥
+      by : AllByRecursion AnswersTwo old.put ⊎ Selecting local (whole_of h.followed) → ⊥
       by (inl two) = h.why two
       by (inr z) =
           let f = h.followed in
-          let w = f.whole in
+          let w = (whole_of f) in
           let j = called_joined local old f in
-          let s : f.whole.put ≡ v ∷ new.put = f.put ∙ put in
           let firm = firm_unless_two w.judge.course j.two (λ two. none_some w.judge.course.class Two z.class two) in
-          let right = ap (λ (t : State). t.course.right_stopped) f.judge ∙ clear.sure.right in
-          let p = selecting_passes local w j.apart (j.judged firm) right v new.put (f.begun ∙ begun) s z in
+          let p = selecting_passes local w j.apart (j.judged firm) clear.sure.right v new.put begun put z in
           grind (arith, unit_knows)
 
   silent_so : (d : Direction) → KeepsSilent d local (Silent d local)
@@ -159,7 +157,7 @@ turn_beside Right local turn old new t deeds does f g clear h =
     uncalled : UncalledUntil new.judge
     uncalled = step_kept UncalledUntil uncalled_claim Right (turns turn) old new t h.besides
 
-    by : AllByRecursion AnswersTwo new.put ⊎ Selecting local g.whole →
+    by : AllByRecursion AnswersTwo new.put ⊎ Selecting local (whole_of g) →
         UnlessZero Right local (λ r. then_did (deeds r) (does.on.more r)) new
     by (inl two) = inl (record {
       two = tt;
@@ -168,18 +166,18 @@ turn_beside Right local turn old new t deeds does f g clear h =
     })
     by (inr z) =
         let no_class : old.judge.traffic.course.class ≡ None =
-        ap (λ (c : Passed). c.traffic.course.class) (sym t.course) ∙ ap (λ (s : State). s.course.class) (sym g.judge) ∙ z.class in
+        ap (λ (c : Passed). c.traffic.course.class) (sym t.course) ∙ z.class in
         let firm : old.judge.traffic.course.loose ≡ false =
-        ap (λ (c : Passed). c.traffic.course.loose) (sym t.course) ∙ ap (λ (s : State). s.course.loose) (sym g.judge)
-        ∙ firm_unless_two g.whole.judge.course (called_joined local new g).two
-        (λ two. none_some g.whole.judge.course.class Two z.class two) in
+        ap (λ (c : Passed). c.traffic.course.loose) (sym t.course)
+        ∙ firm_unless_two new.judge.traffic.course (called_joined local new g).two
+        (λ two. none_some new.judge.traffic.course.class Two z.class two) in
         inr (record {
           followed = g;
           places = subst Agree (sym t.course) h.stands.standing.all.places;
           mute = subst (λ (c : Passed). IsMute Right c.sessions) (sym t.course)
               (all_mute deeds (known_at old) old.put old.begun old.judge.traffic old.judge.sessions h.stands.standing.all firm
               (h.besides no_class));
-          why = λ two. first_not_zero z.x.source (acceptance Zero z.size z.x local z.r) z.more new.put (sym z.put ∙ g.put) refl two;
+          why = λ two. first_not_zero z.x.source (acceptance Zero z.size z.x local z.r) z.more new.put (sym z.put) refl two;
         })
 
 -- ---- as it is asked for

@@ -1,13 +1,12 @@
 -- What is asked of what holds of an end and a judge at each step, by which nobody of the end is to blame as long as one class is not
 -- selected: class 2, or class 0. And what units are while so much is judged. For the laws that no session of an end is to blame.
-use Rattle.osi_blameless.proofs.Vocabulary.{◌≡◌, ◌≢◌, ◌∙◌, ◌⊎◌, inl, inr, refl, sym, ap, subst, ℕ, ◌^◌, ◌<◌, ◌≤◌, Bool, false}
+use Rattle.osi_blameless.proofs.Vocabulary.{◌≡◌, ◌≢◌, ◌∙◌, ◌⊎◌, inl, inr, refl, sym, ap, ℕ, ◌^◌, ◌<◌, ◌≤◌, Bool, false}
 use Rattle.osi_blameless.proofs.Vocabulary.{if◌then◌else◌, List, [], ◌∷◌, ◌++◌, length, Some, is_some, arith, slice_get, length-append}
 use Rattle.osi_blameless.proofs.Vocabulary.{Value, Class, Two, Zero, Local, Capture, other, Direction, TooMany, class_for, is_stopped}
 use Rattle.osi_blameless.proofs.Vocabulary.{takes, packet, unit, IsFirm, IsOngoing, packet_begins, Holding, Deeds, no_deeds, then_did}
 use Rattle.osi_blameless.proofs.Vocabulary.{IsFresh, Turn, Cause, Joined, spoken, marked, marks_of, moved, unit_passes, units_pass, unread}
 use Rattle.osi_blameless.proofs.Vocabulary.{unread_mark, unread_moment, way_of, heard, after, Joint, Step, Steps, TakesTurn, begin}
 use Rattle.osi_blameless.proofs.Vocabulary.{begins_other, begins_own, passes_other, passes_own, calls_from}
-use Rattle.osi_rules.specs.Sides as sides
 use Rattle.osi_rules.specs.Traffic.{State as Traffic}
 use Rattle.osi_rules.specs.Traffic as traffic
 use Rattle.osi_rules.specs.declared.findings.Reach.TheVariants as reach
@@ -15,7 +14,7 @@ use Rattle.osi_blameless.specs.transport.Wholes as wholes
 use Rattle.osi_blameless.specs.ends.Courses.{Course}
 use Rattle.osi_judge.specs.Courses.{Course as Passed, fresh}
 use Rattle.osi_judge.specs.States as states
-use Rattle.osi_blameless.proofs.keeping.steps_are_events.{IsFollowed}
+use Rattle.osi_blameless.proofs.keeping.steps_are_events.{whole_of, IsFollowed}
 use Rattle.osi_blameless.proofs.keeping.no_unit_of_a_whole_end_is_a_break.{IsNoBreak, is_fair}
 use Rattle.osi_blameless.proofs.keeping.a_break_ends_no_judging_or_all.{IsGoing, begins_going, nothing_ends, nothing_goes}
 use Rattle.osi_blameless.proofs.steps.all_is_judged_or_nothing.{IsJudged}
@@ -258,10 +257,7 @@ pub own_mild : (d : Direction) (local : Local) (at : ℕ) (v : Value) (old new :
     IsFollowed d (wholes.begin (calls_from d) local) old → IsGoing old.judge →
     IsNoBreak (takes (way_of d) v old.judge.traffic).told.finding
 own_mild d local at v old new (read, octets, (put, begun, is)) f j =
-    let s : f.whole.put ≡ v ∷ new.put = f.put ∙ put in
-    subst (λ (t : Traffic). IsNoBreak (takes (way_of d) v t).told.finding) f.judge
-    (is_fair d local f.events f.whole v new.put f.along (f.begun ∙ begun) s
-    (ap (λ (t : Traffic). is_stopped (sides.other (way_of d)) t.course) f.judge ∙ (grind arith)))
+    is_fair d local f.events (whole_of f) v new.put f.along begun put (grind arith)
 
 pub own_is : (barred : Class) (d : Direction) (v : Value) (c : Passed) → IsStillJudged barred c → Sure c →
     (c.traffic.course.class ≡ Some barred → ⊥) → IsNoBreak (takes (way_of d) v c.traffic).told.finding →

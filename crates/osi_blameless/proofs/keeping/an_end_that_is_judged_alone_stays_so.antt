@@ -1,12 +1,11 @@
 -- Steps after what nobody can read keep a claim on what has passed; and a unit of an end that alone is judged, in class 0, is right.
 -- For the law that no session of an end is to blame after a break.
-use Rattle.osi_blameless.proofs.Vocabulary.{◌≡◌, ◌∙◌, ℕ, List, [], ◌∷◌, sym, ap, subst, Value, Local, other, Direction, Kept, calls_from}
-use Rattle.osi_blameless.proofs.Vocabulary.{is_stopped, takes, Course, way_of, Joint, Step, Steps, begins_other, begins_own, passes_other}
+use Rattle.osi_blameless.proofs.Vocabulary.{◌≡◌, ℕ, List, [], ◌∷◌, sym, ap, subst, Value, Local, other, Direction, Kept, calls_from}
+use Rattle.osi_blameless.proofs.Vocabulary.{takes, Course, way_of, Joint, Step, Steps, begins_other, begins_own, passes_other}
 use Rattle.osi_blameless.proofs.Vocabulary.{passes_own, turns, LaterAlong, LaterSteps, StepsAlong, units_by}
-use Rattle.osi_rules.specs.Traffic.{State as Traffic}
 use Rattle.osi_blameless.specs.transport.Wholes as wholes
 use Rattle.osi_blameless.proofs.keeping.in_class_0_one_side_alone_is_judged.{IsAlone}
-use Rattle.osi_blameless.proofs.keeping.steps_are_events.{IsFollowed}
+use Rattle.osi_blameless.proofs.keeping.steps_are_events.{whole_of, IsFollowed}
 use Rattle.osi_blameless.proofs.keeping.no_unit_of_a_whole_end_is_a_break.{is_right_in_class_0}
 use Rattle.osi_blameless.proofs.steps.what_passes_keeps_a_claim.{IsClaim, step_kept, units_kept}
 use Rattle.osi_blameless.proofs.what_each_thing_keeps_all_of_them_keep.{along_keeps}
@@ -43,9 +42,4 @@ pub own_alone : (d : Direction) (local : Local) (at : ℕ) (v : Value) (old new 
     IsFollowed d (wholes.begin (calls_from d) local) old → IsAlone d old.judge →
     (takes (way_of d) v old.judge.traffic).told.finding ≡ Kept
 own_alone d local at v old new (read, octets, (put, begun, is)) f a =
-    let s : f.whole.put ≡ v ∷ new.put = f.put ∙ put in
-    subst (λ (t : Traffic). (takes (way_of d) v t).told.finding ≡ Kept) f.judge
-    (is_right_in_class_0 d local f.events f.whole v new.put f.along (f.begun ∙ begun) s
-    (ap (λ (t : Traffic). is_stopped (way_of d) t.course) f.judge ∙ a.own)
-    (ap (λ (t : Traffic). t.course.loose) f.judge ∙ a.firm)
-    (ap (λ (t : Traffic). t.course.class) f.judge ∙ a.zero))
+    is_right_in_class_0 d local f.events (whole_of f) v new.put f.along begun put a.own a.firm a.zero

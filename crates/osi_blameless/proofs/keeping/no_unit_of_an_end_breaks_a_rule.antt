@@ -1,6 +1,6 @@
 -- A judge finds of no unit of an end that it breaks a rule of transport, whatever the other side sends.
 -- For the law that the transport of an end is blamed nowhere.
-use Rattle.osi_blameless.proofs.Vocabulary.{◌≡◌, ◌∙◌, ℕ, false, List, [], ◌∷◌, None, Some, inl, inr, ◌⊎◌, arith, refl, sym, ap, subst}
+use Rattle.osi_blameless.proofs.Vocabulary.{◌≡◌, ◌∙◌, ℕ, false, List, [], ◌∷◌, None, Some, inl, inr, ◌⊎◌, arith, refl, sym, subst}
 use Rattle.osi_blameless.proofs.Vocabulary.{calls_from, Value, Local, Capture, other, Direction, Reach, Option, Class, class_for}
 use Rattle.osi_blameless.proofs.Vocabulary.{is_stopped, takes, IsOfTwo, firm_unless_two, still_two, Two, Zero, stops_last, Holding, IsFresh}
 use Rattle.osi_blameless.proofs.Vocabulary.{Cause, Course, marks_of, packet_begins, unit_passes, units_pass, unread, way_of}
@@ -9,7 +9,6 @@ use Rattle.osi_blameless.proofs.Vocabulary.{ComesBySteps, LaterAlong, LaterSteps
 use Rattle.osi_rules.specs.declared.findings.Reach.TheVariants as reach
 use Rattle.osi_rules.specs.Sides as sides
 use Rattle.osi_blameless.proofs.steps.all_is_judged_or_nothing.{IsJudged}
-use Rattle.osi_rules.specs.Traffic.{State as Traffic}
 use Rattle.osi_blameless.specs.transport.Pieces.{units_in}
 use Rattle.osi_blameless.specs.transport.Naming.{unit as unit_passing}
 use Rattle.osi_blameless.specs.transport.Wholes as wholes
@@ -24,7 +23,7 @@ use Rattle.osi_blameless.proofs.keeping.in_class_0_one_side_alone_is_judged.{Aft
 use Rattle.osi_blameless.proofs.keeping.in_class_0_one_side_alone_is_judged.{unit_alone}
 use Rattle.osi_blameless.proofs.keeping.in_class_0_one_side_alone_is_judged.{unread_alone}
 use Rattle.osi_blameless.proofs.keeping.later_steps_are_events.{later_followed, spoilt_followed}
-use Rattle.osi_blameless.proofs.keeping.steps_are_events.{IsFollowed, begin_followed}
+use Rattle.osi_blameless.proofs.keeping.steps_are_events.{whole_of, IsFollowed, begin_followed}
 use Rattle.osi_blameless.proofs.keeping.no_unit_of_a_whole_end_is_a_break.{IsNoBreak, is_fair}
 use Rattle.osi_blameless.proofs.standing.class_0_is_known_once_it_is_selected.{IsKnownOnce, joint_known_once, unit_known_once}
 use Rattle.osi_blameless.proofs.shown.connections_have_the_same_places.{unit_knows}
@@ -98,10 +97,7 @@ module _ (d : Direction) where
     own_none : (at : ℕ) (v : Value) (old new : Joint) → Steps d (passes_own at v) old new → IsFollowed d first old → IsWhole old.judge →
         IsNoBreak (takes (way_of d) v old.judge.traffic).told.finding
     own_none at v old new (read, octets, (put, begun, is)) f w =
-        let s : f.whole.put ≡ v ∷ new.put = f.put ∙ put in
-        subst (λ (t : Traffic). IsNoBreak (takes (way_of d) v t).told.finding) f.judge
-        (is_fair d local f.events f.whole v new.put f.along (f.begun ∙ begun) s
-        (ap (λ (t : Traffic). is_stopped (sides.other (way_of d)) t.course) f.judge ∙ other_goes d old.judge w.going))
+        is_fair d local f.events (whole_of f) v new.put f.along begun put (other_goes d old.judge w.going)
 
     own_passes_so : (at : ℕ) (v : Value) (old new : Joint) → Steps d (passes_own at v) old new → IsFollowed d first old →
         IsBlamedNowhere old.judge → IsBlamedNowhere (unit_passes d at v old.judge)

@@ -1,6 +1,6 @@
 -- At a judge each CR of a calling end that passes gives a new reference, and so does each CC of a called end; and this stays so with each
 -- step. For all connections of an end and a judge.
-use Rattle.osi_blameless.proofs.Vocabulary.{◌≡◌, ◌∙◌, ◌⊎◌, inl, inr, refl, sym, ap, subst, ℕ, ◌<◌, ◌≤◌, Bool, false, List, [], ◌∷◌, ◌++◌}
+use Rattle.osi_blameless.proofs.Vocabulary.{◌≡◌, ◌∙◌, ◌⊎◌, inl, inr, refl, sym, ap, subst, ℕ, ◌<◌, ◌≤◌, Bool, false, List, [], ◌∷◌}
 use Rattle.osi_blameless.proofs.Vocabulary.{Holding, IsFresh, Local, begin, calls_from, length, Option, Some, None, arith, slice_get}
 use Rattle.osi_blameless.proofs.Vocabulary.{AllByRecursion, Connect, Value, confirm, request, Direction, Left, Right, other, State}
 use Rattle.osi_blameless.proofs.Vocabulary.{meaning_if, meant, takes, Whole, after_add, after_set, Turn}
@@ -10,15 +10,14 @@ use Rattle.osi_blameless.proofs.Vocabulary.{turns, HaveSamePlaces}
 use Rattle.osi_blameless.specs.transport.Wholes as wholes
 use Rattle.osi_judge.specs.Connections.{packet_begins}
 use Rattle.osi_judge.specs.Connections as joined
-use Rattle.osi_blameless.proofs.keeping.steps_are_events.{IsFollowed, begin_followed, step_followed}
+use Rattle.osi_blameless.proofs.keeping.steps_are_events.{whole_of, IsFollowed, begin_followed, step_followed}
 use Rattle.osi_blameless.proofs.standing.all_connections_stand.{map_of}
-use Rattle.osi_blameless.proofs.shown.connections_have_the_same_places.{unit_agrees, unit_joins, unit_knows}
+use Rattle.osi_blameless.proofs.shown.connections_have_the_same_places.{unit_agrees, unit_joins}
 use Rattle.osi_blameless.proofs.putting.units_that_wait_give_references_above_those_that_passed.{AreAbove, above_along, gives, passes_given}
 use Rattle.osi_blameless.proofs.putting.references_of_an_end_are_distinct.{GivesNew, IsUnused}
 use Rattle.osi_blameless.proofs.standing.what_a_unit_does_at_its_place.{Does, asks_again, asks_more, nowhere, somewhere, unit_does}
 use Rattle.osi_blameless.proofs.standing.what_stands_of_a_connection.{named_begun}
-use Rattle.osi_blameless.proofs.what_each_thing_keeps_all_of_them_keep.{along_join}
-use Rattle.osi_blameless.proofs.Vocabulary.{Happens}
+use Rattle.osi_blameless.proofs.keeping.steps_are_events.{seen, then_happens, unit_traffic}
 
 -- ---- references at a judge
 
@@ -122,7 +121,7 @@ above_unused d b r t up less = grind arith
 pub record IsAhead (d : Direction) (first : Whole) (j : Joint) : Type 0 where
   pub followed : IsFollowed d first j
   pub bound : ℕ
-  pub above : AreAbove d bound followed.whole
+  pub above : AreAbove d bound (whole_of followed)
   pub below : AreUpTo d bound j.judge.sessions
 
 first_above : (d : Direction) (local : Local) → AreAbove d 0 (wholes.begin (calls_from d) local)
@@ -135,7 +134,7 @@ first_ahead d local h fresh =
     record {
       followed = f;
       bound = 0;
-      above = above_along d 0 f.events (wholes.begin (calls_from d) local) f.whole f.along (first_above d local);
+      above = above_along d 0 f.events (wholes.begin (calls_from d) local) (whole_of f) f.along (first_above d local);
       below = record { live = λ i j r here named. absurd (cc here); done = λ i j r here named. absurd (cc here) };
     }
 
@@ -157,17 +156,8 @@ pub record GivesHighest (d : Direction) (first : Whole) (b r : ℕ) (j : Joint) 
 
 module _ (d : Direction) (first : Whole) where
   -- a whole end from here on
-  from_here : (j : Joint) (f : IsFollowed d first j) → IsFollowed d f.whole j
-  from_here j f = record {
-    whole = f.whole;
-    events = [];
-    along = refl;
-    put = f.put;
-    begun = f.begun;
-    judge = f.judge;
-    coming = f.coming;
-    like = f.like;
-  }
+  from_here : (j : Joint) (f : IsFollowed d first j) → IsFollowed d (whole_of f) j
+  from_here j f = record { end = f.end; come = f.come; events = []; along = refl; coming = f.coming; like = f.like }
 
   -- ---- each step
 
@@ -175,20 +165,11 @@ module _ (d : Direction) (first : Whole) where
       AreUpTo d h.bound new.judge.sessions → GoesOn d first h.bound new
   goes_on step old new does h up =
       let f = h.followed in
-      let g : IsFollowed d f.whole new = step_followed d f.whole step old new does (from_here old f) in
+      let g : IsFollowed d (whole_of f) new = step_followed d (whole_of f) step old new does (from_here old f) in
       let ahead : IsAhead d first new = record {
-        followed = record {
-          whole = g.whole;
-          events = f.events ++ g.events;
-          along = along_join (Happens (way_of d)) f.events g.events first f.whole g.whole f.along g.along;
-          put = g.put;
-          begun = g.begun;
-          judge = g.judge;
-          coming = g.coming;
-          like = g.like;
-        };
+        followed = then_happens d first old new f g.end g.come g.events g.along g.coming g.like;
         bound = h.bound;
-        above = above_along d h.bound g.events f.whole g.whole g.along h.above;
+        above = above_along d h.bound g.events (whole_of f) (whole_of g) g.along h.above;
         below = up;
       } in
       record { ahead = ahead; rises = omega arith }
@@ -229,9 +210,8 @@ module _ (d : Direction) (first : Whole) where
   pub passes_above : (at : ℕ) (v : Value) (r : ℕ) → gives d v ≡ Some r → (old new : Joint) → Steps d (passes_own at v) old new →
       (h : IsAhead d first old) → h.bound < r
   passes_above at v r given old new (read, octets, (put, begun, is)) h =
-      let w = h.followed.whole in
-      let s : h.followed.whole.put ≡ v ∷ new.put = h.followed.put ∙ put in
-      (passes_given d h.bound r v new.put w (record w { put = new.put }) given s refl refl h.above).new_is
+      let w = whole_of h.followed in
+      (passes_given d h.bound r v new.put w (record w { put = new.put }) given put refl refl h.above).new_is
 
   pub gives_new : (at : ℕ) (v : Value) (old new : Joint) → Steps d (passes_own at v) old new → IsAhead d first old →
       GivesNew d v old.judge.sessions
@@ -247,23 +227,14 @@ module _ (d : Direction) (first : Whole) where
       GivesHighest d first h.bound r new
   passes_highest at v r given old new (read, octets, (put, begun, is)) places h =
       let f = h.followed in
-      let s : f.whole.put ≡ v ∷ new.put = f.put ∙ put in
-      let next : Whole = record f.whole { put = new.put; begun = false; judge = (takes (way_of d) v f.whole.judge).state } in
-      let k = passes_given d h.bound r v new.put f.whole next given s refl refl h.above in
-      let less = k.new_is in
       let mid : Joint = record old { put = new.put; begun = false; judge = units_pass d at (v ∷ []) old.judge } in
+      let next = ap (λ (t : State). record (whole_of f) { put = new.put; begun = false; judge = t }) (unit_traffic d at v old.judge) in
+      let g = then_happens d first old mid f f.end f.come (wholes.passes_own ∷ [])
+      (seen mid f.end f.come, (v, (put, begun, next)), refl) f.coming f.like in
+      let k = passes_given d h.bound r v new.put (whole_of f) (whole_of g) given put refl refl h.above in
+      let less = k.new_is in
       let ahead : IsAhead d first mid = record {
-        followed = record {
-          whole = next;
-          events = f.events ++ wholes.passes_own ∷ [];
-          along = along_join (Happens (way_of d)) f.events (wholes.passes_own ∷ []) first f.whole next f.along
-              (next, (v, (s, f.begun ∙ begun, refl)), refl);
-          put = refl;
-          begun = refl;
-          judge = ap (λ (t : State). (takes (way_of d) v t).state) f.judge ∙ sym (unit_knows d at v old.judge);
-          coming = f.coming;
-          like = f.like;
-        };
+        followed = g;
         bound = r;
         above = k.above;
         below = unit_up d d r at v old.judge places (some_up d r r v given (omega (arith, less)) (omega arith))

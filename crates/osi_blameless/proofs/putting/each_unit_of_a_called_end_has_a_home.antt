@@ -14,7 +14,7 @@ use Rattle.osi_blameless.proofs.transport.called.each_connection_of_a_called_end
 use Rattle.osi_blameless.proofs.transport.connections.units_by_their_place.{units_at}
 use Rattle.osi_blameless.specs.ends.Arriving.{is_open as opened}
 use Rattle.osi_blameless.proofs.small_facts_that_many_lemmas_use.{all_front, over_not, not_some}
-use Rattle.osi_blameless.proofs.keeping.steps_are_events.{IsFollowed}
+use Rattle.osi_blameless.proofs.keeping.steps_are_events.{whole_of, IsFollowed}
 use Rattle.osi_blameless.proofs.putting.a_whole_end_runs_along.{HasLines}
 use Rattle.osi_blameless.proofs.putting.a_called_end_of_class_2_puts_no_dt_of_class_0.{StandsAt, place_parts}
 use Rattle.osi_blameless.proofs.shown.a_right_dt_has_one_place.{still_used}
@@ -180,11 +180,11 @@ module _ (local : Local) (w : Whole) (t : Sessions) (lined : HasLines local w) (
 abbrev pub OpensByNoCc : (local : Local) (deeds : ℕ → Deeds) (turn : Turn) (old new : Joint) (step : TakesTurn turn old new)
     (on : Continues false deeds old.end turn new.end) → IsFollowed Right (begin false local) old → Type 1
 OpensByNoCc local deeds turn old new step on f = old.end.end.carrier.ended ≡ None → (q : ℕ) → 0 < q →
-    open_link q old.end.end.carrier ≡ None → (n : ℕ) (x : Connect) → n ≡ q → IsThere (confirm n x) f.whole.coming → AreApart q on.put
+    open_link q old.end.end.carrier ≡ None → (n : ℕ) (x : Connect) → n ≡ q → IsThere (confirm n x) f.come → AreApart q on.put
 
 module _ (local : Local) (deeds : ℕ → Deeds) (turn : Turn) (old new : Joint) (step : TakesTurn turn old new)
     (on : Continues false deeds old.end turn new.end) (f : IsFollowed Right (begin false local) old)
-    (h : HasLines local f.whole)
+    (h : HasLines local (whole_of f))
     (places : HaveSamePlaces old.judge.traffic.connections old.judge.sessions.live)
     (news : AllByRecursion (λ (v : Value). GivesNew Right v old.judge.sessions) (all_units on.put))
     (class_2 : AllByRecursion IsNotZero (all_units on.put))
@@ -214,20 +214,20 @@ module _ (local : Local) (deeds : ℕ → Deeds) (turn : Turn) (old new : Joint)
 
   home_by : (lasts : carrier.ended ≡ None) (q : ℕ) → 0 < q → (l : LivedSo q) →
       Begins false q l.peer carrier new.end.end.carrier l.arrived l.left → (AreApart q on.put → ⊥) →
-      IsHomed Right q l.peer f.whole.judge t
+      IsHomed Right q l.peer s t
   home_by lasts q positive l (opened link there none none_left) some =
-      linked_homed local f.whole t h (grind arith)
+      linked_homed local (whole_of f) t h (grind arith)
       (whole_lasts Right false (begin false local) deeds turn old new step on f lasts) q l.peer link
       (linked_so Right false (begin false local) deeds turn old new step on f lasts q l.peer link there)
   home_by lasts q positive l (opens shut unit opening front is others answer gives put) some = by unit opening gives is
     where
       by : (u : Value) → Opens false q l.peer u → Answers q l.peer u answer → l.arrived.before ≡ front ++ (0, u) ∷ [] →
-          IsHomed Right q l.peer f.whole.judge t
+          IsHomed Right q l.peer s t
       by (confirm n x) opening gives come =
           absurd (search (arith, came Right false (begin false local) deeds turn old new step on f lasts (confirm n x) front q l come))
       by (request x) (called, theirs) (cc_is, source, one) come =
-          subst (λ (k : ℕ). IsHomed Right q k f.whole.judge t) theirs
-          (asked_homed local f.whole t h (grind arith)
+          subst (λ (k : ℕ). IsHomed Right q k s t) theirs
+          (asked_homed local (whole_of f) t h (grind arith)
           (whole_lasts Right false (begin false local) deeds turn old new step on f lasts) q x
           (came Right false (begin false local) deeds turn old new step on f lasts (request x) front q l come)
           (new_reference q l others answer put cc_is source one))
@@ -241,4 +241,4 @@ module _ (local : Local) (deeds : ℕ → Deeds) (turn : Turn) (old new : Joint)
       (λ lasts q positive some.
       let l = on.lives q positive in
       put_for Right false (begin false local) deeds turn old new step on f q l s t
-      (subst (λ (x : State). IsHomed Right q l.peer x t) f.judge (home_by lasts q positive l l.begins some)))
+      (home_by lasts q positive l l.begins some))

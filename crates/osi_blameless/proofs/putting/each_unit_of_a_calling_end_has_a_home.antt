@@ -15,7 +15,7 @@ use Rattle.osi_blameless.specs.transport.Wholes.{begin}
 use Rattle.osi_blameless.proofs.ends.courses.the_first_cc_opens_a_connection.{opens_so}
 use Rattle.osi_judge.specs.Courses.{Course as Passed}
 use Rattle.osi_blameless.proofs.small_facts_that_many_lemmas_use.{and_both, over_not, all_join as all_of_both}
-use Rattle.osi_blameless.proofs.keeping.steps_are_events.{IsFollowed}
+use Rattle.osi_blameless.proofs.keeping.steps_are_events.{whole_of, IsFollowed}
 use Rattle.osi_blameless.proofs.putting.a_turn_does_what_its_deeds_say.{turn_uses}
 use Rattle.osi_blameless.proofs.putting.a_whole_end_runs_along.{whole_followed}
 use Rattle.osi_blameless.proofs.shown.connections_have_the_same_places.{at_same}
@@ -126,24 +126,21 @@ module _ (local : Local) (two : local.class2 ≡ true) (deeds : ℕ → Deeds) (
   carrier = old.end.end.carrier
 
   abbrev IsPut : ℕ → Type 0
-  IsPut q = IsPutFor Left true (begin true local) deeds turn old new step does.on f q f.whole.judge t
+  IsPut q = IsPutFor Left true (begin true local) deeds turn old new step does.on f q s t
 
-  followed : Followed local f.whole
+  followed : Followed local (whole_of f)
   followed = whole_followed local two old f clear
-
-  places_so : HaveSamePlaces f.whole.judge.connections t.live
-  places_so = subst (λ (x : State). HaveSamePlaces x.connections t.live) (sym f.judge) places
 
   no_zero : AllByRecursion IsNotZero (all_units does.on.put)
   no_zero =
       let all = (whole_followed local two new g (subst (λ (c : Passed). IsOngoing c.traffic.course) (sym step.course) clear)).owned in
       turn_puts Left (begin true local) turn old new step (all_units does.on.put) does.units g IsNotZero
-      (all_so (IsOwned g.whole.judge) IsNotZero (owned_two g.whole.judge) g.whole.put all)
+      (all_so (IsOwned new.judge.traffic) IsNotZero (owned_two new.judge.traffic) new.put all)
 
   -- ---- the connection that a unit is put for
 
   module _ (lasts : carrier.ended ≡ None) (q : ℕ) (positive : 0 < q) (some : AreApart q does.on.put → ⊥) where
-    wholes : f.whole.end.ended ≡ None
+    wholes : f.end.ended ≡ None
     wholes = whole_lasts Left true (begin true local) deeds turn old new step does.on f lasts
 
     -- what it put while it was open
@@ -154,7 +151,7 @@ module _ (local : Local) (two : local.class2 ≡ true) (deeds : ℕ → Deeds) (
 
     -- all that the end took, and what is left
     comes_so : (front : List Marked) (unit : Value) (later : List Marked) → does.on.took ≡ front ++ (0, unit) ∷ later →
-        (rest : List Value) × (f.whole.coming ≡ all_units front ++ unit ∷ rest)
+        (rest : List Value) × (f.come ≡ all_units front ++ unit ∷ rest)
     comes_so front unit later is =
         grind (
           arith,
@@ -169,12 +166,12 @@ module _ (local : Local) (two : local.class2 ≡ true) (deeds : ℕ → Deeds) (
     units_not_cc (m ∷ front) h = (h.0, units_not_cc front h.1)
 
     opens_home : (peer : ℕ) (unit : Value) → Opens true q peer unit → (front later : List Marked) → HasNoCc q front →
-        does.on.took ≡ front ++ (0, unit) ∷ later → value_at q carrier.live ≡ Some asked → HasHome Left q peer f.whole.judge t
+        does.on.took ≡ front ++ (0, unit) ∷ later → value_at q carrier.live ≡ Some asked → HasHome Left q peer s t
     opens_home peer (confirm n x) (mine, theirs) front later none is waits =
         let (rest, come) = comes_so front (confirm n x) later is in
-        subst (λ (k : ℕ). HasHome Left q k f.whole.judge t) theirs
-        (asked_home local f.whole t followed places_so wholes q x (all_units front) rest
-        (subst (λ (k : ℕ). f.whole.coming ≡ all_units front ++ confirm k x ∷ rest) mine come) (units_not_cc front none)
+        subst (λ (k : ℕ). HasHome Left q k s t) theirs
+        (asked_home local (whole_of f) t followed places wholes q x (all_units front) rest
+        (subst (λ (k : ℕ). f.come ≡ all_units front ++ confirm k x ∷ rest) mine come) (units_not_cc front none)
         ((grind (arith, wholes)) ∙ waits))
     opens_home peer (request x) (caller, theirs) front later none is waits = absurd (cc)
     opens_home peer (disconnect n source reason user) o front later none is waits = absurd o
@@ -197,8 +194,8 @@ module _ (local : Local) (two : local.class2 ≡ true) (deeds : ℕ → Deeds) (
         does.on.took ≡ front ++ (0, unit) ∷ later → has_given q carrier ≡ false → A
     not_given peer (confirm n x) (mine, theirs) front later is free =
         let (rest, come) = comes_so front (confirm n x) later is in
-        let few = one_of (AreGiven f.whole.end.given) (all_units front) rest (confirm n x)
-        (subst (AllByRecursion (AreGiven f.whole.end.given)) come followed.few) in
+        let few = one_of (AreGiven f.end.given) (all_units front) rest (confirm n x)
+        (subst (AllByRecursion (AreGiven f.end.given)) come followed.few) in
         let up = few refl n refl in
         grind (arith, lt-ltb, le-leb, wholes)
     not_given peer (request x) (caller, theirs) front later is free = absurd (cc)
@@ -217,7 +214,7 @@ module _ (local : Local) (two : local.class2 ≡ true) (deeds : ℕ → Deeds) (
         record {
           peer = peer;
           goes = gives_so peer [] does.on.put does.on.took (stage_at q new.end.end.carrier) w tt refl;
-          homed = known (linked_home local f.whole t followed places_so wholes q peer link ((grind (arith, wholes)) ∙ here));
+          homed = known (linked_home local (whole_of f) t followed places wholes q peer link ((grind (arith, wholes)) ∙ here));
         }
     by_stage early is w = by (has_given q carrier) refl
       where

@@ -11,7 +11,7 @@ use Rattle.osi_blameless.proofs.Vocabulary.{TakesTurn, HaveSamePlaces}
 use Rattle.osi_carrier.specs.State.{State as Carrier}
 use Rattle.osi_blameless.proofs.ends.courses.how_long_a_connection_is_open.{Stage}
 use Rattle.osi_blameless.proofs.keeping.a_carrier_does_events.{none_of}
-use Rattle.osi_blameless.proofs.keeping.steps_are_events.{IsFollowed}
+use Rattle.osi_blameless.proofs.keeping.steps_are_events.{whole_of, IsFollowed}
 use Rattle.osi_blameless.proofs.putting.a_turn_does_what_its_deeds_say.{turn_uses}
 use Rattle.osi_blameless.proofs.shown.connections_have_the_same_places.{at_same}
 use Rattle.osi_blameless.proofs.putting.each_reference_of_an_end_is_new.{AreUpTo}
@@ -123,17 +123,15 @@ module _ (b : ℕ) (s : State) (t : Sessions) (end : Carrier) (places : HaveSame
           not_given r end (omega (arith, less)) free (few.0 (ap is_dc is) r (ap destination_of is))
       by x is (inr has) = tracked_low (h.0 r x is lasts (inl (asked_so r end has may).1)).0
 
-pub none_come : (b : ℕ) (local : Local) (first : Whole) (j : Joint) (f : IsFollowed Left first j) → Followed local f.whole →
+pub none_come : (b : ℕ) (local : Local) (first : Whole) (j : Joint) (f : IsFollowed Left first j) → Followed local (whole_of f) →
     HaveSamePlaces j.judge.traffic.connections j.judge.sessions.live → AreUpTo Left b j.judge.sessions →
     j.end.end.carrier.ended ≡ None → (r : ℕ) → b < r → stage_at r j.end.end.carrier ≡ early →
     AllByRecursion (IsNotCc r) (units_in j.coming)
 none_come b local first j f h places up lasts r less may =
-    let whole_lasts = none_of f.whole.end.ended (sym f.like.over ∙ ap is_some lasts) in
-    let alike : stage_at r f.whole.end ≡ stage_at r j.end.end.carrier = ap (stage_at r) (f.like.lasts whole_lasts) in
+    let whole_lasts = none_of f.end.ended (sym f.like.over ∙ ap is_some lasts) in
+    let alike : stage_at r f.end ≡ stage_at r j.end.end.carrier = ap (stage_at r) (f.like.lasts whole_lasts) in
     subst (AllByRecursion (IsNotCc r)) (f.coming lasts ∙ same_units j.coming)
-    (none_comes b f.whole.judge j.judge.sessions f.whole.end
-    (subst (λ (s : State). HaveSamePlaces s.connections j.judge.sessions.live) (sym f.judge) places) up whole_lasts r less (alike ∙ may)
-    f.whole.coming h.answers h.few)
+    (none_comes b j.judge.traffic j.judge.sessions f.end places up whole_lasts r less (alike ∙ may) f.come h.answers h.few)
 
 -- ---- a CR that passes
 
@@ -188,11 +186,11 @@ pub cr_ready : (b : ℕ) (deeds : ℕ → Deeds) (c : Carrier) (x : Connect) (co
 cr_ready b deeds c x coming rest s t less u none = grind (arith, parts_taken, past, left_empty, stage_at, stage_over)
 
 -- as the whole end says of a CR that it has put
-pub cr_calm : (local : Local) (first : Whole) (j : Joint) (f : IsFollowed Left first j) → Followed local f.whole → (x : Connect)
-    (rest : List Value) → f.whole.put ≡ request x ∷ rest → AllByRecursion IsNoZero (units_in j.coming) →
+pub cr_calm : (local : Local) (first : Whole) (j : Joint) (f : IsFollowed Left first j) → Followed local (whole_of f) → (x : Connect)
+    (rest : List Value) → j.put ≡ request x ∷ rest → AllByRecursion IsNoZero (units_in j.coming) →
     j.end.end.carrier.ended ≡ None → waiting_for (Some x.source) (units_in j.coming) ≡ []
 cr_calm local first j f h x rest put zero lasts =
     let asking =
-    (subst (AllByRecursion (λ (v : Value). (y : Connect) → v ≡ request y → IsAsking local f.whole.end f.whole.coming y)) put h.requests).0
+    (subst (AllByRecursion (λ (v : Value). (y : Connect) → v ≡ request y → IsAsking local f.end f.come y)) put h.requests).0
     x refl in
     grind (arith, dcs_none, those, same_units)

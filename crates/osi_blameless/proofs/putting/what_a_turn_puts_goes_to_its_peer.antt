@@ -34,10 +34,9 @@ all_so P Q f (x ∷ xs) h = (f x h.0, all_so P Q f xs h.1)
 -- ---- what holds of all that a whole end has put holds of what it puts in a turn
 
 pub turn_puts : (d : Direction) (start : Whole) (turn : Turn) (old new : Joint) (step : TakesTurn turn old new) (units : List Value) →
-    step.units ≡ units → (g : IsFollowed d start new) (P : Value → Type 0) → AllByRecursion P g.whole.put → AllByRecursion P units
+    step.units ≡ units → (g : IsFollowed d start new) (P : Value → Type 0) → AllByRecursion P new.put → AllByRecursion P units
 turn_puts d start turn old new step units is g P all =
-    let put : g.whole.put ≡ old.put ++ units = g.put ∙ step.put ∙ ap (λ (l : List Value). old.put ++ l) is in
-    all_back P old.put units (subst (AllByRecursion P) put all)
+    all_back P old.put units (subst (AllByRecursion P) (step.put ∙ ap (λ (l : List Value). old.put ++ l) is) all)
 
 -- ---- what the end has done in the turn
 
@@ -84,15 +83,15 @@ module _ (d : Direction) (is_caller : Bool) (first : Whole) (deeds : ℕ → Dee
   Lived q = Lives is_caller q carrier on.took on.put new.end.end.carrier
 
   module _ (lasts : carrier.ended ≡ None) where
-    pub whole_lasts : f.whole.end.ended ≡ None
-    whole_lasts = none_of f.whole.end.ended (sym f.like.over ∙ ap is_some lasts)
+    pub whole_lasts : f.end.ended ≡ None
+    whole_lasts = none_of f.end.ended (sym f.like.over ∙ ap is_some lasts)
 
     pub linked_so : (q peer : ℕ) (link : Standing) → ◌≡◌ {A = Option (ℕ × Standing)} (open_link q carrier) (Some (peer, link)) →
-        value_at q f.whole.end.live ≡ Some (linked peer link)
+        value_at q f.end.live ≡ Some (linked peer link)
     linked_so q peer link e = grind (arith, whole_lasts, link_is)
 
     -- the unit with which a connection opens had come
-    pub came : (x : Value) (some : List Marked) (q : ℕ) (l : Lived q) → l.arrived.before ≡ some ++ (0, x) ∷ [] → IsThere x f.whole.coming
+    pub came : (x : Value) (some : List Marked) (q : ℕ) (l : Lived q) → l.arrived.before ≡ some ++ (0, x) ∷ [] → IsThere x f.come
     came x some q l is P all =
         let a = are_first on.used step.used (old.end.held.octets ++ turn.used) on.rest step.rest new.end.end.carrier.ended
         on.cut (step.cut lasts) (λ still. on.held still ∙ sym (step.held still)) (step.all lasts) in

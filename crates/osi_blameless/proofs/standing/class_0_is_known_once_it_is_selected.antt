@@ -7,7 +7,7 @@ use Rattle.osi_blameless.proofs.Vocabulary.{zero_stays, arith, Joint, way_of}
 use Rattle.osi_rules.specs.Sides as sides
 use Rattle.osi_rules.specs.Traffic.{reached}
 use Rattle.osi_blameless.specs.transport.Wholes.{begin, begins_other, begins_own, passes_other, passes_own}
-use Rattle.osi_blameless.proofs.keeping.steps_are_events.{IsFollowed}
+use Rattle.osi_blameless.proofs.keeping.steps_are_events.{whole_of, IsFollowed}
 use Rattle.osi_blameless.proofs.what_each_thing_keeps_all_of_them_keep.{along_keeps}
 
 -- ---- a unit leaves what the calling side knows
@@ -58,4 +58,4 @@ all_known_once d = along_keeps (Happens d) (λ w. IsKnownOnce w.judge) (event_kn
 pub joint_known_once : (d : Direction) (is_caller : Bool) (local : Local) (j : Joint) → IsFollowed d (begin is_caller local) j →
     IsKnownOnce j.judge.traffic
 joint_known_once d is_caller local j f =
-    subst IsKnownOnce f.judge (all_known_once (way_of d) f.events (begin is_caller local) f.whole f.along (λ k. absurd (cc k)))
+    all_known_once (way_of d) f.events (begin is_caller local) (whole_of f) f.along (λ k. absurd (cc k))
