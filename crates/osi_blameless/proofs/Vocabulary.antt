@@ -133,7 +133,7 @@ pub use Rattle.osi_blameless.proofs.ends.sessions.a_history_is_a_run.{history_ru
 pub use Rattle.osi_blameless.proofs.ends.sessions.the_session_of_a_request_is_a_caller.{opens_so}
 pub use Rattle.osi_blameless.specs.ends.Arriving.{Answers, AreApart, Begins, GivesTo, Lives, Opens, Parts, TakesAll, is_shut, opens}
 pub use Rattle.osi_blameless.specs.ends.Courses.{AreCalls, Continues, Deeds, Gone, IsFreshLink, IsShut, Speaks, all_did, no_deeds, said_in}
-pub use Rattle.osi_blameless.specs.ends.Courses.{then_did, units_given, units_in, units_read, units_taken}
+pub use Rattle.osi_blameless.specs.ends.Courses.{then_did, units_given, units_taken}
 pub use Rattle.osi_blameless.specs.ends.Courses.Course.{awaited, is_gone, unknown}
 pub use Rattle.osi_blameless.specs.ends.Courses.Gone.{closed, never, over}
 pub use Rattle.osi_blameless.specs.ends.Doing.{Makes}
@@ -233,7 +233,7 @@ pub use Rattle.osi_blameless.proofs.transport.requests.while_no_class_is_selecte
 pub use Rattle.osi_blameless.specs.transport.Asking.{asked_in}
 pub use Rattle.osi_blameless.specs.transport.Lines.{Act, Acts, ActsAlong, Line, begins_elsewhere, ignores, moves, opened_line, units_put}
 pub use Rattle.osi_blameless.specs.transport.Naming.{HoldsOfOne, Passing, packet, passes, rubbish, unit}
-pub use Rattle.osi_blameless.specs.transport.Pieces.{units_by}
+pub use Rattle.osi_blameless.specs.Packets.{units_by, units_in}
 pub use Rattle.osi_blameless.specs.transport.Wholes.{Event, HappenAlong, Happens, MayCall, Whole, arrives, calls, passes_rubbish}
 pub use Rattle.osi_blameless.specs.Bounded.{AreJudgedOf, AreMomentsOf, IsCourseOf, IsFedWithin, IsJudgedOf, IsMomentOf, SessionsOf}
 pub use Rattle.osi_blameless.specs.Bounded.{comes_within}

@@ -3,9 +3,7 @@
 use Rattle.osi_blameless.proofs.Vocabulary.{AllByRecursion, Bool, CanBeWritten, Carrier, Class, Connection, EndReason, Fits}
 use Rattle.osi_blameless.proofs.Vocabulary.{HasFieldsInRange, List, None, Option, Some, Time as Stage, Two, Value, Zero, [], amid, ap}
 use Rattle.osi_blameless.proofs.Vocabulary.{early, false, has_given, stage_at, stage_over, is_some, le-leb, lt-ltb, nat_le, past, refl, sym}
-use Rattle.osi_blameless.proofs.Vocabulary.{true, ℕ, ◌&&◌, ◌++◌, ◌<◌, ◌||◌, ◌∙◌, ◌∷◌, ◌≡◌, ◌≤◌, arith, units_in, units_of, units_read}
-use Rattle.osi_blameless.proofs.Vocabulary.{flat_map-append}
-use Rattle.osi_blameless.specs.transport.Pieces as pieces
+use Rattle.osi_blameless.proofs.Vocabulary.{true, ℕ, ◌&&◌, ◌++◌, ◌<◌, ◌||◌, ◌∙◌, ◌∷◌, ◌≡◌, ◌≤◌, arith}
 
 pub all_front : {X : Type 0} (P : X → Type 0) (xs ys : List X) → AllByRecursion P (xs ++ ys) → AllByRecursion P xs
 all_front P [] ys h = tt
@@ -71,14 +69,6 @@ same_item x y e = cc
 
 pub same_one : {X : Type 0} (x y : X) → Some x ≡ Some y → x ≡ y
 same_one x y e = cc
-
--- the units of packets, by either definition
-pub same_units : (packets : List (List ℕ)) → pieces.units_in packets ≡ units_in packets
-same_units [] = refl
-same_units (p ∷ packets) = ap (λ (l : List Value). pieces.units_by (units_of p) ++ l) (same_units packets)
-
-pub units_join : (some more : List (List ℕ)) → units_in (some ++ more) ≡ units_in some ++ units_in more
-units_join some more = flat_map-append (λ packet. units_read (units_of packet)) some more
 
 pub zero_two : {A : Type 0} (k : Option Class) → k ≡ Some Zero → k ≡ Some Two → A
 zero_two k h e = absurd (let no : Some Zero ≡ Some Two = sym h ∙ e in cc)

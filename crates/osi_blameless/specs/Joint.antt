@@ -11,7 +11,7 @@ use Rattle.osi_carrier.specs.State.{State, packets}
 use Rattle.osi_side.specs.declared.directions.Direction.{Direction}
 use Rattle.osi_side.specs.Captures.{other}
 use Rattle.osi_stack.specs.State.{Holding}
-use Rattle.osi_blameless.specs.transport.Pieces.{units_in}
+use Rattle.osi_blameless.specs.Packets.{units_in}
 use Rattle.osi_blameless.specs.ends.Doing.{Makes}
 use Rattle.osi_blameless.specs.ends.Turns.{Takes, Turn}
 use Rattle.osi_blameless.specs.ends.Writable.{CanBeWritten}

@@ -1,3 +1,4 @@
+pub mod Packets
 pub mod EndAndJudge
 pub mod ends
 pub mod transport

@@ -7,7 +7,7 @@ use Rattle.osi_tpdu.specs.Value.{Value}
 use Rattle.osi_tpdu.specs.declared.faults.TpduFault.{TpduFault}
 use Rattle.osi_side.specs.declared.directions.Direction.{Direction}
 use Rattle.osi_side.specs.Captures.{Capture, other}
-use Rattle.osi_blameless.specs.transport.Pieces.{units_by, units_in}
+use Rattle.osi_blameless.specs.Packets.{units_by, units_in}
 use Rattle.osi_judge.specs.declared.marks.Cause.{Cause}
 use Rattle.osi_judge.specs.Courses.{units_pass, unread}
 use Rattle.osi_judge.specs.States.{comes_to}

@@ -5,7 +5,7 @@ use Rattle.osi_blameless.proofs.Vocabulary.{◌≡◌, ◌∙◌, ◌⊎◌, inl
 use Rattle.osi_blameless.proofs.Vocabulary.{Local, Capture, other, Direction, Reach, class_for, takes, Deeds, Holding, IsFresh}
 use Rattle.osi_blameless.proofs.Vocabulary.{Cause, units_pass, unread, way_of, comes_to, Joint, Step, calls_from, LaterAlong, spoilt, Some}
 use Rattle.osi_rules.specs.declared.findings.Reach.TheVariants as reach
-use Rattle.osi_blameless.specs.transport.Pieces.{units_in}
+use Rattle.osi_blameless.specs.Packets.{units_in}
 use Rattle.osi_judge.specs.Courses.{Course as Passed}
 use Rattle.osi_blameless.specs.Spoilt.{GoesOn}
 use Rattle.osi_blameless.proofs.keeping.a_break_ends_no_judging_or_all.{IsGoing, nothing_goes, part_goes, side_known}

@@ -8,7 +8,7 @@ use Rattle.osi_blameless.proofs.Vocabulary.{unread, way_of, Joint, Step, begins_
 use Rattle.osi_blameless.proofs.Vocabulary.{stops_last, calls_from, IsNoPacket, IsUnread, LaterAlong, LaterSteps, spoilt}
 use Rattle.osi_rules.specs.declared.courses.Course.{Course as Judging}
 use Rattle.osi_rules.specs.declared.findings.Reach.TheVariants as reach
-use Rattle.osi_blameless.specs.transport.Pieces.{units_in}
+use Rattle.osi_blameless.specs.Packets.{units_in}
 use Rattle.osi_blameless.specs.transport.Wholes as wholes
 use Rattle.osi_judge.specs.Courses.{Course as Passed}
 use Rattle.osi_blameless.proofs.keeping.a_break_ends_no_judging_or_all.{reach_so, refuses}

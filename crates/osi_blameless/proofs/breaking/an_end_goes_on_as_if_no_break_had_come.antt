@@ -10,7 +10,7 @@ use Rattle.osi_blameless.proofs.Vocabulary.{IsZeroAt, hard_ends, leads_to, Stopp
 use Rattle.osi_blameless.proofs.Vocabulary.{turn_continues, Known, packet_begins, unit_passes, units_pass, way_of, Joint, Steps, TakesTurn}
 use Rattle.osi_blameless.proofs.Vocabulary.{begins_other, begins_own, passes_own, turns, calls_from, CanBeWritten, all_did, packet_of}
 use Rattle.osi_blameless.proofs.Vocabulary.{packets_joined, read_again, Result, TpduFault, IsOctets}
-use Rattle.osi_blameless.specs.transport.Pieces.{units_in}
+use Rattle.osi_blameless.specs.Packets.{units_in}
 use Rattle.osi_blameless.specs.transport.Wholes as wholes
 use Rattle.osi_blameless.proofs.steps.what_the_turns_among_steps_do.{takes_turn}
 use Rattle.osi_stack.specs.Feeding.{stops}

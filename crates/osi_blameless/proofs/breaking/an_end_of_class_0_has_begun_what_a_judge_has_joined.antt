@@ -5,8 +5,7 @@ use Rattle.osi_blameless.proofs.Vocabulary.{slice_get, AllByRecursion, Standing,
 use Rattle.osi_blameless.proofs.Vocabulary.{Direction, Left, Right, has_given, IsFirm, Deeds, IsZeroAt, IsSane, amid}
 use Rattle.osi_blameless.proofs.Vocabulary.{stage_at, stage_is, Joined, spoken, begun_octets, Joint, State, is_open, own, way_of, true, sym}
 use Rattle.osi_carrier.specs.State.{State as Carrier}
-use Rattle.osi_blameless.specs.transport.Pieces.{units_in}
-use Rattle.osi_blameless.specs.ends.Courses as honest
+use Rattle.osi_blameless.specs.Packets.{units_in}
 use Rattle.osi_blameless.proofs.small_facts_that_many_lemmas_use.{none_some}
 use Rattle.osi_blameless.proofs.standing.a_dt_of_class_0_has_one_place.{IsOnly}
 use Rattle.osi_blameless.proofs.breaking.an_end_of_class_0_has_its_connection_open.{MayBeFollowed}
@@ -14,7 +13,6 @@ use Rattle.osi_blameless.proofs.in_class_0.an_end_stands_in_class_0.{IsGone, kno
 use Rattle.osi_blameless.proofs.in_class_0.what_an_end_keeps_until_class_2.{StandsUntilTwo, none_selected}
 use Rattle.osi_blameless.proofs.in_class_2.what_is_asked_of_what_holds_at_each_step.{HaveCourses}
 use Rattle.osi_blameless.proofs.putting.nothing_is_done_before_a_cr_passes.{is_under_way, may_take}
-use Rattle.osi_blameless.proofs.small_facts_that_many_lemmas_use.{same_units}
 use Rattle.osi_blameless.proofs.breaking.what_a_link_has_begun_is_left_over.{joined_is_begun, none_in_flight}
 use Rattle.osi_blameless.proofs.coming.what_is_in_flight_to_an_end.{known_of}
 
@@ -41,10 +39,10 @@ module _ (r peer : ℕ) (link : Standing) (c : Carrier) (z : IsZeroAt r peer lin
   is_some rise = (subst (RiseFrom 0) z.live rise).0
 
   none_later : (coming : List (List ℕ)) → AllByRecursion MayBeFollowed (units_in coming) → (q : ℕ) (later : List Part) → q ≡ r →
-      known_of (may_take c) (honest.units_in coming) q later → later ≡ []
+      known_of (may_take c) (units_in coming) q later → later ≡ []
   none_later coming all q later same sure =
       sure (ap (λ (n : ℕ). may_take c n) same ∙ ap is_under_way is_amid)
-      ∙ none_in_flight q (honest.units_in coming) (subst (AllByRecursion MayBeFollowed) (same_units coming) all)
+      ∙ none_in_flight q (units_in coming) all
 
 pub begun_until_two : (d : Direction) (local : Local) → HasBegun d (StandsUntilTwo d local)
 begun_until_two d local deeds j (inl before) courses sane firm class not all r peer link at o x here =
@@ -54,7 +52,7 @@ begun_until_two d local deeds j (inr h) courses sane firm class not all r peer l
     let z = h.zero in
     let same : r ≡ h.r = h.amid_is r peer (is_some r peer link end at sane.between.sound.orderly.rise) (is_amid r peer link end at) in
     let there : o.place ≡ z.one.place = place_of_one d h.r (IsGone end) j.judge.traffic j.judge.sessions o z.one in
-    joined_is_begun d deeds (known_in end (honest.units_in j.coming)) j.put j.begun j.judge.traffic j.judge.sessions
+    joined_is_begun d deeds (known_in end (units_in j.coming)) j.put j.begun j.judge.traffic j.judge.sessions
     j.end.end z.all courses r peer link at o.place o.connection x o.there here
     (z.all.judged firm.firm o.place o.connection o.there) (own_open d o)
     (z.one.mine x (ap (slice_get j.judge.sessions.live) (sym there) ∙ here) ∙ ap (λ (n : ℕ). Some n) (sym same))

@@ -10,7 +10,7 @@ use Rattle.osi_blameless.proofs.Vocabulary.{connection_after, found, found_on, j
 use Rattle.osi_blameless.proofs.Vocabulary.{before_going, applied_judged, each_sound, Followed, IsAnswer, Tracked, all_so, is_tracked, both}
 use Rattle.osi_blameless.proofs.Vocabulary.{left_open, IsIdle, comes_for, HoldsOfEach, after_add, after_map, after_set, Sound, left_then}
 use Rattle.osi_blameless.proofs.Vocabulary.{own_stays, right_passes, IsOngoing, is_name, each_picked, names, picked_join, picked_other}
-use Rattle.osi_blameless.proofs.Vocabulary.{those, those_join, Deeds, units_in, units_read, Turn, early, past, stage_at}
+use Rattle.osi_blameless.proofs.Vocabulary.{those, those_join, Deeds, units_in, units_by, Turn, early, past, stage_at}
 use Rattle.osi_blameless.proofs.Vocabulary.{asked_so, has_given, Holding, Joined, Sessions, Course, unit_passes, units_pass, Joint, Steps}
 use Rattle.osi_blameless.proofs.Vocabulary.{TakesTurn, begin, begins_other, begins_own, passes_other, passes_own, HaveSamePlaces, IsOneOf}
 use Rattle.osi_blameless.proofs.Vocabulary.{named_by}
@@ -36,13 +36,13 @@ use Rattle.osi_blameless.proofs.standing.a_unit_after_a_dr_is_for_a_closing_conn
 use Rattle.osi_blameless.proofs.shown.a_unit_is_joined_where_it_is_named.{named_there, names_there}
 use Rattle.osi_blameless.proofs.shown.connections_have_the_same_places.{unit_knows}
 use Rattle.osi_blameless.proofs.putting.nothing_is_done_before_a_cr_passes.{IsNoZero}
-use Rattle.osi_blameless.proofs.small_facts_that_many_lemmas_use.{same_units, units_join}
 use Rattle.osi_blameless.proofs.putting.what_a_turn_puts_goes_to_its_peer.{one_of}
 use Rattle.osi_blameless.proofs.small_facts_that_many_lemmas_use.{all_front, same_one}
 use Rattle.osi_blameless.proofs.standing.what_a_unit_does_at_its_place.{Does, asks_again, asks_more, nowhere, somewhere, unit_does}
 use Rattle.osi_blameless.proofs.standing.what_passes_leaves_all_standing.{AllGoesOn}
 use Rattle.osi_blameless.proofs.standing.what_stands_of_a_connection.{is_for, waiting_for}
 use Rattle.osi_blameless.proofs.steps.what_the_turns_among_steps_do.{TurnDoes}
+use Rattle.osi_blameless.proofs.transport.small_facts_that_many_lemmas_use.{units_join}
 
 -- ---- what is so
 
@@ -361,10 +361,10 @@ begins_other_quiet old new is q =
 module _ (local : Local) (two : local.class2 ≡ true) where
   joint_alike : (j : Joint) (f : IsFollowed Left (first local two) j) (r : ℕ) → MayOpen j.end.end.carrier r →
       MayOpen f.end r × (f.come ≡ units_in j.coming)
-  joint_alike j f r may = grind (arith, early_lasts, stage_at, none_of, same_units)
+  joint_alike j f r may = grind (arith, early_lasts, stage_at, none_of)
 
   to_whole : (j : Joint) (f : IsFollowed Left (first local two) j) → AreQuietNow j → IsQuiet f.end f.come j.judge.traffic
-  to_whole j f q = grind (arith, quiet_as, early_lasts, stage_at, none_of, same_units)
+  to_whole j f q = grind (arith, quiet_as, early_lasts, stage_at, none_of)
 
   pub passes_own_quiet : (deeds : ℕ → Deeds) (at : ℕ) (unit : Value) (old new : Joint) → Steps Left (passes_own at unit) old new →
       OwnInTwo Left local deeds old → HaveSamePlaces old.judge.traffic.connections old.judge.sessions.live → AreQuiet old →
@@ -386,7 +386,7 @@ module _ (local : Local) (two : local.class2 ≡ true) where
       AreFine Left at units old.judge → AreQuiet old → AreQuiet new
   passes_other_quiet deeds at bytes units old new (octets, read, is) h fine q =
       let f = h.ahead.followed in
-      let one : units_in (bytes ∷ []) ≡ units = append-nil (units_read (units_of bytes)) ∙ ap units_read read in
+      let one : units_in (bytes ∷ []) ≡ units = append-nil (units_by (units_of bytes)) ∙ ap units_by read in
       let all : units_in (old.coming ++ bytes ∷ []) ≡ units_in old.coming ++ units =
       units_join old.coming (bytes ∷ []) ∙ ap (λ (l : List Value). units_in old.coming ++ l) one in
       let ranges = all_so Fits HasFieldsInRange units (λ v h. h.in_range)

@@ -19,7 +19,6 @@ use Rattle.osi_blameless.proofs.small_facts_that_many_lemmas_use as small
 use Rattle.osi_blameless.proofs.keeping.steps_are_events.{whole_of, IsFollowed}
 use Rattle.osi_blameless.proofs.putting.a_whole_end_runs_along.{called_joined}
 use Rattle.osi_blameless.proofs.putting.each_reference_of_an_end_is_new.{IsAhead, IsWithin}
-use Rattle.osi_blameless.proofs.small_facts_that_many_lemmas_use.{same_units}
 use Rattle.osi_blameless.proofs.keeping.a_carrier_does_events.{none_of}
 use Rattle.osi_blameless.proofs.in_class_0.units_of_class_0_come_after_its_cc.{HasCc}
 use Rattle.osi_blameless.proofs.what_each_thing_keeps_all_of_them_keep.{along_keeps}
@@ -197,5 +196,5 @@ zero_awaits d local j a r firm class within may =
     let stage = stage_of d local j f firm in
     let given : r ≤ w.end.given =
     (let low = a.above.given in let up = within.1 in omega (arith, low, up)) in
-    subst (AwaitsCc d) (f.coming lasts ∙ same_units j.coming)
+    subst (AwaitsCc d) (f.coming lasts)
     (awaits_by d local w r class within.0 given whole_lasts (ap (stage_at r) (f.like.lasts whole_lasts) ∙ may) stage)

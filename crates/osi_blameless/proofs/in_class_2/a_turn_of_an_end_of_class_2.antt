@@ -23,7 +23,6 @@ use Rattle.osi_blameless.proofs.shown.connections_have_the_same_places.{at_same}
 use Rattle.osi_blameless.proofs.putting.each_unit_of_a_turn_has_one_connection.{IsMarked, puts_wait}
 use Rattle.osi_blameless.proofs.coming.nothing_comes_before_a_cc_passes.{none_waits}
 use Rattle.osi_blameless.proofs.putting.nothing_is_done_before_a_cr_passes.{IsNoZero, may_take}
-use Rattle.osi_blameless.proofs.small_facts_that_many_lemmas_use.{same_units}
 use Rattle.osi_blameless.proofs.putting.references_of_an_end_are_distinct.{AreDistinct}
 use Rattle.osi_blameless.proofs.standing.steps_leave_all_standing.{step_turns}
 use Rattle.osi_blameless.proofs.coming.the_dr_of_the_other_side_is_in_flight.{AreShut, turn_shut}
@@ -101,7 +100,7 @@ module _ (local : Local) (two : local.class2 ≡ true) where
       let (k, here, one) = at_same j.judge.traffic.connections j.judge.sessions.live p c places at in
       let low : r ≤ h.ahead.bound = (h.ahead.below.live p k r here (ap (λ (m : ℕ). Some m) (one.calling ∙ same))).1 in
       let up = h.ahead.above.given in
-      subst (AwaitsCc r) (f.coming lasts ∙ same_units j.coming)
+      subst (AwaitsCc r) (f.coming lasts)
       (awaits_cc local (whole_of f) r (whole_joined local two j f) clear tracked (given_so r f.end some (omega (arith, low, up))) (alike ∙ may)
       whole_lasts)
 

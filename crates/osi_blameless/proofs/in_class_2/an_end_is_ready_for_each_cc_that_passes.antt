@@ -37,7 +37,6 @@ use Rattle.osi_blameless.proofs.putting.ccs_among_units.{has_above}
 use Rattle.osi_blameless.proofs.putting.units_that_wait_give_references_above_those_that_passed.{given_among}
 use Rattle.osi_blameless.proofs.putting.ccs_among_units.{has_back, has_front, none_before, not_twice}
 use Rattle.osi_blameless.proofs.putting.what_a_turn_puts_goes_to_its_peer.{IsNotZero, all_back, turn_puts}
-use Rattle.osi_blameless.proofs.small_facts_that_many_lemmas_use.{same_units}
 use Rattle.osi_blameless.proofs.coming.what_an_end_takes_at_a_connection.{apart_none, during_taken}
 use Rattle.osi_blameless.proofs.coming.what_is_in_flight_to_an_end.{parts_taken}
 use Rattle.osi_blameless.proofs.coming.what_is_left_for_an_end.{left_empty}
@@ -210,7 +209,7 @@ module _ (local : Local) where
       where
         low : n ≤ h.ahead.bound
         low = come (IsBelow h.ahead.bound)
-            (subst (AllByRecursion (IsBelow h.ahead.bound)) (sym (f.coming lasts ∙ same_units old.coming)) h.holds.below)
+            (subst (AllByRecursion (IsBelow h.ahead.bound)) (sym (f.coming lasts)) h.holds.below)
 
         by : (s : Stage) → stage_at q carrier ≡ s → AreApart q does.on.put
         by early may = let over = early_above deeds old h clear q some may in absurd (omega (arith, low, is, over))

@@ -8,7 +8,6 @@ use Rattle.osi_blameless.proofs.Vocabulary.{Ended, NotCaller, put_by, put_for, E
 use Rattle.osi_blameless.proofs.Vocabulary.{react_over, outcome_over, unlinked_put, Makes, react}
 use Rattle.osi_carrier.specs.State.{Outcome, State}
 use Rattle.osi_rules.specs.declared.directions.Direction.{Direction}
-use Rattle.osi_blameless.specs.transport.Pieces.{units_in}
 use Rattle.osi_blameless.specs.ends.Doing as doing
 use Rattle.osi_blameless.proofs.keeping.what_waits_changes_nothing.{IsApart, bare, call_apart, done_alike, put_alike, together_alike}
 use Rattle.osi_blameless.proofs.keeping.what_waits_changes_nothing.{unit_apart}
@@ -56,10 +55,6 @@ pub record HasCome (d : Direction) (w : Whole) (put later : List Value) (c : Sta
   pub along : HappenAlong d w events (record w { end = end; put = w.put ++ put; coming = coming })
   pub still : end.ended ≡ None → coming ≡ later
   pub like : IsLike end c
-
-pub units_join : (us vs : List (List ℕ)) → units_in (us ++ vs) ≡ units_in us ++ units_in vs
-units_join [] vs = refl
-units_join (u ∷ us) vs = grind (arith, append_assoc, units_join us vs)
 
 -- before, the units to come are these and the later ones
 abbrev pub IsNext : Whole → List Value → List Value → Type 0

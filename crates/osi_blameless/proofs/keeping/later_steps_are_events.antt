@@ -4,14 +4,14 @@ use Rattle.osi_blameless.proofs.Vocabulary.{[], ap, Bool, Err, false, is_some, L
 use Rattle.osi_blameless.proofs.Vocabulary.{append-nil, AllByRecursion, Fits, IsOctets, units_by, units_fit, units_found, units_of, Value}
 use Rattle.osi_blameless.proofs.Vocabulary.{TpduFault, other, Direction, way_of, marks_of, unread, Cause, Whole, begins_other}
 use Rattle.osi_blameless.proofs.Vocabulary.{begins_own, Joint, passes_other, passes_own, Step, turns, arith, Course, LaterSteps, spoilt}
-use Rattle.osi_blameless.specs.transport.Pieces.{units_in}
+use Rattle.osi_blameless.specs.Packets.{units_in}
 use Rattle.osi_blameless.specs.transport.Wholes as wholes
 use Rattle.osi_rules.specs.Sides as sides
 use Rattle.osi_rules.specs.Traffic as traffic
 use Rattle.osi_blameless.proofs.keeping.a_break_ends_no_judging_or_all.{refused_traffic, refuses, unread_if}
-use Rattle.osi_blameless.proofs.keeping.a_carrier_does_events.{units_join}
 use Rattle.osi_blameless.proofs.keeping.steps_are_events.{IsFollowed, passes_other_so, seen, step_followed, then_happens, turned, whole_of}
 use Rattle.osi_blameless.proofs.Vocabulary.{None, Traffic}
+use Rattle.osi_blameless.proofs.transport.small_facts_that_many_lemmas_use.{units_join}
 
 fits_by : (r : Result (List Value) TpduFault) (packet : List ℕ) → IsOctets packet → units_of packet ≡ r → AllByRecursion Fits (units_by r)
 fits_by (Ok units) packet octets is = units_fit units packet (units_found packet units octets is)

@@ -8,15 +8,16 @@ use Rattle.osi_blameless.proofs.Vocabulary.{Whole, begins_other, begins_own, Joi
 use Rattle.osi_blameless.proofs.Vocabulary.{arith, Course, packet_begins, begin}
 use Rattle.osi_rules.specs.Sides as sides
 use Rattle.osi_rules.specs.Traffic as traffic
-use Rattle.osi_blameless.specs.transport.Pieces.{units_in}
+use Rattle.osi_blameless.specs.Packets.{units_in}
 use Rattle.osi_blameless.specs.transport.Wholes as wholes
 use Rattle.osi_blameless.proofs.small_facts_that_many_lemmas_use.{over_none}
-use Rattle.osi_blameless.proofs.keeping.a_carrier_does_events.{IsLike, IsNext, comes, none_of, units_join}
+use Rattle.osi_blameless.proofs.keeping.a_carrier_does_events.{IsLike, IsNext, comes, none_of}
 use Rattle.osi_blameless.proofs.steps.all_is_judged_or_nothing.{changes_traffic}
 use Rattle.osi_blameless.proofs.keeping.what_waits_changes_nothing.{bare}
 use Rattle.osi_blameless.proofs.what_each_thing_keeps_all_of_them_keep.{along_join}
 use Rattle.osi_blameless.proofs.Vocabulary.{Happens, Way}
 use Rattle.osi_blameless.specs.EndAndJudge.{PassesOther}
+use Rattle.osi_blameless.proofs.transport.small_facts_that_many_lemmas_use.{units_join}
 
 -- ---- what the rules know of a unit, and of the units of a packet
 

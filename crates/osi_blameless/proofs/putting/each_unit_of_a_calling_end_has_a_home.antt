@@ -21,7 +21,6 @@ use Rattle.osi_blameless.proofs.putting.a_whole_end_runs_along.{whole_followed}
 use Rattle.osi_blameless.proofs.shown.connections_have_the_same_places.{at_same}
 use Rattle.osi_blameless.proofs.putting.each_unit_of_a_turn_has_one_connection.{HasHome, IsMarked, known}
 use Rattle.osi_blameless.proofs.putting.nothing_is_done_before_a_cr_passes.{IsNotCc}
-use Rattle.osi_blameless.proofs.small_facts_that_many_lemmas_use.{same_units}
 use Rattle.osi_blameless.proofs.putting.what_a_turn_puts_goes_to_its_peer.{GoesTo, IsPutFor, all_so, goes_to, one_of, turn_puts}
 use Rattle.osi_blameless.proofs.putting.what_a_turn_puts_goes_to_its_peer.{IsNotZero, turn_marked, whole_lasts}
 use Rattle.osi_blameless.proofs.steps.what_the_turns_among_steps_do.{TurnDoes}
@@ -157,7 +156,6 @@ module _ (local : Local) (two : local.class2 ≡ true) (deeds : ℕ → Deeds) (
           arith,
           append_assoc,
           turn_uses turn old new step true deeds does.on lasts,
-          same_units old.coming,
           all_units_more front ((0, unit) ∷ later),
         )
 

@@ -21,7 +21,6 @@ use Rattle.osi_blameless.proofs.standing.what_passes_leaves_all_standing.{IsRead
 use Rattle.osi_blameless.proofs.standing.what_stands_of_a_connection.{Known, is_for, waiting_for}
 use Rattle.osi_blameless.proofs.small_facts_that_many_lemmas_use.{all_left}
 use Rattle.osi_blameless.proofs.steps.what_the_turns_among_steps_do.{TurnDoes}
-use Rattle.osi_blameless.proofs.small_facts_that_many_lemmas_use.{same_units}
 
 -- ---- one connection
 
@@ -130,7 +129,7 @@ pub none_come : (b : ℕ) (local : Local) (first : Whole) (j : Joint) (f : IsFol
 none_come b local first j f h places up lasts r less may =
     let whole_lasts = none_of f.end.ended (sym f.like.over ∙ ap is_some lasts) in
     let alike : stage_at r f.end ≡ stage_at r j.end.end.carrier = ap (stage_at r) (f.like.lasts whole_lasts) in
-    subst (AllByRecursion (IsNotCc r)) (f.coming lasts ∙ same_units j.coming)
+    subst (AllByRecursion (IsNotCc r)) (f.coming lasts)
     (none_comes b j.judge.traffic j.judge.sessions f.end places up whole_lasts r less (alike ∙ may) f.come h.answers h.few)
 
 -- ---- a CR that passes
@@ -193,4 +192,4 @@ cr_calm local first j f h x rest put zero lasts =
     let asking =
     (subst (AllByRecursion (λ (v : Value). (y : Connect) → v ≡ request y → IsAsking local f.end f.come y)) put h.requests).0
     x refl in
-    grind (arith, dcs_none, those, same_units)
+    grind (arith, dcs_none, those)

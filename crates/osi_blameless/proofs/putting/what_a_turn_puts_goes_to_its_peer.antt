@@ -9,13 +9,13 @@ use Rattle.osi_blameless.proofs.Vocabulary.{Lives, Parts, Continues, Deeds, Mark
 use Rattle.osi_blameless.proofs.Vocabulary.{Sessions, Joint, TakesTurn, differ}
 use Rattle.osi_carrier.specs.State.{Connection as Live, State as Carrier}
 use Rattle.osi_blameless.specs.ends.Arriving as arriving
-use Rattle.osi_blameless.proofs.keeping.a_carrier_does_events.{none_of, units_join}
+use Rattle.osi_blameless.proofs.keeping.a_carrier_does_events.{none_of}
 use Rattle.osi_blameless.proofs.keeping.steps_are_events.{IsFollowed}
 use Rattle.osi_blameless.proofs.steps.the_packets_that_an_end_took_come_first.{are_first}
 use Rattle.osi_blameless.proofs.putting.each_unit_of_a_turn_has_one_connection.{IsFor, IsHomed, IsMarked, of_none, of_one}
 use Rattle.osi_blameless.proofs.standing.what_stands_of_a_connection.{is_for}
 use Rattle.osi_blameless.proofs.small_facts_that_many_lemmas_use.{all_front, all_join}
-use Rattle.osi_blameless.proofs.small_facts_that_many_lemmas_use.{same_units}
+use Rattle.osi_blameless.proofs.transport.small_facts_that_many_lemmas_use.{units_join}
 
 -- ---- lists
 
@@ -95,7 +95,7 @@ module _ (d : Direction) (is_caller : Bool) (first : Whole) (deeds : ℕ → Dee
     came x some q l is P all =
         let a = are_first on.used step.used (old.end.held.octets ++ turn.used) on.rest step.rest new.end.end.carrier.ended
         on.cut (step.cut lasts) (λ still. on.held still ∙ sym (step.held still)) (step.all lasts) in
-        search (arith, append_assoc, units_join, all_front, same_units, all_units_more, one_of)
+        search (arith, append_assoc, units_join, all_front, all_units_more, one_of)
 
   -- a connection that did not open put nothing
   pub none_shut : (q : ℕ) (l : Lived q) → l.left.during ++ l.left.after ≡ [] → AreApart q on.put

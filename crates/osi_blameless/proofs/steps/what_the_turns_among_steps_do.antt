@@ -7,10 +7,9 @@ use Rattle.osi_blameless.proofs.Vocabulary.{FirstOf, Life, stage_at, ◌<◌}
 use Rattle.osi_blameless.proofs.Vocabulary.{Value, units_in, all_units, Turn, comes_to, begins_other, begins_own, Joint, passes_other}
 use Rattle.osi_blameless.proofs.Vocabulary.{passes_own, Step}
 use Rattle.osi_blameless.proofs.Vocabulary.{Steps, StepsAlong, TakesTurn, turns, ComesBySteps, TurnsBad, begin}
-use Rattle.osi_blameless.specs.transport.Pieces as pieces
 use Rattle.osi_blameless.specs.Spoilt.{GoesOn}
-use Rattle.osi_blameless.proofs.small_facts_that_many_lemmas_use.{same_units, units_join}
 use Rattle.osi_blameless.proofs.steps.the_packets_that_an_end_took_come_first.{are_first}
+use Rattle.osi_blameless.proofs.transport.small_facts_that_many_lemmas_use.{units_join}
 
 -- what a turn does at each connection, at which this was done before
 pub record TurnDoes (is_caller : Bool) (deeds : ℕ → Deeds) (turn : Turn) (old new : Joint) (t : TakesTurn turn old new) : Type 0 where
@@ -34,7 +33,7 @@ StepsDo d is_caller deeds old (passes_other at packet units ∷ steps) new along
 -- the units of these packets that an end took, and those that it left
 pub record TakesFirst (old : Holding) (used : List (List ℕ)) (took : List Value) (new : Holding) : Type 0 where
   pub left : List Value
-  pub first : old.end.carrier.ended ≡ None → pieces.units_in used ≡ took ++ left
+  pub first : old.end.carrier.ended ≡ None → units_in used ≡ took ++ left
   pub none_left : new.end.carrier.ended ≡ None → left ≡ []
 
 module _ (is_caller : Bool) (deeds : ℕ → Deeds) (turn : Turn) (j : Joint) (new : Holding) (takes : Takes j.end turn new)
@@ -54,7 +53,7 @@ module _ (is_caller : Bool) (deeds : ℕ → Deeds) (turn : Turn) (j : Joint) (n
       (λ still. on.held still ∙ sym (held still)) (all lasts) in
       record {
         left = units_in a.more;
-        first = λ l. ap pieces.units_in a.is ∙ same_units (on.used ++ a.more) ∙ units_join on.used a.more;
+        first = λ l. ap units_in a.is ∙ units_join on.used a.more;
         none_left = λ still. ap units_in (a.all still);
       }
 

@@ -8,6 +8,7 @@ use Rattle.osi_blameless.proofs.transport.Vocabulary.{is_some, List, list_any, N
 use Rattle.osi_blameless.proofs.transport.Vocabulary.{set, sized}
 use Rattle.osi_blameless.proofs.transport.Vocabulary.{slice_get, Some, suc, Traffic, true, Value, zero, ℕ, ◌&&◌, ◌++◌, ◌==◌, ◌||◌, ◌∙◌, ◌∷◌}
 use Rattle.osi_blameless.proofs.transport.Vocabulary.{◌≡◌}
+use Rattle.osi_blameless.proofs.transport.Vocabulary.{flat_map-append, units_by, units_in, units_of}
 
 pub all_add : {X : Type 0} (P : X → Type 0) (vs : List X) (v : X) → AllByRecursion P vs → P v → AllByRecursion P (vs ++ v ∷ [])
 all_add P [] v a p = (p, tt)
@@ -144,3 +145,6 @@ half_keeps u half none = grind (arith, closing_same)
 
 pub half_started : (u : Value) (half : Half) → is_silent half.phase ≡ false → is_silent (half_after u half).phase ≡ false
 half_started u half h = grind arith
+
+pub units_join : (us vs : List (List ℕ)) → units_in (us ++ vs) ≡ units_in us ++ units_in vs
+units_join us vs = flat_map-append (λ packet. units_by (units_of packet)) us vs

@@ -16,7 +16,7 @@ use Rattle.osi_blameless.proofs.ends.Vocabulary.{Goes as GoesThrough, StopsBehin
 use Rattle.osi_blameless.proofs.ends.Vocabulary.{hears_times}
 use Rattle.osi_blameless.proofs.ends.Vocabulary.{RunsOut, Starves, starves, with_carrier, with_events, End, Holding, IsAttended, waits}
 use Rattle.osi_blameless.proofs.ends.Vocabulary.{Deeds}
-use Rattle.osi_blameless.proofs.ends.Vocabulary.{units_in, units_read, is_gone, flat_map-append, if◌then◌else◌, Happening, Makes, all_units}
+use Rattle.osi_blameless.proofs.ends.Vocabulary.{units_in, units_by, is_gone, flat_map-append, if◌then◌else◌, Happening, Makes, all_units}
 use Rattle.osi_blameless.proofs.ends.Vocabulary.{orderly_asks}
 use Rattle.osi_carrier.specs.Packets as carriers
 use Rattle.osi_carrier.specs.State as states
@@ -99,7 +99,7 @@ module _ (known : Known) (is_caller : Bool) where
 
   acted : (u : List ℕ) (found : Result (List Value) TpduFault) (moves : ℕ → Deeds) (e : End) → IsOctets u → units_of u ≡ found →
       IsSound e.carrier → HoldEach (CalmAll is_caller) moves e →
-      StepsBy is_caller (units_read found) (NowAll is_caller) moves e.carrier (with_carrier (carriers.acts_by found e.carrier) e)
+      StepsBy is_caller (units_by found) (NowAll is_caller) moves e.carrier (with_carrier (carriers.acts_by found e.carrier) e)
   acted u (Ok units) moves e octets is h calm = units_step is_caller units u (units_found u units octets is) moves e h calm
   acted u (Err fault) moves e octets is h calm =
       step_none is_caller (NowAll is_caller) moves e.carrier (with_carrier (carriers.acts_by (Err fault) e.carrier) e)
@@ -107,16 +107,16 @@ module _ (known : Known) (is_caller : Bool) where
       (λ r. away (calm_over is_caller r (moves r) e (with_carrier (carriers.acts_by (Err fault) e.carrier) e) (calm r) refl))
 
   carried_out : (u : List ℕ) (moves : ℕ → Deeds) (e : End) → IsOctets u → IsSound e.carrier → HoldEach (CalmAll is_caller) moves e →
-      StepsBy is_caller (units_read (units_of u)) (NowAll is_caller) moves e.carrier
+      StepsBy is_caller (units_by (units_of u)) (NowAll is_caller) moves e.carrier
       (with_carrier (carriers.after_packet e.carrier u) e)
   unfolding carriers.after_packet
   carried_out u moves e octets h calm = acted u (units_of u) moves e octets refl h calm
 
   packet_steps : (u : List ℕ) (moves : ℕ → Deeds) (e : End) → IsOctets u → Between e → e.carrier.ended ≡ None → Courses moves e →
-      CourseSteps (units_read (units_of u)) moves e (after_packet e u)
+      CourseSteps (units_by (units_of u)) moves e (after_packet e u)
   packet_steps u moves e octets b lasts course =
       let mid = with_carrier (carriers.after_packet e.carrier u) e in
-      step_after is_caller (units_read (units_of u)) (NowAll is_caller) (CourseAll is_caller) moves e.carrier mid (after_packet e u)
+      step_after is_caller (units_by (units_of u)) (NowAll is_caller) (CourseAll is_caller) moves e.carrier mid (after_packet e u)
       (carried_out u moves e octets b.sound (calm_of moves e (b.attended lasts) course))
       (grind (arith, attended, packet_is e u))
 
@@ -128,8 +128,8 @@ module _ (known : Known) (is_caller : Bool) where
       let mid = after_packet old u in
       let lasts = lasting_of old.carrier.ended (waits old.lines) takes.0 in
       let first = packet_steps u moves old octets.0 b lasts course in
-      let now = then_between (u ∷ []) (units_read (units_of u)) (all_units first.put) old mid first.makes (takes.0, refl) b in
-      step_then is_caller (units_read (units_of u)) (units_in packets) (CourseAll is_caller) (CourseAll is_caller) moves old.carrier mid new
+      let now = then_between (u ∷ []) (units_by (units_of u)) (all_units first.put) old mid first.makes (takes.0, refl) b in
+      step_then is_caller (units_by (units_of u)) (units_in packets) (CourseAll is_caller) (CourseAll is_caller) moves old.carrier mid new
       first (λ after then_course. takes_steps packets after mid new octets.1 now then_course takes.1)
 
   -- ---- memory runs out
@@ -161,10 +161,10 @@ module _ (known : Known) (is_caller : Bool) where
       (λ r after then_now. is_gone (search (arith, waits_over, starved_over))))
 
   starved_steps : (u : List ℕ) (moves : ℕ → Deeds) (e new : End) → IsOctets u → Between e → e.carrier.ended ≡ None →
-      Courses moves e → Starves e u new → CourseSteps (units_read (units_of u)) moves e new
+      Courses moves e → Starves e u new → CourseSteps (units_by (units_of u)) moves e new
   starved_steps u moves e new octets b lasts course (inl (c, (units, is, out), there)) =
       let mid = with_carrier c e in
-      subst (λ (l : List Value). CourseSteps l moves e new) (sym (ap units_read is))
+      subst (λ (l : List Value). CourseSteps l moves e new) (sym (ap units_by is))
       (subst (CourseSteps units moves e) (sym there)
       (step_after is_caller units (NowAll is_caller) (CourseAll is_caller) moves e.carrier mid (attends mid)
       (unit_starved u units moves e c (units_found u units octets is) b.sound (calm_of moves e (b.attended lasts) course) out)
@@ -172,12 +172,12 @@ module _ (known : Known) (is_caller : Bool) where
   starved_steps u moves e new octets b lasts course (inr (c, acts, out)) =
       let mid = with_carrier c e in
       let calm = calm_of moves e (b.attended lasts) course in
-      let now : StepsBy is_caller (units_read (units_of u)) (NowAll is_caller) moves e.carrier mid = elim (acts_cases e.carrier c u acts) [
+      let now : StepsBy is_caller (units_by (units_of u)) (NowAll is_caller) moves e.carrier mid = elim (acts_cases e.carrier c u acts) [
         | inl is ↦ grind (arith, carried_out)
-        | inr short ↦ subst (λ (l : List Value). StepsBy is_caller l (NowAll is_caller) moves e.carrier mid) (sym (ap units_read short.1))
+        | inr short ↦ subst (λ (l : List Value). StepsBy is_caller l (NowAll is_caller) moves e.carrier mid) (sym (ap units_by short.1))
             (unit_starved u short.0 moves e c (units_found u short.0 octets short.1) b.sound calm short.2)
       ] in
-      step_after is_caller (units_read (units_of u)) (NowAll is_caller) (CourseAll is_caller) moves e.carrier mid new now
+      step_after is_caller (units_by (units_of u)) (NowAll is_caller) (CourseAll is_caller) moves e.carrier mid new now
       (λ after w. event_starved after mid new w out)
 
   -- ---- a piece
@@ -239,7 +239,7 @@ module _ (known : Known) (is_caller : Bool) where
         all_used moves (f.units ++ packet ∷ []) piece ([] ++ drop f.within piece) n old new f.all (one_more f packet one)
         (none_ended old piece n new f)
         (subst (λ (l : List Value). CourseSteps l moves old.end new.end) (grind (arith, append-nil, flat_map-append))
-        (step_then is_caller (units_in f.units) (units_read (units_of packet)) (CourseAll is_caller) (CourseAll is_caller) moves
+        (step_then is_caller (units_in f.units) (units_by (units_of packet)) (CourseAll is_caller) (CourseAll is_caller) moves
         old.end.carrier f.before new.end first
         (λ after then_course. starved_steps packet after f.before new.end (all_octets (packet ∷ []) f.rest [] one).0 now (lasting_of f.before.carrier.ended (waits f.before.lines) f.quiet)
         then_course starved)))
