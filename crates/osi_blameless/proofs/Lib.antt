@@ -1,7 +1,6 @@
 -- The map of these proofs, in reading order: each folder has a map of its files. `Vocabulary` has the names that come from elsewhere.
 mod Vocabulary
 pub mod small_facts_that_many_lemmas_use
-pub mod what_each_thing_keeps_all_of_them_keep
 -- What an end puts on the byte connection and takes from it, connection by connection.
 pub mod ends
 -- No unit that an end puts breaks a rule of transport, as long as the other side keeps them.

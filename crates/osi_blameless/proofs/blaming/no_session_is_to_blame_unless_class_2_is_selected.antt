@@ -5,11 +5,10 @@ use Rattle.osi_blameless.proofs.Vocabulary.{◌∷◌, ◌++◌, length, Option,
 use Rattle.osi_blameless.proofs.Vocabulary.{Zero, Local, Capture, other, Direction, Finding, Broke, TooMany, Reach, is_applied, reach_of}
 use Rattle.osi_blameless.proofs.Vocabulary.{class_for, is_stopped, takes, Deeds, Holding, IsFresh, Known, Cause, unit_passes, units_pass}
 use Rattle.osi_blameless.proofs.Vocabulary.{way_of, comes_to, Joint, Step, Steps, calls_from, Class, IsNoPacket, IsUnread, LaterAlong}
-use Rattle.osi_blameless.proofs.Vocabulary.{spoilt}
+use Rattle.osi_blameless.proofs.Vocabulary.{spoilt, units_in}
 use Rattle.osi_blameless.proofs.steps.what_the_turns_among_steps_do.{ComesByDoing}
 use Rattle.osi_rules.specs.declared.findings.Reach.TheVariants as reach
 use Rattle.osi_rules.specs.declared.findings.Rule.TheVariants as rule
-use Rattle.osi_blameless.specs.Packets.{units_in}
 use Rattle.osi_blameless.specs.transport.Wholes as wholes
 use Rattle.osi_judge.specs.Courses.{Course as Passed}
 use Rattle.osi_blameless.specs.Spoilt.{GoesOn}

@@ -9,8 +9,7 @@ use Rattle.osi_blameless.proofs.Vocabulary.{TakesPackets, End, Holding, Deeds, a
 use Rattle.osi_blameless.proofs.Vocabulary.{IsZeroAt, hard_ends, leads_to, Stopped, TakesFirst, none_held, prefix_or, stopped_there, TurnOf}
 use Rattle.osi_blameless.proofs.Vocabulary.{turn_continues, Known, packet_begins, unit_passes, units_pass, way_of, Joint, Steps, TakesTurn}
 use Rattle.osi_blameless.proofs.Vocabulary.{begins_other, begins_own, passes_own, turns, calls_from, CanBeWritten, all_did, packet_of}
-use Rattle.osi_blameless.proofs.Vocabulary.{packets_joined, read_again, Result, TpduFault, IsOctets}
-use Rattle.osi_blameless.specs.Packets.{units_in}
+use Rattle.osi_blameless.proofs.Vocabulary.{packets_joined, read_again, Result, TpduFault, IsOctets, units_in}
 use Rattle.osi_blameless.specs.transport.Wholes as wholes
 use Rattle.osi_blameless.proofs.steps.what_the_turns_among_steps_do.{takes_turn}
 use Rattle.osi_stack.specs.Feeding.{stops}
@@ -343,7 +342,8 @@ module _ (known : Known) (d : Direction) (local : Local)
     put_then : (w : Joint) (units : List Value) → w.put ≡ v.put ++ units → packets units ≡ turn.put → packets w.put ≡ packets new.put
     put_then w units put is =
         let now : packets units ≡ packets t.units = is ∙ t.written in
-        ap packets put ∙ packets_joined v.put units ∙ (λ i. h.put i ++ now i) ∙ sym (packets_joined old.put t.units) ∙ ap packets (sym t.put)
+        ap packets put ∙ packets_joined v.put units ∙ (λ i. h.put i ++ now i) ∙ sym (packets_joined old.put t.units) ∙ ap packets
+        (sym t.put)
 
     -- without a turn
     idle : turn.put ≡ [] → IsSome new.end.end.carrier.ended → IsAsWithout ends new

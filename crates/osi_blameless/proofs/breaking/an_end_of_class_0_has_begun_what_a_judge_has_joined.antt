@@ -1,11 +1,10 @@
 -- An end of class 0 to which no DT is in flight has begun of a TSDU what a judge has joined of it.
 -- For a TSDU of the other side that becomes too long.
-use Rattle.osi_blameless.proofs.Vocabulary.{arith, ◌≡◌, ◌∙◌, inl, inr, refl, ap, subst, ℕ, ◌<◌, List, [], Some, eq-eqb}
-use Rattle.osi_blameless.proofs.Vocabulary.{slice_get, AllByRecursion, Standing, Part, Two, Zero, Local, RiseFrom, linked, other}
-use Rattle.osi_blameless.proofs.Vocabulary.{Direction, Left, Right, has_given, IsFirm, Deeds, IsZeroAt, IsSane, amid}
-use Rattle.osi_blameless.proofs.Vocabulary.{stage_at, stage_is, Joined, spoken, begun_octets, Joint, State, is_open, own, way_of, true, sym}
+use Rattle.osi_blameless.proofs.Vocabulary.{arith, ◌≡◌, ◌∙◌, inl, inr, refl, ap, subst, ℕ, ◌<◌, List, [], Some, eq-eqb, slice_get}
+use Rattle.osi_blameless.proofs.Vocabulary.{AllByRecursion, Standing, Part, Two, Zero, Local, RiseFrom, linked, other, Direction, Left}
+use Rattle.osi_blameless.proofs.Vocabulary.{Right, has_given, IsFirm, Deeds, IsZeroAt, IsSane, amid, stage_at, stage_is, Joined, spoken}
+use Rattle.osi_blameless.proofs.Vocabulary.{begun_octets, Joint, State, is_open, own, way_of, true, sym, units_in}
 use Rattle.osi_carrier.specs.State.{State as Carrier}
-use Rattle.osi_blameless.specs.Packets.{units_in}
 use Rattle.osi_blameless.proofs.small_facts_that_many_lemmas_use.{none_some}
 use Rattle.osi_blameless.proofs.standing.a_dt_of_class_0_has_one_place.{IsOnly}
 use Rattle.osi_blameless.proofs.breaking.an_end_of_class_0_has_its_connection_open.{MayBeFollowed}

@@ -3,8 +3,7 @@
 use Rattle.osi_blameless.proofs.Vocabulary.{ap, is_some, List, None, Some, subst, sym, true, ℕ, ◌++◌, ◌∙◌, ◌∷◌, ◌≡◌, AllByRecursion}
 use Rattle.osi_blameless.proofs.Vocabulary.{confirm, Connect, Value, Standing, Zero, Local, Carrier, Traffic as State, Connection, Left}
 use Rattle.osi_blameless.proofs.Vocabulary.{Right, Direction, answered, known, quiet, refused, IsInZero, calm_judge, Whole, Joint, IsFirm}
-use Rattle.osi_blameless.proofs.Vocabulary.{arith, may_be_followed, ended, waits, IsZeroAt, calls_from, Disconnects}
-use Rattle.osi_blameless.specs.Packets.{units_in}
+use Rattle.osi_blameless.proofs.Vocabulary.{arith, may_be_followed, ended, waits, IsZeroAt, calls_from, Disconnects, units_in}
 use Rattle.osi_blameless.specs.transport.Wholes as wholes
 use Rattle.osi_blameless.proofs.transport.requests.how_requests_go_on.{asks, zero}
 use Rattle.osi_blameless.proofs.keeping.a_carrier_does_events.{none_of}

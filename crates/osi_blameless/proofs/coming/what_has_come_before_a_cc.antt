@@ -10,24 +10,22 @@ use Rattle.osi_blameless.proofs.Vocabulary.{connection_after, found, found_on, j
 use Rattle.osi_blameless.proofs.Vocabulary.{before_going, applied_judged, each_sound, Followed, IsAnswer, Tracked, all_so, is_tracked, both}
 use Rattle.osi_blameless.proofs.Vocabulary.{left_open, IsIdle, comes_for, HoldsOfEach, after_add, after_map, after_set, Sound, left_then}
 use Rattle.osi_blameless.proofs.Vocabulary.{own_stays, right_passes, IsOngoing, is_name, each_picked, names, picked_join, picked_other}
-use Rattle.osi_blameless.proofs.Vocabulary.{those, those_join, Deeds, units_in, units_by, Turn, early, past, stage_at}
-use Rattle.osi_blameless.proofs.Vocabulary.{asked_so, has_given, Holding, Joined, Sessions, Course, unit_passes, units_pass, Joint, Steps}
-use Rattle.osi_blameless.proofs.Vocabulary.{TakesTurn, begin, begins_other, begins_own, passes_other, passes_own, HaveSamePlaces, IsOneOf}
-use Rattle.osi_blameless.proofs.Vocabulary.{named_by}
-use Rattle.osi_blameless.proofs.Vocabulary.{◌≤◌}
+use Rattle.osi_blameless.proofs.Vocabulary.{those, those_join, Deeds, units_in, units_by, Turn, early, past, stage_at, asked_so, has_given}
+use Rattle.osi_blameless.proofs.Vocabulary.{Holding, Joined, Sessions, Course, unit_passes, units_pass, Joint, Steps, TakesTurn, begin}
+use Rattle.osi_blameless.proofs.Vocabulary.{begins_other, begins_own, passes_other, passes_own, HaveSamePlaces, IsOneOf, named_by, ◌≤◌}
 use Rattle.osi_carrier.specs.State.{State as Carrier, asked}
 use Rattle.osi_rules.specs.declared.directions.Direction.{Direction as Way}
 use Rattle.osi_rules.specs.declared.directions.Direction.TheVariants as way
 use Rattle.osi_blameless.specs.transport.Naming.{unit as passing}
 use Rattle.osi_blameless.specs.transport.Wholes as wholes
-use Rattle.osi_blameless.proofs.transport.calling.a_calling_end_is_fair_in_class_2.{Joined as Follows}
+use Rattle.osi_blameless.proofs.transport.by_line.an_end_is_fair_in_class_2.{Joined as Follows}
 use Rattle.osi_blameless.proofs.transport.connections.no_two_open_connections_have_one_peer.{differ}
 use Rattle.osi_blameless.proofs.transport.connections.what_becomes_of_a_connection.{Told}
 use Rattle.osi_blameless.proofs.keeping.a_carrier_does_events.{none_of}
 use Rattle.osi_blameless.proofs.keeping.steps_are_events.{whole_of, IsFollowed}
 use Rattle.osi_blameless.proofs.in_class_2.no_unit_waits_for_the_reference_that_a_cc_gives.{one_plain}
 use Rattle.osi_blameless.proofs.in_class_2.an_end_hears_what_breaks_no_rule.{AreFine, IsHeardOn}
-use Rattle.osi_blameless.proofs.putting.a_whole_end_runs_along.{first, whole_joined}
+use Rattle.osi_blameless.proofs.putting.a_whole_end_runs_along.{first, joined_by_line}
 use Rattle.osi_blameless.proofs.in_class_2.an_end_of_class_2_goes_on.{OwnInTwo}
 use Rattle.osi_blameless.proofs.coming.a_calling_end_takes_nothing_before_its_cc.{HasCc, has_cc}
 use Rattle.osi_blameless.proofs.small_facts_that_many_lemmas_use.{early_lasts}
@@ -376,7 +374,7 @@ module _ (local : Local) (two : local.class2 ≡ true) where
       subst AreQuiet (sym is) (λ clear.
       quiet_as f.end old.end.end.carrier f.come (units_in old.coming) (takes way.Left unit old.judge.traffic).state
       (unit_passes Left at unit old.judge).traffic (sym knows) (λ r may. let (m, same) = joint_alike old f r may in (m, sym same))
-      (own_quiet local unit (whole_of f) new.put put begun old.judge.sessions places (whole_joined local two old f)
+      (own_quiet local unit (whole_of f) new.put put begun old.judge.sessions places (joined_by_line local two old f)
       (subst (λ (t : State). IsOngoing t.course) (sym knows) clear)
       (to_whole old f (q (before_going (passing way.Left unit) old.judge.traffic
       (subst (λ (t : State). IsOngoing t.course) (sym knows) clear))))))
@@ -395,7 +393,7 @@ module _ (local : Local) (two : local.class2 ≡ true) where
       subst AreQuiet (sym is) (λ clear.
       quiet_as f.end old.end.end.carrier (f.come ++ units) (units_in (old.coming ++ bytes ∷ [])) after after refl
       (λ r may. let (m, same) = joint_alike old f r may in (m, all ∙ ap (λ (l : List Value). l ++ units) (sym same)))
-      (units_quiet local at units (whole_of f) old.judge fine clear ranges (whole_joined local two old f) refl
+      (units_quiet local at units (whole_of f) old.judge fine clear ranges (joined_by_line local two old f) refl
       (to_whole old f (q (ongoing_first at units old.judge fine clear)))))
 
 pub turns_quiet : (turn : Turn) (old new : Joint) (t : TakesTurn turn old new) (deeds : ℕ → Deeds) →

@@ -113,7 +113,8 @@ module _ (local : Local) (turn : Turn) (old new : Joint) (t : TakesTurn turn old
         let marks = all_marked false turn old new t deeds does x.source is_x in
         let now = does.on.own x.source positive
         ∙ marks_wait x.source (Some n) does.on.put (agree_one x.source (Some n) positive refl does.on.put marks does.on.by_links links) in
-        (λ i. waits i ++ now i) ∙ sym (picked_join (is_for (Some n)) old.put (all_units does.on.put)) ∙ ap (waiting_for (Some n)) (sym turn_put)
+        (λ i. waits i ++ now i) ∙ sym (picked_join (is_for (Some n)) old.put (all_units does.on.put)) ∙ ap (waiting_for (Some n))
+        (sym turn_put)
 
     -- nothing is for it among what comes
     calm : (q : ℕ) → stage_at q end ≡ early → AreCalm false q (stage_at q then_end) does.on.took

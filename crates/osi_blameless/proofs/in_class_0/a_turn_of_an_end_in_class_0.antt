@@ -1,12 +1,11 @@
 -- Once class 0 is selected, a turn of an end leaves all its connections standing at a judge: what it puts is for its one connection, and
 -- what it takes there is the first of what is in flight. And no session of it is to blame then. For the session of the connection of an end
 -- in class 0.
-use Rattle.osi_blameless.proofs.Vocabulary.{◌≡◌, ◌∙◌, refl, sym, ap, subst, ℕ, ◌<◌, Bool, true, false, List, ◌∷◌, ◌++◌, Option, Some}
-use Rattle.osi_blameless.proofs.Vocabulary.{inl, inr, ◌⊎◌, ◌==◌, slice_get, AllByRecursion, eqb-true, Connect, Value, confirm, Local}
-use Rattle.osi_blameless.proofs.Vocabulary.{Direction, Left, Right, other, Connection, is_open, own, State, unlike, IsFirm}
-use Rattle.osi_blameless.proofs.Vocabulary.{Deeds, then_did, units_in, Marked, all_units, Turn, early, past}
-use Rattle.osi_blameless.proofs.Vocabulary.{stage_at, all_units_more, Joined, reference_of, Joint, TakesTurn, IsOneOf, calls_from, way_of}
-use Rattle.osi_blameless.proofs.Vocabulary.{is_of_link, Time}
+use Rattle.osi_blameless.proofs.Vocabulary.{◌≡◌, ◌∙◌, refl, sym, ap, subst, ℕ, ◌<◌, Bool, true, false, List, ◌∷◌, ◌++◌, Option, Some, inl}
+use Rattle.osi_blameless.proofs.Vocabulary.{inr, ◌⊎◌, ◌==◌, slice_get, AllByRecursion, eqb-true, Connect, Value, confirm, Local, Direction}
+use Rattle.osi_blameless.proofs.Vocabulary.{Left, Right, other, Connection, is_open, own, State, unlike, IsFirm, Deeds, then_did, units_in}
+use Rattle.osi_blameless.proofs.Vocabulary.{Marked, all_units, Turn, early, past, stage_at, all_units_more, Joined, reference_of, Joint}
+use Rattle.osi_blameless.proofs.Vocabulary.{TakesTurn, IsOneOf, calls_from, way_of, is_of_link, Time}
 use Rattle.osi_carrier.specs.State.{State as Carrier}
 use Rattle.osi_blameless.specs.transport.Wholes as wholes
 use Rattle.osi_judge.specs.Courses.{Course as Passed}
@@ -42,7 +41,8 @@ calm_of Right r s took had others none order awaits = absurd none
 -- ---- a turn
 
 module _ (d : Direction) (local : Local) (turn : Turn) (old new : Joint) (t : TakesTurn turn old new)
-    (deeds : ℕ → Deeds) (does : TurnDoes (calls_from d) deeds turn old new t) (sure : IsFirm old.judge.traffic.course) (h : StandsInZero d local deeds old) where
+    (deeds : ℕ → Deeds) (does : TurnDoes (calls_from d) deeds turn old new t) (sure : IsFirm old.judge.traffic.course)
+    (h : StandsInZero d local deeds old) where
   abbrev s : State
   s = old.judge.traffic
 

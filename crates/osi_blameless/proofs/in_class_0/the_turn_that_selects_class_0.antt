@@ -2,8 +2,8 @@
 -- connection is open. For the session of the connection of an end in class 0.
 use Rattle.osi_blameless.proofs.Vocabulary.{◌≡◌, ◌∙◌, refl, sym, ap, subst, ℕ, ◌<◌, Bool, true, false, List, [], ◌∷◌, ◌++◌, Some, None}
 use Rattle.osi_blameless.proofs.Vocabulary.{arith, AllByRecursion, Connect, Value, confirm, Zero, Local, acceptance, Right, State}
-use Rattle.osi_blameless.proofs.Vocabulary.{Selecting, IsClear, IsFirm, Deeds, then_did, units_in, all_units, Turn}
-use Rattle.osi_blameless.proofs.Vocabulary.{amid, stage_at, all_units_more, Sessions, Joint, TakesTurn, parts_of, going_on}
+use Rattle.osi_blameless.proofs.Vocabulary.{Selecting, IsClear, IsFirm, Deeds, then_did, units_in, all_units, Turn, amid, stage_at}
+use Rattle.osi_blameless.proofs.Vocabulary.{all_units_more, Sessions, Joint, TakesTurn, parts_of, going_on, inl}
 use Rattle.osi_carrier.specs.State.{State as Carrier}
 use Rattle.osi_blameless.proofs.keeping.steps_are_events.{whole_of, IsFollowed}
 use Rattle.osi_blameless.proofs.small_facts_that_many_lemmas_use.{none_some}
@@ -26,7 +26,6 @@ use Rattle.osi_blameless.proofs.coming.what_is_in_flight_to_an_end.{parts_taken}
 use Rattle.osi_blameless.proofs.standing.what_stands_of_a_connection.{Known, waiting_for}
 use Rattle.osi_blameless.proofs.in_class_0.what_the_stage_of_a_whole_end_says.{IsDt0}
 use Rattle.osi_blameless.proofs.steps.what_the_turns_among_steps_do.{TurnDoes}
-use Rattle.osi_blameless.proofs.Vocabulary.{inl}
 
 -- ---- connections without a reference of the end
 
@@ -122,7 +121,8 @@ module _ (local : Local) (turn : Turn) (old new : Joint) (t : TakesTurn turn old
 
     less : h.own.ahead.bound < x.source
     less =
-        let above = waits_above local new ahead.ahead starts.n x.source (subst (HasCc starts.n x.source) (sym starts.is) (inl (refl, refl))) in
+        let above = waits_above local new ahead.ahead starts.n x.source
+        (subst (HasCc starts.n x.source) (sym starts.is) (inl (refl, refl))) in
         let rises = ahead.rises in omega (arith, above, rises)
 
     dts : AllByRecursion IsDt0 starts.rest

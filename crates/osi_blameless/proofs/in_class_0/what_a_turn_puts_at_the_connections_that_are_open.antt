@@ -85,7 +85,8 @@ module _ (calls : Bool) (turn : Turn) (old new : Joint) (t : TakesTurn turn old 
 
   put_open : (front rest : List Marked) (m : Marked) → does.on.put ≡ front ++ m ∷ rest → 0 < m.0 → WasOpenThen m.0
   put_open front rest m is some =
-      by (put_so calls m.0 (stage_at m.0 old.end.end.carrier) (stage_at m.0 new.end.end.carrier) does.on.took does.on.put (does.life m.0 some))
+      by (put_so calls m.0 (stage_at m.0 old.end.end.carrier) (stage_at m.0 new.end.end.carrier) does.on.took does.on.put
+      (does.life m.0 some))
     where
       by : AreApart m.0 does.on.put ⊎ WasOpenThen m.0 → WasOpenThen m.0
       by (inl apart) = marked_apart front rest m is apart

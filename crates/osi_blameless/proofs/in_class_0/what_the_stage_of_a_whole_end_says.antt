@@ -6,9 +6,9 @@ use Rattle.osi_blameless.proofs.Vocabulary.{eqb-true, AllByRecursion, confirm, C
 use Rattle.osi_blameless.proofs.Vocabulary.{has_given, Traffic as State, takes, Connection, Offer, early, past, stage_at, stage_is, IsOver}
 use Rattle.osi_blameless.proofs.Vocabulary.{one, answered, Calling, known, quiet, refused, begun_by, anyhow, zero_puts, PutsData}
 use Rattle.osi_blameless.proofs.Vocabulary.{calm_judge, done_takes, GoesOn, Waits, Whole, arith, ended, waits, Stage as CalledStage}
-use Rattle.osi_blameless.proofs.Vocabulary.{Direction, Left, Carrier, calls_from, IsFirm, Joint, Holds, holds_first}
-use Rattle.osi_blameless.proofs.Vocabulary.{holds_next, IsInZero, lines, selected, selecting, stage_there, ◌≤◌, ◌<◌, is_some}
-use Rattle.osi_blameless.proofs.Vocabulary.{units_in, Steps, passes_own, Disconnects}
+use Rattle.osi_blameless.proofs.Vocabulary.{Direction, Left, Carrier, calls_from, IsFirm, Joint, Holds, holds_first, holds_next, IsInZero}
+use Rattle.osi_blameless.proofs.Vocabulary.{lines, selected, selecting, stage_there, ◌≤◌, ◌<◌, is_some, units_in, Steps, passes_own}
+use Rattle.osi_blameless.proofs.Vocabulary.{Disconnects, Happens}
 use Rattle.osi_rules.specs.declared.directions.Direction.TheVariants.{Right}
 use Rattle.osi_rules.specs.declared.directions.Direction.TheVariants as way
 use Rattle.osi_side.specs.declared.directions.Direction.TheVariants as side
@@ -17,12 +17,11 @@ use Rattle.osi_blameless.proofs.transport.requests.how_requests_go_on.{Stage, as
 use Rattle.osi_blameless.proofs.small_facts_that_many_lemmas_use.{early_lasts, given_so, none_some}
 use Rattle.osi_blameless.proofs.small_facts_that_many_lemmas_use as small
 use Rattle.osi_blameless.proofs.keeping.steps_are_events.{whole_of, IsFollowed}
-use Rattle.osi_blameless.proofs.putting.a_whole_end_runs_along.{called_joined}
+use Rattle.osi_blameless.proofs.putting.a_whole_end_runs_along.{joined_by_place}
 use Rattle.osi_blameless.proofs.putting.each_reference_of_an_end_is_new.{IsAhead, IsWithin}
 use Rattle.osi_blameless.proofs.keeping.a_carrier_does_events.{none_of}
 use Rattle.osi_blameless.proofs.in_class_0.units_of_class_0_come_after_its_cc.{HasCc}
-use Rattle.osi_blameless.proofs.what_each_thing_keeps_all_of_them_keep.{along_keeps}
-use Rattle.osi_blameless.proofs.Vocabulary.{Happens}
+use Rattle.osi_blameless.proofs.transport.what_each_thing_keeps_all_of_them_keep.{along_keeps}
 
 -- ---- small facts
 
@@ -153,13 +152,14 @@ StageOf side.Right local w = CalledStage local w
 
 pub runs_staged : (local : Local) (j : Joint) (f : IsFollowed side.Left (wholes.begin true local) j) → Holds local (whole_of f)
 runs_staged local j f =
-    along_keeps (Happens way.Left) (Holds local) (holds_next local) f.events (wholes.begin true local) (whole_of f) f.along (holds_first local)
+    along_keeps (Happens way.Left) (Holds local) (holds_next local) f.events (wholes.begin true local) (whole_of f) f.along
+    (holds_first local)
 
 -- as long as all is judged
 pub stage_of : (d : Direction) (local : Local) (j : Joint) (f : IsFollowed d (wholes.begin (calls_from d) local) j) →
     IsFirm j.judge.traffic.course → StageOf d local (whole_of f)
 stage_of side.Left local j f firm = (runs_staged local j f).stage firm.left
-stage_of side.Right local j f firm = (called_joined local j f).stage (grind arith)
+stage_of side.Right local j f firm = (joined_by_place local j f).stage (grind arith)
 
 -- it has put DTs alone in class 0
 pub zero_put : (d : Direction) (local : Local) (w : Whole) → w.judge.course.class ≡ Some Zero → StageOf d local w →

@@ -15,7 +15,7 @@ use Rattle.osi_blameless.proofs.putting.a_turn_does_what_its_deeds_say.{turn_use
 use Rattle.osi_blameless.proofs.standing.a_turn_leaves_all_standing.{IsOfOne, Turns, of_done, of_live}
 use Rattle.osi_blameless.proofs.standing.all_connections_stand.{one_at}
 use Rattle.osi_blameless.proofs.in_class_2.an_end_is_ready_for_each_cc_that_passes.{early_above, turn_homed}
-use Rattle.osi_blameless.proofs.putting.a_whole_end_runs_along.{whole_followed, whole_joined}
+use Rattle.osi_blameless.proofs.putting.a_whole_end_runs_along.{whole_followed, joined_by_line}
 use Rattle.osi_blameless.proofs.in_class_2.an_end_of_class_2_goes_on.{OwnInTwo}
 use Rattle.osi_blameless.proofs.in_class_2.an_end_stands_as_units_pass.{MayGetTwo, StandsInTwo, known_at, used_apart}
 use Rattle.osi_blameless.proofs.coming.an_end_takes_what_is_left_for_it.{IsClean, dr_stays, either_takes, was_live}
@@ -75,7 +75,8 @@ module _ (d : Direction) (local : Local) (two : MayGetTwo d local) (deeds : ℕ 
             (λ may. ready_closed i c j r there here judged closing named up may) live,
       )) h.shut
 
-  turns_with : OwnInTwo d local (λ r. then_did (deeds r) (does.on.more r)) new → StandsInTwo d local (λ r. then_did (deeds r) (does.on.more r)) new
+  turns_with : OwnInTwo d local (λ r. then_did (deeds r) (does.on.more r)) new → StandsInTwo d local
+      (λ r. then_did (deeds r) (does.on.more r)) new
   turns_with own = record {
     own = own;
     standing = step_turns d deeds (known_at old) turn does.on.more (known_at new) old new t some turns h.standing;
@@ -101,7 +102,8 @@ module _ (local : Local) (two : local.class2 ≡ true) where
       let low : r ≤ h.ahead.bound = (h.ahead.below.live p k r here (ap (λ (m : ℕ). Some m) (one.calling ∙ same))).1 in
       let up = h.ahead.above.given in
       subst (AwaitsCc r) (f.coming lasts)
-      (awaits_cc local (whole_of f) r (whole_joined local two j f) clear tracked (given_so r f.end some (omega (arith, low, up))) (alike ∙ may)
+      (awaits_cc local (whole_of f) r (joined_by_line local two j f) clear tracked (given_so r f.end some (omega (arith, low, up)))
+      (alike ∙ may)
       whole_lasts)
 
   module _ (turn : Turn) (old new : Joint) (t : TakesTurn turn old new) (deeds : ℕ → Deeds)

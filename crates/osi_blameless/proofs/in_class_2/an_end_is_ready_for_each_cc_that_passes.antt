@@ -6,14 +6,13 @@ use Rattle.osi_blameless.proofs.Vocabulary.{◌≡◌, ◌∙◌, ◌⊎◌, inl
 use Rattle.osi_blameless.proofs.Vocabulary.{◌++◌, Some, None, Option, IsSome, arith, if◌then◌else◌, is_some, slice_get, leb-false, leb-true}
 use Rattle.osi_blameless.proofs.Vocabulary.{AllByRecursion, Value, acknowledge, confirm, data0, data2, disconnect, disconnected, error}
 use Rattle.osi_blameless.proofs.Vocabulary.{request, Class, Two, Zero, Local, Standing, link_of, value_at, EndReason, Right, Connection}
-use Rattle.osi_blameless.proofs.Vocabulary.{is_refused, has_given, Whole, picked_join, picked_rest, AreApart, Deeds, then_did}
-use Rattle.osi_blameless.proofs.Vocabulary.{units_in, units_taken, Marked, all_units, units_at, Turn, over_acts, Life, WhenPast}
-use Rattle.osi_blameless.proofs.Vocabulary.{amid, early, past, stage_at, stage_by, stage_is, stage_over, all_units_more, taken_more}
-use Rattle.osi_blameless.proofs.Vocabulary.{Sessions, Course, Joint, Steps, TakesTurn, passes_own, parts_of, HaveSamePlaces}
-use Rattle.osi_blameless.proofs.Vocabulary.{differ, IsOngoing, Rise}
+use Rattle.osi_blameless.proofs.Vocabulary.{is_refused, has_given, Whole, picked_join, picked_rest, AreApart, Deeds, then_did, units_in}
+use Rattle.osi_blameless.proofs.Vocabulary.{units_taken, Marked, all_units, units_at, Turn, over_acts, Life, WhenPast, amid, early, past}
+use Rattle.osi_blameless.proofs.Vocabulary.{stage_at, stage_by, stage_is, stage_over, all_units_more, taken_more, Sessions, Course, Joint}
+use Rattle.osi_blameless.proofs.Vocabulary.{Steps, TakesTurn, passes_own, parts_of, HaveSamePlaces, differ, IsOngoing, Rise}
 use Rattle.osi_carrier.specs.State.{Connection as Live, State as Carrier, asked}
 use Rattle.osi_blameless.specs.transport.Wholes as wholes
-use Rattle.osi_blameless.proofs.ends.courses.how_long_a_connection_is_open.{Stage}
+use Rattle.osi_blameless.proofs.ends.links.how_long_a_connection_is_open.{Stage}
 use Rattle.osi_blameless.proofs.keeping.a_carrier_does_events.{none_of}
 use Rattle.osi_blameless.proofs.small_facts_that_many_lemmas_use.{amid_not, early_lasts, given_so, past_not}
 use Rattle.osi_blameless.proofs.keeping.steps_are_events.{whole_of, IsFollowed}
@@ -27,7 +26,7 @@ use Rattle.osi_blameless.proofs.putting.each_cc_of_a_called_end_opens_another_co
 use Rattle.osi_blameless.proofs.putting.each_reference_of_an_end_is_new.{GoesOn, IsAhead, above_unused}
 use Rattle.osi_blameless.proofs.putting.each_reference_of_an_end_is_new.{passes_above}
 use Rattle.osi_blameless.proofs.putting.each_reference_of_an_end_is_new.{passes_own_ahead, turns_ahead, IsUpTo}
-use Rattle.osi_blameless.proofs.putting.each_unit_of_a_called_end_has_a_home.{OpensByNoCc, called_marked}
+use Rattle.osi_blameless.proofs.putting.by_its_places_each_unit_of_an_end_has_a_home.{OpensByNoCc, units_marked}
 use Rattle.osi_blameless.proofs.putting.each_unit_of_a_turn_has_one_connection.{HasHome, IsMarked}
 use Rattle.osi_blameless.proofs.coming.nothing_comes_before_a_cc_passes.{IsBelow, below_higher, none_waits}
 use Rattle.osi_blameless.proofs.putting.nothing_is_done_before_a_cr_passes.{known_from, may_take}
@@ -303,7 +302,7 @@ module _ (local : Local) where
       where
         by : (o : Option EndReason) → carrier.ended ≡ o → AllByRecursion (IsMarked Right old.judge.traffic old.judge.sessions) does.on.put
         by None lasts =
-            called_marked local deeds turn old new t does.on f before places news
+            units_marked local deeds turn old new t does.on f before places news
             (turn_puts Right first turn old new t (all_units does.on.put) does.units g.ahead.followed IsNotZero
             (called_put_two local (whole_of g.ahead.followed) after.called)) no_cc
         by (Some reason) gone =

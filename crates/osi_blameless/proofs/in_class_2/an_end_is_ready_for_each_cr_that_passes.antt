@@ -25,7 +25,8 @@ module _ (local : Local) (two : local.class2 ≡ true) where
       old.judge.sessions
   is_ready deeds at (request x) old new (read, octets, (put, begun, is)) clear h =
       let f = h.ahead.followed in
-      let k = passes_given Left h.ahead.bound x.source (request x) new.put (whole_of f) (record (whole_of f) { put = new.put }) refl put refl refl
+      let k = passes_given Left h.ahead.bound x.source (request x) new.put (whole_of f)
+      (record (whole_of f) { put = new.put }) refl put refl refl
       h.ahead.above in
       cr_ready h.ahead.bound deeds old.end.end.carrier x (units_in old.coming) new.put old.judge.traffic old.judge.sessions k.new_is
       h.holds.undone

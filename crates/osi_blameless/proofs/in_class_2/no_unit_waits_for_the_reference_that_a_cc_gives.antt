@@ -6,7 +6,7 @@ use Rattle.osi_blameless.proofs.Vocabulary.{disconnect, disconnected, error, Con
 use Rattle.osi_blameless.proofs.Vocabulary.{Whole, next_joined, IsOwned, IsOngoing, Deeds, Course, unit_passes, units_pass, HaveSamePlaces}
 use Rattle.osi_rules.specs.declared.directions.Direction.TheVariants as way
 use Rattle.osi_blameless.specs.transport.Wholes as wholes
-use Rattle.osi_blameless.proofs.transport.calling.a_calling_end_is_fair_in_class_2.{Joined as Follows}
+use Rattle.osi_blameless.proofs.transport.by_line.an_end_is_fair_in_class_2.{Joined as Follows}
 use Rattle.osi_blameless.proofs.in_class_2.an_end_hears_what_breaks_no_rule.{AreFine, AreHeard, IsHeardOn, IsNotAwaited, one_heard}
 use Rattle.osi_blameless.proofs.putting.each_reference_of_an_end_is_new.{IsUpTo}
 use Rattle.osi_blameless.proofs.putting.nothing_is_done_before_a_cr_passes.{IsNoZero}

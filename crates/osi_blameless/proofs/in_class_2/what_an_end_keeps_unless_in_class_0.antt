@@ -12,7 +12,7 @@ use Rattle.osi_judge.specs.Courses.{Course as Passed}
 use Rattle.osi_blameless.proofs.in_class_2.a_turn_of_an_end_of_class_2.{answers_turn, asks_turn}
 use Rattle.osi_blameless.proofs.standing.what_stands_of_a_connection.{Known}
 use Rattle.osi_blameless.proofs.putting.a_called_end_answers_with_class_2_or_selects_class_0.{answers_or_selects}
-use Rattle.osi_blameless.proofs.putting.a_whole_end_runs_along.{called_joined}
+use Rattle.osi_blameless.proofs.putting.a_whole_end_runs_along.{joined_by_place}
 use Rattle.osi_blameless.proofs.standing.all_connections_stand.{AllStand, there_too}
 use Rattle.osi_blameless.proofs.in_class_2.an_end_hears_what_breaks_no_rule.{AreFine}
 use Rattle.osi_blameless.proofs.in_class_2.an_end_stands_as_units_pass.{MayGetTwo, StandsInTwo, hears_front, known_at, stands_first}
@@ -21,7 +21,7 @@ use Rattle.osi_blameless.proofs.in_class_2.an_end_stands_as_units_pass.{stands_o
 use Rattle.osi_blameless.proofs.in_class_2.an_end_that_has_said_nothing_is_not_to_blame.{HasSaidNothing, KeepsSilent, mute_leads}
 use Rattle.osi_blameless.proofs.in_class_2.an_end_without_class_2_puts_no_dt.{puts_no_dt}
 use Rattle.osi_blameless.proofs.shown.connections_have_the_same_places.{Agree, unit_knows}
-use Rattle.osi_blameless.proofs.putting.each_unit_of_a_calling_end_has_a_home.{calling_marked}
+use Rattle.osi_blameless.proofs.putting.by_its_lines_each_unit_of_an_end_has_a_home.{units_marked}
 use Rattle.osi_blameless.proofs.in_class_2.no_connection_is_opened_before_a_class_is_selected.{AreUncalled, UncalledUntil, uncalled_claim}
 use Rattle.osi_blameless.proofs.standing.nobody_of_a_side_is_to_blame.{IsMute}
 use Rattle.osi_blameless.proofs.putting.nothing_is_done_before_a_cr_passes.{known_from, may_take}
@@ -107,7 +107,7 @@ module _ (local : Local) where
       by (inr z) =
           let f = h.followed in
           let w = (whole_of f) in
-          let j = called_joined local old f in
+          let j = joined_by_place local old f in
           let firm = firm_unless_two w.judge.course j.two (λ two. none_some w.judge.course.class Two z.class two) in
           let p = selecting_passes local w j.apart (j.judged firm) clear.sure.right v new.put begun put z in
           grind (arith, unit_knows)
@@ -141,7 +141,7 @@ turn_beside Left local turn old new t deeds does f g clear h =
     inl (record {
       two = h.two;
       stands = asks_turn local h.two turn old new t deeds does
-          (calling_marked local h.two deeds turn old new t does f g clear h.stands.standing.all.places)
+          (units_marked local h.two deeds turn old new t does f g clear h.stands.standing.all.places)
           (λ r some may. (h.besides clear).before r (some, may)) (closed_so h.besides) clear h.stands;
       besides = turns_quiet turn old new t deeds does h.besides;
     })
@@ -169,7 +169,7 @@ turn_beside Right local turn old new t deeds does f g clear h =
         ap (λ (c : Passed). c.traffic.course.class) (sym t.course) ∙ z.class in
         let firm : old.judge.traffic.course.loose ≡ false =
         ap (λ (c : Passed). c.traffic.course.loose) (sym t.course)
-        ∙ firm_unless_two new.judge.traffic.course (called_joined local new g).two
+        ∙ firm_unless_two new.judge.traffic.course (joined_by_place local new g).two
         (λ two. none_some new.judge.traffic.course.class Two z.class two) in
         inr (record {
           followed = g;

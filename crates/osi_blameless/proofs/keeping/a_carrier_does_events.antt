@@ -11,7 +11,7 @@ use Rattle.osi_rules.specs.declared.directions.Direction.{Direction}
 use Rattle.osi_blameless.specs.ends.Doing as doing
 use Rattle.osi_blameless.proofs.keeping.what_waits_changes_nothing.{IsApart, bare, call_apart, done_alike, put_alike, together_alike}
 use Rattle.osi_blameless.proofs.keeping.what_waits_changes_nothing.{unit_apart}
-use Rattle.osi_blameless.proofs.what_each_thing_keeps_all_of_them_keep.{along_join}
+use Rattle.osi_blameless.proofs.transport.what_each_thing_keeps_all_of_them_keep.{along_join}
 
 -- ---- a carrier that has ended does nothing
 

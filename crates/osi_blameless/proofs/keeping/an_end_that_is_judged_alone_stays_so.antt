@@ -8,7 +8,7 @@ use Rattle.osi_blameless.proofs.keeping.in_class_0_one_side_alone_is_judged.{IsA
 use Rattle.osi_blameless.proofs.keeping.steps_are_events.{whole_of, IsFollowed}
 use Rattle.osi_blameless.proofs.keeping.no_unit_of_a_whole_end_is_a_break.{is_right_in_class_0}
 use Rattle.osi_blameless.proofs.steps.what_passes_keeps_a_claim.{IsClaim, step_kept, units_kept}
-use Rattle.osi_blameless.proofs.what_each_thing_keeps_all_of_them_keep.{along_keeps}
+use Rattle.osi_blameless.proofs.transport.what_each_thing_keeps_all_of_them_keep.{along_keeps}
 
 -- ---- steps one after the other
 

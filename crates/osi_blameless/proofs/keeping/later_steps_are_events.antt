@@ -2,15 +2,14 @@
 -- For the law that the transport of an end is blamed nowhere.
 use Rattle.osi_blameless.proofs.Vocabulary.{[], ap, Bool, Err, false, is_some, List, Ok, refl, Result, true, ℕ, ◌++◌, ◌∙◌, ◌∷◌, ◌≡◌}
 use Rattle.osi_blameless.proofs.Vocabulary.{append-nil, AllByRecursion, Fits, IsOctets, units_by, units_fit, units_found, units_of, Value}
-use Rattle.osi_blameless.proofs.Vocabulary.{TpduFault, other, Direction, way_of, marks_of, unread, Cause, Whole, begins_other}
-use Rattle.osi_blameless.proofs.Vocabulary.{begins_own, Joint, passes_other, passes_own, Step, turns, arith, Course, LaterSteps, spoilt}
-use Rattle.osi_blameless.specs.Packets.{units_in}
+use Rattle.osi_blameless.proofs.Vocabulary.{TpduFault, other, Direction, way_of, marks_of, unread, Cause, Whole, begins_other, begins_own}
+use Rattle.osi_blameless.proofs.Vocabulary.{Joint, passes_other, passes_own, Step, turns, arith, Course, LaterSteps, spoilt, None, Traffic}
+use Rattle.osi_blameless.proofs.Vocabulary.{units_in}
 use Rattle.osi_blameless.specs.transport.Wholes as wholes
 use Rattle.osi_rules.specs.Sides as sides
 use Rattle.osi_rules.specs.Traffic as traffic
 use Rattle.osi_blameless.proofs.keeping.a_break_ends_no_judging_or_all.{refused_traffic, refuses, unread_if}
 use Rattle.osi_blameless.proofs.keeping.steps_are_events.{IsFollowed, passes_other_so, seen, step_followed, then_happens, turned, whole_of}
-use Rattle.osi_blameless.proofs.Vocabulary.{None, Traffic}
 use Rattle.osi_blameless.proofs.transport.small_facts_that_many_lemmas_use.{units_join}
 
 fits_by : (r : Result (List Value) TpduFault) (packet : List ℕ) → IsOctets packet → units_of packet ≡ r → AllByRecursion Fits (units_by r)
@@ -36,7 +35,8 @@ module _ (d : Direction) (first : Whole) where
     spoilt_by : (b : Bool) → is_some (marks_of (other d) j.judge).halted ≡ b → IsFollowed d first spoilt_now
     spoilt_by true halted =
         let same : unread (other d) at cause j.judge ≡ j.judge = ap (λ (b : Bool). unread_if b (other d) at cause j.judge) halted in
-        then_happens d first j spoilt_now f f.end f.come [] (ap (λ (c : Course). record (whole_of f) { judge = c.traffic }) same) still f.like
+        then_happens d first j spoilt_now f f.end f.come []
+        (ap (λ (c : Course). record (whole_of f) { judge = c.traffic }) same) still f.like
     spoilt_by false goes =
         let is : unread (other d) at cause j.judge ≡ refuses (other d) at cause j.judge =
         ap (λ (b : Bool). unread_if b (other d) at cause j.judge) goes in

@@ -3,13 +3,12 @@
 use Rattle.osi_blameless.proofs.Vocabulary.{◌≡◌, ◌∙◌, ℕ, false, List, [], ◌∷◌, None, Some, inl, inr, ◌⊎◌, arith, refl, sym, subst}
 use Rattle.osi_blameless.proofs.Vocabulary.{calls_from, Value, Local, Capture, other, Direction, Reach, Option, Class, class_for}
 use Rattle.osi_blameless.proofs.Vocabulary.{is_stopped, takes, IsOfTwo, firm_unless_two, still_two, Two, Zero, stops_last, Holding, IsFresh}
-use Rattle.osi_blameless.proofs.Vocabulary.{Cause, Course, marks_of, packet_begins, unit_passes, units_pass, unread, way_of}
-use Rattle.osi_blameless.proofs.Vocabulary.{comes_to, Joint, Step, Steps, begin, begins_other, begins_own, passes_other, passes_own, turns}
-use Rattle.osi_blameless.proofs.Vocabulary.{ComesBySteps, LaterAlong, LaterSteps, spoilt}
+use Rattle.osi_blameless.proofs.Vocabulary.{Cause, Course, marks_of, packet_begins, unit_passes, units_pass, unread, way_of, comes_to}
+use Rattle.osi_blameless.proofs.Vocabulary.{Joint, Step, Steps, begin, begins_other, begins_own, passes_other, passes_own, turns}
+use Rattle.osi_blameless.proofs.Vocabulary.{ComesBySteps, LaterAlong, LaterSteps, spoilt, units_in}
 use Rattle.osi_rules.specs.declared.findings.Reach.TheVariants as reach
 use Rattle.osi_rules.specs.Sides as sides
 use Rattle.osi_blameless.proofs.steps.all_is_judged_or_nothing.{IsJudged}
-use Rattle.osi_blameless.specs.Packets.{units_in}
 use Rattle.osi_blameless.specs.transport.Naming.{unit as unit_passing}
 use Rattle.osi_blameless.specs.transport.Wholes as wholes
 use Rattle.osi_judge.specs.Courses.{fresh}
@@ -27,7 +26,7 @@ use Rattle.osi_blameless.proofs.keeping.steps_are_events.{whole_of, IsFollowed, 
 use Rattle.osi_blameless.proofs.keeping.no_unit_of_a_whole_end_is_a_break.{IsNoBreak, is_fair}
 use Rattle.osi_blameless.proofs.standing.class_0_is_known_once_it_is_selected.{IsKnownOnce, joint_known_once, unit_known_once}
 use Rattle.osi_blameless.proofs.shown.connections_have_the_same_places.{unit_knows}
-use Rattle.osi_blameless.proofs.what_each_thing_keeps_all_of_them_keep.{along_keeps}
+use Rattle.osi_blameless.proofs.transport.what_each_thing_keeps_all_of_them_keep.{along_keeps}
 
 other_goes : (d : Direction) (c : Course) → IsGoing c → is_stopped (sides.other (way_of d)) c.traffic.course ≡ false
 other_goes d c j = grind arith

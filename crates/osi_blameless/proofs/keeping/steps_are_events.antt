@@ -1,22 +1,19 @@
 -- Steps of an end and of a judge are events of a whole end.
 -- For the first break of transport.
 use Rattle.osi_blameless.proofs.Vocabulary.{[], ap, append_assoc, Bool, false, is_some, List, None, Option, refl, Some, subst, sym, true, ℕ}
-use Rattle.osi_blameless.proofs.Vocabulary.{◌++◌, ◌∙◌, ◌∷◌, ◌≡◌, append-nil, AllByRecursion, units_fit, units_found, units_of, Value}
-use Rattle.osi_blameless.proofs.Vocabulary.{Fits, Local, Carrier, EndReason, End, Holding, Traffic, takes, Told, other, Direction}
-use Rattle.osi_blameless.proofs.Vocabulary.{IsFresh, Turn, noted_by, unit_passes, units_pass, way_of, Cause, units_by, Event, HappenAlong}
-use Rattle.osi_blameless.proofs.Vocabulary.{Whole, begins_other, begins_own, Joint, passes_other, passes_own, Step, Steps, TakesTurn, turns}
-use Rattle.osi_blameless.proofs.Vocabulary.{arith, Course, packet_begins, begin}
+use Rattle.osi_blameless.proofs.Vocabulary.{◌++◌, ◌∙◌, ◌∷◌, ◌≡◌, append-nil, AllByRecursion, units_fit, units_found, units_of, Value, Fits}
+use Rattle.osi_blameless.proofs.Vocabulary.{Local, Carrier, EndReason, End, Holding, Traffic, takes, Told, other, Direction, IsFresh, Turn}
+use Rattle.osi_blameless.proofs.Vocabulary.{noted_by, unit_passes, units_pass, way_of, Cause, units_by, Event, HappenAlong, Whole}
+use Rattle.osi_blameless.proofs.Vocabulary.{begins_other, begins_own, Joint, passes_other, passes_own, Step, Steps, TakesTurn, turns, arith}
+use Rattle.osi_blameless.proofs.Vocabulary.{Course, packet_begins, begin, Happens, Way, units_in, PassesOther}
 use Rattle.osi_rules.specs.Sides as sides
 use Rattle.osi_rules.specs.Traffic as traffic
-use Rattle.osi_blameless.specs.Packets.{units_in}
 use Rattle.osi_blameless.specs.transport.Wholes as wholes
 use Rattle.osi_blameless.proofs.small_facts_that_many_lemmas_use.{over_none}
 use Rattle.osi_blameless.proofs.keeping.a_carrier_does_events.{IsLike, IsNext, comes, none_of}
 use Rattle.osi_blameless.proofs.steps.all_is_judged_or_nothing.{changes_traffic}
 use Rattle.osi_blameless.proofs.keeping.what_waits_changes_nothing.{bare}
-use Rattle.osi_blameless.proofs.what_each_thing_keeps_all_of_them_keep.{along_join}
-use Rattle.osi_blameless.proofs.Vocabulary.{Happens, Way}
-use Rattle.osi_blameless.specs.EndAndJudge.{PassesOther}
+use Rattle.osi_blameless.proofs.transport.what_each_thing_keeps_all_of_them_keep.{along_join}
 use Rattle.osi_blameless.proofs.transport.small_facts_that_many_lemmas_use.{units_join}
 
 -- ---- what the rules know of a unit, and of the units of a packet
@@ -87,7 +84,14 @@ module _ (d : Direction) (first : Whole) where
         let h = comes (way_of d) old.end.end.carrier t.there t.took t.units t.makes (whole_of f) later f.like now in
         then_happens old new f h.end h.coming h.events
         (subst (HappenAlong (way_of d) (whole_of f) h.events)
-        (λ i. record { end = h.end; put = sym t.put i; begun = sym t.begun i; judge = (sym t.course i).traffic; coming = h.coming }) h.along)
+        (λ i. record {
+          end = h.end;
+          put = sym t.put i;
+          begun = sym t.begun i;
+          judge = (sym t.course i).traffic;
+          coming =
+              h.coming;
+        }) h.along)
         (λ lasts.
         h.still (none_of h.end.ended (sym h.like.over ∙ ap is_some (sym (ap (λ (c : Carrier). c.ended) t.same) ∙ lasts)))
         ∙ then_is lasts)

@@ -1,8 +1,7 @@
 -- As long as both sides are judged and class 0 is not selected at the judge, each CC that a called end has put and that has not passed
 -- selects class 2; or the end has selected class 0, and the CC that says so is the first unit that waits.
 -- For all connections of a called end and a judge.
-use Rattle.osi_blameless.proofs.Vocabulary.{false, inl, inr, ◌⊎◌, AllByRecursion, Local}
-use Rattle.osi_blameless.proofs.Vocabulary.{Selecting, Joint, HaveSamePlaces, IsOngoing}
+use Rattle.osi_blameless.proofs.Vocabulary.{false, inl, inr, ◌⊎◌, AllByRecursion, Local, Selecting, Joint, HaveSamePlaces, IsOngoing}
 use Rattle.osi_side.specs.declared.directions.Direction.TheVariants as side
 use Rattle.osi_blameless.specs.transport.Wholes.{begin}
 use Rattle.osi_blameless.proofs.keeping.steps_are_events.{whole_of, IsFollowed}

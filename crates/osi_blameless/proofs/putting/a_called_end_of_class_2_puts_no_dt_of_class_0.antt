@@ -13,8 +13,8 @@ use Rattle.osi_blameless.specs.transport.Lines.{answers, begins_other, begins_ow
 use Rattle.osi_blameless.proofs.transport.connections.units_by_their_place.{units_at}
 use Rattle.osi_blameless.proofs.small_facts_that_many_lemmas_use.{all_join as all_of_both}
 use Rattle.osi_blameless.proofs.putting.what_a_turn_puts_goes_to_its_peer.{IsNotZero, one_of}
-use Rattle.osi_blameless.proofs.transport.called.each_connection_of_a_called_end.{past}
-use Rattle.osi_blameless.proofs.what_each_thing_keeps_all_of_them_keep.{along_keeps}
+use Rattle.osi_blameless.proofs.transport.by_place.each_connection_has_its_place.{past}
+use Rattle.osi_blameless.proofs.transport.what_each_thing_keeps_all_of_them_keep.{along_keeps}
 
 -- ---- a line of class 2
 

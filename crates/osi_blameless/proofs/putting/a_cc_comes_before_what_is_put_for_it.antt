@@ -9,7 +9,7 @@ use Rattle.osi_blameless.proofs.Vocabulary.{uses_source, IsOwned, asking, is_tra
 use Rattle.osi_blameless.proofs.Vocabulary.{HaveSamePlaces, named_by, differ}
 use Rattle.osi_rules.specs.declared.directions.Direction.TheVariants as way
 use Rattle.osi_rules.specs.declared.findings.Rule.TheVariants as rule
-use Rattle.osi_blameless.proofs.transport.connections.each_connection_has_its_line.{of}
+use Rattle.osi_blameless.proofs.transport.by_line.each_connection_has_its_line.{of}
 use Rattle.osi_blameless.proofs.shown.a_right_dt_has_one_place.{AreUsedApart, still_used}
 use Rattle.osi_blameless.proofs.shown.connections_have_the_same_places.{at_same}
 use Rattle.osi_blameless.proofs.standing.what_stands_of_a_connection.{is_for, waiting_for}

@@ -6,8 +6,8 @@ use Rattle.osi_blameless.proofs.Vocabulary.{sym, true, false, ◌≡◌, refl, i
 use Rattle.osi_blameless.proofs.Vocabulary.{selected, selecting, Selecting, Called, IsCalled, NamesApart, Stage, AreNamedApart}
 use Rattle.osi_rules.specs.declared.directions.Direction.TheVariants as way
 use Rattle.osi_blameless.specs.transport.Wholes as wholes
-use Rattle.osi_blameless.proofs.transport.called.a_called_end_is_fair as fair
-use Rattle.osi_blameless.proofs.transport.calling.a_calling_end_is_fair_in_class_2.{all_joined}
+use Rattle.osi_blameless.proofs.transport.by_place.an_end_is_fair as fair
+use Rattle.osi_blameless.proofs.transport.by_line.an_end_is_fair_in_class_2.{all_joined}
 use Rattle.osi_blameless.proofs.keeping.steps_are_events.{whole_of, IsFollowed}
 use Rattle.osi_blameless.proofs.shown.a_right_dt_has_one_place.{AreUsedApart, named_apart}
 use Rattle.osi_blameless.proofs.putting.ccs_among_units.{AnswersTwo, first_not_zero}
@@ -21,16 +21,16 @@ module _ (local : Local) (two : local.class2 ≡ true) where
   first = wholes.begin true local
 
   module _ (j : Joint) (f : IsFollowed Left first j) where
-    pub whole_joined : Follows local (whole_of f)
-    whole_joined = all_joined local f.events first (whole_of f) f.along (first_joined local two)
+    pub joined_by_line : Follows local (whole_of f)
+    joined_by_line = all_joined local f.events first (whole_of f) f.along (first_joined local two)
 
     module _ (clear : IsOngoing j.judge.traffic.course) where
       pub whole_followed : Followed local (whole_of f)
-      whole_followed = whole_joined.followed clear
+      whole_followed = joined_by_line.followed clear
 
       pub peers_apart : AreUsedApart Left j.judge.traffic.connections
       peers_apart =
-          named_apart Left j.judge.traffic.connections whole_joined.kept.sane.apart (whole_joined.peers clear)
+          named_apart Left j.judge.traffic.connections joined_by_line.kept.sane.apart (joined_by_line.peers clear)
 
 -- ---- a called end
 
@@ -42,17 +42,17 @@ pub record HasLines (local : Local) (w : Whole) : Type 0 where
   pub named : AreNamedApart way.Left w.judge.connections
 
 module _ (local : Local) (j : Joint) (f : IsFollowed Right (wholes.begin false local) j) where
-  pub called_joined : fair.Joined local (whole_of f)
-  called_joined = fair.all_joined local f.events (wholes.begin false local) (whole_of f) f.along (fair.first_joined local)
+  pub joined_by_place : fair.Joined local (whole_of f)
+  joined_by_place = fair.all_joined local f.events (wholes.begin false local) (whole_of f) f.along (fair.first_joined local)
 
   module _ (clear : IsOngoing j.judge.traffic.course) where
     by_stage : Stage local (whole_of f) → HasLines local (whole_of f) ⊎ Selecting local (whole_of f)
-    by_stage (lines h c named) = inl (record { called = h; end = c; apart = called_joined.apart; named = named })
+    by_stage (lines h c named) = inl (record { called = h; end = c; apart = joined_by_place.apart; named = named })
     by_stage (selecting z) = inr z
     by_stage (selected z) = absurd (clear.two z.judge.class)
 
     pub lines_or_selects : HasLines local (whole_of f) ⊎ Selecting local (whole_of f)
-    lines_or_selects = by_stage (called_joined.stage clear.sure)
+    lines_or_selects = by_stage (joined_by_place.stage clear.sure)
 
     module _ (two : AllByRecursion AnswersTwo j.put) where
       lines_by : HasLines local (whole_of f) ⊎ Selecting local (whole_of f) → HasLines local (whole_of f)

@@ -10,20 +10,21 @@ use Rattle.osi_blameless.proofs.Vocabulary.{first_at, is_at, Placed, values, kee
 use Rattle.osi_blameless.proofs.Vocabulary.{opened_line, units_put, Whole, HaveSamePlaces, arith, each_sound, differ}
 use Rattle.osi_side.specs.declared.directions.Direction.TheVariants as side
 use Rattle.osi_rules.specs.declared.directions.Direction.TheVariants.{Left, Right}
-use Rattle.osi_blameless.proofs.transport.called.each_connection_of_a_called_end.{Running, past}
+use Rattle.osi_blameless.proofs.transport.by_place.each_connection_has_its_place.{Running, past}
 use Rattle.osi_blameless.proofs.transport.connections.units_by_their_place.{units_at}
 use Rattle.osi_blameless.proofs.small_facts_that_many_lemmas_use.{all_join as all_of_both}
 use Rattle.osi_blameless.proofs.putting.a_called_end_of_class_2_puts_no_dt_of_class_0.{StandsAt, called_put_two, place_parts, put_so}
 use Rattle.osi_blameless.proofs.shown.a_right_dt_has_one_place.{still_used}
 use Rattle.osi_blameless.proofs.putting.a_whole_end_runs_along.{HasLines}
 use Rattle.osi_blameless.proofs.shown.connections_have_the_same_places.{at_same}
-use Rattle.osi_blameless.proofs.putting.each_unit_of_a_called_end_has_a_home.{named_open, not_empty, only_one, row_peer, same_number}
-use Rattle.osi_blameless.proofs.putting.each_unit_of_a_called_end_has_a_home.{used_asked}
+use Rattle.osi_blameless.proofs.putting.by_its_places_each_unit_of_an_end_has_a_home.{named_open, not_empty, only_one, row_peer}
+use Rattle.osi_blameless.proofs.putting.by_its_places_each_unit_of_an_end_has_a_home.{same_number}
+use Rattle.osi_blameless.proofs.putting.by_its_places_each_unit_of_an_end_has_a_home.{used_asked}
 use Rattle.osi_blameless.proofs.putting.each_unit_of_a_turn_has_one_connection.{HasHome}
 use Rattle.osi_blameless.proofs.putting.ccs_among_units.{AnswersTwo, AreOrdered, HasCc, IsCc, has_back}
 use Rattle.osi_blameless.proofs.putting.what_a_turn_puts_goes_to_its_peer.{IsNotZero, all_so, one_of}
 use Rattle.osi_blameless.proofs.standing.what_stands_of_a_connection.{is_for}
-use Rattle.osi_blameless.proofs.what_each_thing_keeps_all_of_them_keep.{along_keeps}
+use Rattle.osi_blameless.proofs.transport.what_each_thing_keeps_all_of_them_keep.{along_keeps}
 
 -- ---- what a line puts
 
@@ -119,7 +120,8 @@ module _ (local : Local) (w : Whole) (t : Sessions) (lined : HasLines local w) (
       acts_to Right h.r h.x.source h.acts (opened_line (opened_link Two h.size local h.x.credit) c) (line_of h.link h.more h.come c)
       (h.along c) tt
 
-  runs_to : (p : ℕ) (c : Connection) (h : Running f.shut w.end w.coming (units_at p f.tagged) (w.begun && first_at p f.tagged) (f.refs p) c) →
+  runs_to : (p : ℕ) (c : Connection)
+      (h : Running f.shut w.end w.coming (units_at p f.tagged) (w.begun && first_at p f.tagged) (f.refs p) c) →
       AllByRecursion (IsTo h.peer) (units_at p f.tagged)
   runs_to p c h =
       subst (AllByRecursion (IsTo h.peer)) h.put

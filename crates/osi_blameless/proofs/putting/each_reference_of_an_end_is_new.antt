@@ -1,12 +1,11 @@
 -- At a judge each CR of a calling end that passes gives a new reference, and so does each CC of a called end; and this stays so with each
 -- step. For all connections of an end and a judge.
-use Rattle.osi_blameless.proofs.Vocabulary.{◌≡◌, ◌∙◌, ◌⊎◌, inl, inr, refl, sym, ap, subst, ℕ, ◌<◌, ◌≤◌, Bool, false, List, [], ◌∷◌}
-use Rattle.osi_blameless.proofs.Vocabulary.{Holding, IsFresh, Local, begin, calls_from, length, Option, Some, None, arith, slice_get}
-use Rattle.osi_blameless.proofs.Vocabulary.{AllByRecursion, Connect, Value, confirm, request, Direction, Left, Right, other, State}
-use Rattle.osi_blameless.proofs.Vocabulary.{meaning_if, meant, takes, Whole, after_add, after_set, Turn}
-use Rattle.osi_blameless.proofs.Vocabulary.{Room, Joined, Sessions, all_begin, asked, reference_of, taken, Course, unit_passes, units_pass}
-use Rattle.osi_blameless.proofs.Vocabulary.{way_of, Joint, Step, Steps, TakesTurn, begins_other, begins_own, passes_other, passes_own}
-use Rattle.osi_blameless.proofs.Vocabulary.{turns, HaveSamePlaces}
+use Rattle.osi_blameless.proofs.Vocabulary.{◌≡◌, ◌∙◌, ◌⊎◌, inl, inr, refl, sym, ap, subst, ℕ, ◌<◌, ◌≤◌, Bool, false, List, [], ◌∷◌, Holding}
+use Rattle.osi_blameless.proofs.Vocabulary.{IsFresh, Local, begin, calls_from, length, Option, Some, None, arith, slice_get, AllByRecursion}
+use Rattle.osi_blameless.proofs.Vocabulary.{Connect, Value, confirm, request, Direction, Left, Right, other, State, meaning_if, meant}
+use Rattle.osi_blameless.proofs.Vocabulary.{takes, Whole, after_add, after_set, Turn, Room, Joined, Sessions, all_begin, asked}
+use Rattle.osi_blameless.proofs.Vocabulary.{reference_of, taken, Course, unit_passes, units_pass, way_of, Joint, Step, Steps, TakesTurn}
+use Rattle.osi_blameless.proofs.Vocabulary.{begins_other, begins_own, passes_other, passes_own, turns, HaveSamePlaces}
 use Rattle.osi_blameless.specs.transport.Wholes as wholes
 use Rattle.osi_judge.specs.Connections.{packet_begins}
 use Rattle.osi_judge.specs.Connections as joined

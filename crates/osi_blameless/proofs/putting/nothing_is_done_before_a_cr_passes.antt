@@ -9,7 +9,7 @@ use Rattle.osi_blameless.proofs.Vocabulary.{Deeds, then_did, units_in, units_tak
 use Rattle.osi_blameless.proofs.Vocabulary.{opens_by, past, stage_at, stage_over, stays, asked_so, taken_more, has_given, Sessions, Joint}
 use Rattle.osi_blameless.proofs.Vocabulary.{TakesTurn, HaveSamePlaces}
 use Rattle.osi_carrier.specs.State.{State as Carrier}
-use Rattle.osi_blameless.proofs.ends.courses.how_long_a_connection_is_open.{Stage}
+use Rattle.osi_blameless.proofs.ends.links.how_long_a_connection_is_open.{Stage}
 use Rattle.osi_blameless.proofs.keeping.a_carrier_does_events.{none_of}
 use Rattle.osi_blameless.proofs.keeping.steps_are_events.{whole_of, IsFollowed}
 use Rattle.osi_blameless.proofs.putting.a_turn_does_what_its_deeds_say.{turn_uses}
@@ -82,7 +82,8 @@ pub turn_undone : (b : ℕ) (turn : Turn) (old new : Joint) (t : TakesTurn turn 
     AreUndone b (λ r. then_did (deeds r) (does.on.more r)) new.end.end.carrier
 turn_undone b turn old new t deeds does none u r less =
     let some : 0 < r = omega (arith, less) in
-    life_undone r (deeds r) (does.on.more r) does.on.took does.on.put (does.on.own r some) (does.on.taken r some) (stage_at r old.end.end.carrier)
+    life_undone r (deeds r) (does.on.more r) does.on.took does.on.put (does.on.own r some) (does.on.taken r some)
+    (stage_at r old.end.end.carrier)
     (stage_at r new.end.end.carrier) (does.life r some) (λ is. by old.end.end.carrier.ended refl is) (u r less)
   where
     by : (o : Option EndReason) → old.end.end.carrier.ended ≡ o → stage_at r old.end.end.carrier ≡ early →

@@ -12,7 +12,7 @@ use Rattle.osi_blameless.proofs.Vocabulary.{ended_gives, not_less, sent_gives, R
 use Rattle.osi_blameless.proofs.Vocabulary.{Direction, Left, Right, way_of}
 use Rattle.osi_carrier.specs.State.{Outcome}
 use Rattle.osi_blameless.specs.transport.Wholes as wholes
-use Rattle.osi_blameless.proofs.what_each_thing_keeps_all_of_them_keep.{along_keeps}
+use Rattle.osi_blameless.proofs.transport.what_each_thing_keeps_all_of_them_keep.{along_keeps}
 
 -- ---- which references units give
 

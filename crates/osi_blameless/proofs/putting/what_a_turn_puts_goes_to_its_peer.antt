@@ -2,11 +2,10 @@
 -- opens in the turn had come: so each DT and each AK of the turn has a home at a judge if the connection has.
 -- For calling and called ends.
 use Rattle.osi_blameless.proofs.Vocabulary.{◌≡◌, ◌∙◌, refl, sym, ap, subst, ℕ, suc, zero, ◌<◌, Bool, true, false, List, [], ◌∷◌, ◌++◌}
-use Rattle.osi_blameless.proofs.Vocabulary.{Option, Some, None, is_some, IsSome, append_assoc, arith, ◌==◌, nat_lt, AllByRecursion}
-use Rattle.osi_blameless.proofs.Vocabulary.{eq-eqb, eqb-true, append-nil, Value, data0, Standing, link_of, open_link}
-use Rattle.osi_blameless.proofs.Vocabulary.{value_at, linked, packets, EndReason, Direction, State, Whole, AreApart, GivesTo}
-use Rattle.osi_blameless.proofs.Vocabulary.{Lives, Parts, Continues, Deeds, Marked, all_units, is_of_link, over_acts, all_units_more, Turn}
-use Rattle.osi_blameless.proofs.Vocabulary.{Sessions, Joint, TakesTurn, differ}
+use Rattle.osi_blameless.proofs.Vocabulary.{Option, Some, None, is_some, IsSome, append_assoc, arith, ◌==◌, nat_lt, AllByRecursion, eq-eqb}
+use Rattle.osi_blameless.proofs.Vocabulary.{eqb-true, append-nil, Value, data0, Standing, link_of, open_link, value_at, linked, packets}
+use Rattle.osi_blameless.proofs.Vocabulary.{EndReason, Direction, State, Whole, AreApart, GivesTo, Lives, Parts, Continues, Deeds, Marked}
+use Rattle.osi_blameless.proofs.Vocabulary.{all_units, is_of_link, over_acts, all_units_more, Turn, Sessions, Joint, TakesTurn, differ}
 use Rattle.osi_carrier.specs.State.{Connection as Live, State as Carrier}
 use Rattle.osi_blameless.specs.ends.Arriving as arriving
 use Rattle.osi_blameless.proofs.keeping.a_carrier_does_events.{none_of}

@@ -16,7 +16,7 @@ use Rattle.osi_blameless.proofs.putting.a_called_end_of_class_2_puts_no_dt_of_cl
 use Rattle.osi_blameless.proofs.standing.all_connections_stand.{one_at}
 use Rattle.osi_blameless.proofs.putting.each_cc_of_a_called_end_opens_another_connection.{none_open_for, open_there, same_destination}
 use Rattle.osi_blameless.proofs.putting.each_cc_of_a_called_end_opens_another_connection.{same_source}
-use Rattle.osi_blameless.proofs.putting.each_unit_of_a_called_end_has_a_home.{OpensByNoCc}
+use Rattle.osi_blameless.proofs.putting.by_its_places_each_unit_of_an_end_has_a_home.{OpensByNoCc}
 use Rattle.osi_blameless.proofs.putting.each_unit_of_a_turn_has_one_connection.{HasHome, IsFor}
 use Rattle.osi_blameless.proofs.putting.ccs_among_units.{HasCc, has_back, has_front}
 use Rattle.osi_blameless.proofs.putting.what_a_turn_puts_goes_to_its_peer.{GoesTo, IsNotZero, Lived, by_units, came, for_so, goes_to}

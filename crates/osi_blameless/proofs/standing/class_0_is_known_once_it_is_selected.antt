@@ -8,7 +8,7 @@ use Rattle.osi_rules.specs.Sides as sides
 use Rattle.osi_rules.specs.Traffic.{reached}
 use Rattle.osi_blameless.specs.transport.Wholes.{begin, begins_other, begins_own, passes_other, passes_own}
 use Rattle.osi_blameless.proofs.keeping.steps_are_events.{whole_of, IsFollowed}
-use Rattle.osi_blameless.proofs.what_each_thing_keeps_all_of_them_keep.{along_keeps}
+use Rattle.osi_blameless.proofs.transport.what_each_thing_keeps_all_of_them_keep.{along_keeps}
 
 -- ---- a unit leaves what the calling side knows
 

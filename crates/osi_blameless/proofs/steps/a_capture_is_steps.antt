@@ -4,17 +4,16 @@ use Rattle.osi_blameless.proofs.Vocabulary.{[], ap, append_assoc, Bool, Err, fal
 use Rattle.osi_blameless.proofs.Vocabulary.{◌++◌, ◌<◌, ◌∙◌, ◌∷◌, ◌≡◌, ◌≢◌, ◌⊎◌, append-nil, AllByRecursion, octets_nil, octets_right}
 use Rattle.osi_blameless.proofs.Vocabulary.{IsOctets, packet_of, ArePackets, units_of, Value, written, TpduFault, Local, packets, Holding}
 use Rattle.osi_blameless.proofs.Vocabulary.{Capture, of, other, Passed, Direction, packets_joined, fresh_turns, TurnOf, TurnsOf, Known}
-use Rattle.osi_blameless.proofs.Vocabulary.{packets_on, packets_then, CanBeWritten, read_again, all_did, Deeds, no_deeds, all_units}
+use Rattle.osi_blameless.proofs.Vocabulary.{packets_on, packets_then, all_did, Deeds, no_deeds, all_units}
 use Rattle.osi_blameless.proofs.Vocabulary.{IsFresh, IsSeen, Run, Takes, Turn, is_break, packet_passes, units_pass, unread, advanced}
 use Rattle.osi_blameless.proofs.Vocabulary.{faulty, Front, front_of, gathered, partial, Streamed, whole, after, octet_passes, stream_of}
 use Rattle.osi_blameless.proofs.Vocabulary.{with_stream, Cause, BadPacket, BadUnit, Joint, Step, Steps, StepsAlong, TakesTurn, AreOctets}
-use Rattle.osi_blameless.proofs.Vocabulary.{IsOctet, TurnsBad, arith, Course, units_by, TpktFault, IsNoPacket, IsUnread, spoilt}
+use Rattle.osi_blameless.proofs.Vocabulary.{IsOctet, TurnsBad, arith, Course, units_by, TpktFault, IsNoPacket, IsUnread, spoilt, units_in}
 use Rattle.osi_judge.specs.Streams.{ended}
 use Rattle.osi_judge.specs.States.{State}
 use Rattle.osi_judge.specs.States as states
 use Rattle.osi_blameless.specs.Joint as joints
 use Rattle.osi_blameless.specs.Joint.Step.{turns, begins_own, passes_own, begins_other, passes_other}
-use Rattle.osi_blameless.specs.Packets.{units_in}
 use Rattle.osi_blameless.specs.Spoilt.{GoesOn}
 use Rattle.osi_blameless.proofs.small_facts_that_many_lemmas_use.{can_more}
 use Rattle.osi_blameless.proofs.steps.how_an_end_stands_to_what_has_passed.{OtherStands, OwnStands, begun_now, first_put, has_begun}
@@ -27,7 +26,8 @@ use Rattle.osi_blameless.proofs.keeping.what_is_halted_stays_halted.{unread_halt
 use Rattle.osi_blameless.proofs.steps.turns_are_taken_late.{Follows, all_passed, other_passes, own_passes, seen_follows, turn_taken}
 use Rattle.osi_blameless.proofs.steps.what_an_octet_does.{begins, passes_so}
 use Rattle.osi_blameless.proofs.steps.what_the_turns_among_steps_do.{ComesByDoing, IsOfJudge, StepsDo, TurnDoes, judge_first, takes_turn}
-use Rattle.osi_blameless.proofs.steps.what_the_first_octets_are.{begins_none, own_front, whole_front, whole_packet}
+use Rattle.osi_blameless.proofs.steps.what_the_first_octets_are.{begins_none, own_front, whole_packet}
+use Rattle.osi_blameless.proofs.steps.how_an_end_stands_to_what_has_passed.{packet_ends}
 
 -- ---- what the rest of a capture comes to, from a state of the judge and of the end on
 
@@ -174,23 +174,15 @@ module _ (d : Direction) (is_caller : Bool) (deeds : ℕ → Deeds) (x : ℕ) (c
   own_ends : (v : Value) (vs : List Value) → j.put ≡ v ∷ vs → own_held ++ x ∷ [] ≡ packet_of (written v) → still ≡ packets vs →
       Comes d is_caller deeds (of d x ∷ capture) s own_joint
   own_ends v vs is same rest =
-      let can = subst (AllByRecursion CanBeWritten) is st.own.can in
-      let octets : IsOctets (written v) = octets_right (3 ∷ 0 ∷ _ ∷ _ ∷ []) (written v)
-      (subst IsOctets same (one_octet own_held x st.own.octets small)) in
-      let read = read_again v can.0 octets in
-      let front : front_of (own_held ++ x ∷ []) ≡ whole (written v) = ap front_of (same ∙ sym (append-nil (packet_of (written v))))
-      ∙ whole_front (written v) [] (some_octets v) in
-      let at = own_now.at in
-      let after_it : Course = packet_passes d at (written v) own_course in
-      let last : Joint = record own_joint { put = vs; begun = false; judge = units_pass d at (v ∷ []) own_joint.judge } in
-      let course : after_it ≡ last.judge = grind (arith, begins) in
-      let own : OwnStands [] still vs false =
-      record { octets = octets_nil; part = refl; all = rest; begun_so = refl; can = can.1 } in
+      let e = packet_ends d s.course j.judge own_held still x v vs own_now.at st.course small st.own is same rest in
+      let after_it : Course = packet_passes d own_now.at (written v) own_course in
+      let last : Joint = record own_joint { put = vs; begun = false; judge = units_pass d own_now.at (v ∷ []) own_joint.judge } in
       let next : State = with_stream d (advanced own_now) (record s { course = after_it }) in
-      step_first d is_caller deeds (of d x ∷ capture) s (passes_own at v) tt own_joint last (read, octets, (is, refl, refl))
+      step_first d is_caller deeds (of d x ∷ capture) s (passes_own own_now.at v) tt own_joint last (e.read, e.octets, (is, refl, refl))
       (octet_first d is_caller deeds (of d x) capture s last
-      (subst (λ (t : State). Comes d is_caller deeds capture t last) (sym (passes_so d x s (whole (written v)) st.own_reads front))
-      (on next last refl (own_moved d (advanced own_now) s after_it last still ahead course st.own_reads st.other_reads own st.others))))
+      (subst (λ (t : State). Comes d is_caller deeds capture t last) (sym (passes_so d x s (whole (written v)) st.own_reads e.front))
+      (on next last refl (own_moved d
+      (advanced own_now) s after_it last still ahead e.course st.own_reads st.other_reads e.own st.others))))
 
   own_octet : Comes d is_caller deeds (of d x ∷ capture) s j
   own_octet =

@@ -3,8 +3,8 @@
 use Rattle.osi_blameless.proofs.Vocabulary.{[], ap, append_assoc, Bool, false, if◌then◌else◌, inl, inr, List, None, refl, subst, sym, true}
 use Rattle.osi_blameless.proofs.Vocabulary.{ℕ, ◌++◌, ◌<◌, ◌∙◌, ◌∷◌, ◌≡◌, ◌≢◌, ◌⊎◌, append-nil, AllByRecursion, octets_nil, octets_right}
 use Rattle.osi_blameless.proofs.Vocabulary.{IsOctets, packet_of, ArePackets, units_of, Value, written, packets, Holding, Capture, of, other}
-use Rattle.osi_blameless.proofs.Vocabulary.{Passed, Direction, packets_joined, TurnOf, TurnsOf, packets_on, packets_then, CanBeWritten}
-use Rattle.osi_blameless.proofs.Vocabulary.{read_again, all_did, Deeds, all_units, Takes, Turn, packet_passes, units_pass, unread, advanced}
+use Rattle.osi_blameless.proofs.Vocabulary.{Passed, Direction, packets_joined, TurnOf, TurnsOf, packets_on, packets_then}
+use Rattle.osi_blameless.proofs.Vocabulary.{all_did, Deeds, all_units, Takes, Turn, packet_passes, units_pass, unread, advanced}
 use Rattle.osi_blameless.proofs.Vocabulary.{counted, faulty, Front, front_of, gathered, looks, partial, Streamed, whole, after, begun, Left}
 use Rattle.osi_blameless.proofs.Vocabulary.{Right, looked_at, octet_passes, stream_of, with_stream, BadPacket, Joint, Step, TakesTurn}
 use Rattle.osi_blameless.proofs.Vocabulary.{AreOctets, IsOctet, arith, IsNoFront, TpktFault, units_by, Course, IsNoPacket, LaterAlong}
@@ -21,7 +21,8 @@ use Rattle.osi_blameless.proofs.steps.turns_are_taken_late.{Follows, all_passed,
 use Rattle.osi_blameless.proofs.steps.what_an_octet_does.{begins, passes_so}
 use Rattle.osi_blameless.proofs.keeping.what_is_halted_stays_halted.{IsHalted, halted_claim, unread_same}
 use Rattle.osi_blameless.proofs.steps.what_passes_keeps_a_claim.{units_kept}
-use Rattle.osi_blameless.proofs.steps.what_the_first_octets_are.{begins_none, own_front, whole_front, whole_packet}
+use Rattle.osi_blameless.proofs.steps.what_the_first_octets_are.{begins_none, own_front, whole_packet}
+use Rattle.osi_blameless.proofs.steps.how_an_end_stands_to_what_has_passed.{packet_ends}
 
 -- ---- what the rest of a capture comes to
 
@@ -167,24 +168,15 @@ module _ (d : Direction) (x : ℕ) (capture : Capture) (s : State) (j : Joint) (
   own_ends : (v : Value) (vs : List Value) → j.put ≡ v ∷ vs → own_held ++ x ∷ [] ≡ packet_of (written v) → still ≡ packets vs →
       LaterComes d (of d x ∷ capture) s own_joint
   own_ends v vs is same rest =
-      let can = subst (AllByRecursion CanBeWritten) is st.own.can in
-      let octets : IsOctets (written v) = octets_right (3 ∷ 0 ∷ _ ∷ _ ∷ []) (written v)
-      (subst IsOctets same (one_octet own_held x st.own.octets small)) in
-      let read = read_again v can.0 octets in
-      let front : front_of (own_held ++ x ∷ []) ≡ whole (written v) = ap front_of (same ∙ sym (append-nil (packet_of (written v))))
-      ∙ whole_front (written v) [] (some_octets v) in
-      let at = own_now.at in
-      let after_it : Course = packet_passes d at (written v) own_course in
-      let last : Joint = record own_joint { put = vs; begun = false; judge = units_pass d at (v ∷ []) own_joint.judge } in
-      let course : after_it ≡ last.judge = grind (arith, begins) in
-      let own : OwnStands [] still vs false =
-      record { octets = octets_nil; part = refl; all = rest; begun_so = refl; can = can.1 } in
+      let e = packet_ends d s.course j.judge own_held still x v vs own_now.at st.course small st.own is same rest in
+      let after_it : Course = packet_passes d own_now.at (written v) own_course in
+      let last : Joint = record own_joint { put = vs; begun = false; judge = units_pass d own_now.at (v ∷ []) own_joint.judge } in
       let next : State = with_stream d (advanced own_now) (record s { course = after_it }) in
-      later_first d (of d x ∷ capture) s (passes_own at v) own_joint last (read, octets, (is, refl, refl)) (λ spent. tt)
+      later_first d (of d x ∷ capture) s (passes_own own_now.at v) own_joint last (e.read, e.octets, (is, refl, refl)) (λ spent. tt)
       (later_octet d (of d x) capture s last
-      (subst (λ (t : State). LaterComes d capture t last) (sym (passes_so d x s (whole (written v)) st.own_reads front))
-      (on next last refl (own_moved d (advanced own_now) s after_it last still ahead course st.own_reads own
-      (units_kept (IsHalted (other d)) (halted_claim (other d)) d at (v ∷ []) own_joint.judge own_halted) st.others))))
+      (subst (λ (t : State). LaterComes d capture t last) (sym (passes_so d x s (whole (written v)) st.own_reads e.front))
+      (on next last refl (own_moved d (advanced own_now) s after_it last still ahead e.course st.own_reads e.own
+      (units_kept (IsHalted (other d)) (halted_claim (other d)) d own_now.at (v ∷ []) own_joint.judge own_halted) st.others))))
 
   own_octet : LaterComes d (of d x ∷ capture) s j
   own_octet =

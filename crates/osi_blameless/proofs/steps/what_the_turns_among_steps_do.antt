@@ -2,11 +2,10 @@
 -- them, and no others.
 -- For the sessions of an end, and for the law that a capture of an end is steps.
 use Rattle.osi_blameless.proofs.Vocabulary.{[], ap, Bool, List, None, Option, refl, Some, sym, ℕ, ◌++◌, ◌∙◌, ◌∷◌, ◌≡◌, ◌≢◌, ◌⊎◌, ArePackets}
-use Rattle.osi_blameless.proofs.Vocabulary.{Holding, Capture, Direction, EndReason, all_did, Continues, Deeds, no_deeds, Takes}
-use Rattle.osi_blameless.proofs.Vocabulary.{FirstOf, Life, stage_at, ◌<◌}
-use Rattle.osi_blameless.proofs.Vocabulary.{Value, units_in, all_units, Turn, comes_to, begins_other, begins_own, Joint, passes_other}
-use Rattle.osi_blameless.proofs.Vocabulary.{passes_own, Step}
-use Rattle.osi_blameless.proofs.Vocabulary.{Steps, StepsAlong, TakesTurn, turns, ComesBySteps, TurnsBad, begin}
+use Rattle.osi_blameless.proofs.Vocabulary.{Holding, Capture, Direction, EndReason, all_did, Continues, Deeds, no_deeds, Takes, FirstOf}
+use Rattle.osi_blameless.proofs.Vocabulary.{Life, stage_at, ◌<◌, Value, units_in, all_units, Turn, comes_to, begins_other, begins_own}
+use Rattle.osi_blameless.proofs.Vocabulary.{Joint, passes_other, passes_own, Step, Steps, StepsAlong, TakesTurn, turns, ComesBySteps}
+use Rattle.osi_blameless.proofs.Vocabulary.{TurnsBad, begin}
 use Rattle.osi_blameless.specs.Spoilt.{GoesOn}
 use Rattle.osi_blameless.proofs.steps.the_packets_that_an_end_took_come_first.{are_first}
 use Rattle.osi_blameless.proofs.transport.small_facts_that_many_lemmas_use.{units_join}

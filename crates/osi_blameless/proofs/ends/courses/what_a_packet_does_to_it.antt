@@ -21,22 +21,22 @@ use Rattle.osi_blameless.proofs.ends.Vocabulary.{orderly_asks}
 use Rattle.osi_carrier.specs.Packets as carriers
 use Rattle.osi_carrier.specs.State as states
 use Rattle.osi_blameless.specs.ends.Doing as doing
-use Rattle.osi_blameless.proofs.ends.ends.an_end_that_is_over_does_nothing.{never_lasts}
+use Rattle.osi_blameless.proofs.ends.at_any_time.an_end_that_is_over_does_nothing.{never_lasts}
 use Rattle.osi_blameless.proofs.ends.reading.how_much_of_a_piece_is_used.{all_octets, more_used, stopped_within}
 use Rattle.osi_blameless.proofs.ends.courses.steps_of_a_course.{HoldEach, StepsBy, same_rest, step_after, step_as, step_more, step_none}
 use Rattle.osi_blameless.proofs.ends.courses.steps_of_a_course.{step_then}
-use Rattle.osi_blameless.proofs.ends.courses.the_connections_of_each_class.{IsSound, class_kept, sound_unit}
-use Rattle.osi_blameless.proofs.ends.courses.what_another_connection_leaves.{course_over}
+use Rattle.osi_blameless.proofs.ends.links.the_connections_of_each_class.{IsSound, class_kept, sound_unit}
+use Rattle.osi_blameless.proofs.ends.links.what_another_connection_leaves.{course_over}
 use Rattle.osi_blameless.proofs.ends.courses.what_sessions_hear_of_it.{CourseAll, Known, attended, times_heard}
 use Rattle.osi_blameless.proofs.ends.courses.what_units_do_to_a_course.{CalmAll, NowAll, calm_over, leads_step, units_step}
 use Rattle.osi_blameless.proofs.ends.courses.what_units_do_to_a_course.Calm.{is_still}
-use Rattle.osi_blameless.proofs.ends.courses.what_a_unit_does_to_a_connection.{NoneOf}
+use Rattle.osi_blameless.proofs.ends.links.what_a_unit_does_to_a_connection.{NoneOf}
 use Rattle.osi_blameless.proofs.ends.courses.what_waits_to_be_heard.{waits_over}
 use Rattle.osi_blameless.proofs.ends.courses.what_waits_to_be_heard.Waits.{away}
 use Rattle.osi_blameless.proofs.ends.reading.two_readings_of_a_stream_agree.{packets_on, packets_then}
-use Rattle.osi_blameless.proofs.ends.courses.what_a_unit_keeps_a_turn_keeps.{IsKept, makes_kept}
-use Rattle.osi_blameless.proofs.ends.courses.how_long_a_connection_is_open.Stage.{early, past}
-use Rattle.osi_blameless.proofs.ends.courses.how_long_a_connection_is_open.{rests_over, stage_at, stage_over}
+use Rattle.osi_blameless.proofs.ends.links.what_a_unit_keeps_a_turn_keeps.{IsKept, makes_kept}
+use Rattle.osi_blameless.proofs.ends.links.how_long_a_connection_is_open.Stage.{early, past}
+use Rattle.osi_blameless.proofs.ends.links.how_long_a_connection_is_open.{rests_over, stage_at, stage_over}
 
 -- ---- what holds of each carrier
 
@@ -123,7 +123,11 @@ module _ (known : Known) (is_caller : Bool) where
   pub takes_steps : (packets : List (List ℕ)) (moves : ℕ → Deeds) (old new : End) → AllByRecursion IsOctets packets → Between old →
       Courses moves old → TakesPackets old packets new → CourseSteps (units_in packets) moves old new
   takes_steps [] moves old new octets b course takes =
-      grind (arith, step_none is_caller (CourseAll is_caller) moves old.carrier old (doing.rests old.carrier) (same_rest old.carrier) course)
+      grind (
+        arith,
+        step_none is_caller (CourseAll is_caller) moves old.carrier old (doing.rests old.carrier)
+            (same_rest old.carrier) course,
+      )
   takes_steps (u ∷ packets) moves old new octets b course takes =
       let mid = after_packet old u in
       let lasts = lasting_of old.carrier.ended (waits old.lines) takes.0 in
@@ -241,7 +245,8 @@ module _ (known : Known) (is_caller : Bool) where
         (subst (λ (l : List Value). CourseSteps l moves old.end new.end) (grind (arith, append-nil, flat_map-append))
         (step_then is_caller (units_in f.units) (units_by (units_of packet)) (CourseAll is_caller) (CourseAll is_caller) moves
         old.end.carrier f.before new.end first
-        (λ after then_course. starved_steps packet after f.before new.end (all_octets (packet ∷ []) f.rest [] one).0 now (lasting_of f.before.carrier.ended (waits f.before.lines) f.quiet)
+        (λ after then_course. starved_steps packet after f.before new.end (all_octets (packet ∷ []) f.rest [] one).0 now
+        (lasting_of f.before.carrier.ended (waits f.before.lines) f.quiet)
         then_course starved)))
 
     goes_steps : GoesThrough old piece n new → FeedSteps moves (take n piece) old new

@@ -13,14 +13,14 @@ use Rattle.osi_blameless.proofs.transport.Vocabulary.{uses_source, Value, Whole,
 use Rattle.osi_blameless.proofs.transport.Vocabulary.{◌≤◌}
 use Rattle.osi_blameless.proofs.transport.small_facts_that_many_lemmas_use.{begun_right, course_class, item_is, and_false, any_none}
 use Rattle.osi_blameless.proofs.transport.small_facts_that_many_lemmas_use.{first_is, judged_so, name_so, rest_is, unequal, differ}
-use Rattle.osi_blameless.proofs.transport.called.each_connection_of_a_called_end.{Asked}
+use Rattle.osi_blameless.proofs.transport.by_place.each_connection_has_its_place.{Asked}
 use Rattle.osi_blameless.proofs.transport.class_0.what_an_end_does_in_class_zero.{IsInZero, zero_calls, zero_takes}
 use Rattle.osi_blameless.proofs.transport.lines.what_holds_of_a_line.{is_there}
 use Rattle.osi_blameless.proofs.transport.names.what_holds_of_one_item.{after_map, HoldsOfEach, first_true}
 use Rattle.osi_blameless.proofs.transport.names.a_right_unit_is_not_blamed.{first_there, is_first}
 use Rattle.osi_blameless.proofs.transport.names.all_are_judged_unless_one_broke.{IsJudged}
 use Rattle.osi_blameless.proofs.transport.lines.how_a_connection_opens.{zero_right}
-use Rattle.osi_blameless.proofs.transport.called.how_a_unit_of_right_passes.{conns_kept, course_kept, finding_kept, use_so}
+use Rattle.osi_blameless.proofs.transport.by_place.how_a_unit_of_right_passes.{conns_kept, course_kept, finding_kept, use_so}
 use Rattle.osi_blameless.proofs.transport.names.what_keeps_names_apart.{AreApart}
 use Rattle.osi_blameless.proofs.transport.requests.while_no_class_is_selected.{after_change, set_there}
 use Rattle.osi_blameless.proofs.transport.class_0.an_end_goes_on_in_class_zero.{IsZeroed, other_one}

@@ -14,7 +14,7 @@ use Rattle.osi_blameless.proofs.transport.Vocabulary.{unit as passing, Value, Wh
 use Rattle.osi_rules.specs.declared.findings.Rule.TheVariants as rule
 use Rattle.osi_blameless.proofs.transport.small_facts_that_many_lemmas_use.{and_first, and_second, differ, item_is, set_other}
 use Rattle.osi_blameless.proofs.transport.requests.left_selects_no_class.{left_class}
-use Rattle.osi_blameless.proofs.transport.called.what_comes_to_a_called_end.{open_over}
+use Rattle.osi_blameless.proofs.transport.by_place.what_comes_to_an_end.{open_over}
 use Rattle.osi_blameless.proofs.transport.names.what_keeps_names_apart.{AreApart}
 use Rattle.osi_blameless.proofs.transport.requests.what_lasts_at_the_judge.{lasts_passing}
 use Rattle.osi_blameless.proofs.transport.connections.what_stays_of_each_connection.{right_then}

@@ -22,7 +22,7 @@ use Rattle.osi_blameless.proofs.transport.lines.what_holds_of_a_line.{Holds}
 use Rattle.osi_blameless.proofs.transport.names.what_holds_of_one_item.{first_true}
 use Rattle.osi_blameless.proofs.transport.connections.which_units_are_for_a_connection.{AllOurs, closes_with_none, open_with_link}
 use Rattle.osi_blameless.proofs.transport.requests.while_no_class_is_selected.{set_same}
-use Rattle.osi_blameless.proofs.what_each_thing_keeps_all_of_them_keep.{along_join}
+use Rattle.osi_blameless.proofs.transport.what_each_thing_keeps_all_of_them_keep.{along_join}
 use Rattle.osi_blameless.proofs.transport.Vocabulary.{Acts}
 
 pub record Tracks (d : Direction) (r peer : ℕ) (line : Line) : Type 0 where

@@ -18,7 +18,7 @@ use Rattle.osi_blameless.proofs.transport.small_facts_that_many_lemmas_use.{half
 use Rattle.osi_blameless.proofs.transport.connections.what_stays_of_each_connection.{left_judged, left_own, left_then, right_judged}
 use Rattle.osi_blameless.proofs.transport.connections.what_stays_of_each_connection.{right_own, right_then}
 use Rattle.osi_blameless.proofs.transport.connections.which_units_are_for_a_connection.{AllOurs}
-use Rattle.osi_blameless.proofs.what_each_thing_keeps_all_of_them_keep.{along_keeps}
+use Rattle.osi_blameless.proofs.transport.what_each_thing_keeps_all_of_them_keep.{along_keeps}
 
 -- what the judge knows of the other side, and what the end knew of it as its packet began
 pub record Keeps (d : Direction) (r peer : ℕ) (line : Line) : Type 0 where

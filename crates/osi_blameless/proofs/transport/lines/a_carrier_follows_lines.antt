@@ -85,7 +85,8 @@ module _ (r peer : ℕ) (s new : State) (link mid : Standing) (front : List Move
   pumps_along d line later is coming =
       let along = moves_join front (map give_out (all_given mid)) link mid (pumped mid) f.along (drained_moves mid) in
       let short = short_join front (map give_out (all_given mid)) f.short (given_short (all_given mid)) in
-      subst (λ (l : List Value). ActsAlong d r peer line (AreMoves (calls_after front mid)) (line_after line (pumped mid) (line.put ++ l) later))
+      subst (λ (l : List Value). ActsAlong d r peer line (AreMoves (calls_after front mid))
+      (line_after line (pumped mid) (line.put ++ l) later))
       (front_puts peer link mid front units f)
       (moves_along d r peer (calls_after front mid) link (pumped mid) along short line later is
       (coming ∙ ap (λ (l : List Value). l ++ later) (sym (front_takes link mid front units f))))

@@ -19,7 +19,7 @@ use Rattle.osi_blameless.proofs.transport.lines.what_passes_of_an_end.{passes_ow
 use Rattle.osi_blameless.proofs.transport.small_facts_that_many_lemmas_use.{judged_same}
 use Rattle.osi_blameless.proofs.transport.lines.what_each_unit_of_the_other_side_does.{passes_other_holds}
 use Rattle.osi_blameless.proofs.transport.lines.what_begins_to_pass_is_right.{first_right}
-use Rattle.osi_blameless.proofs.what_each_thing_keeps_all_of_them_keep.{along_keeps}
+use Rattle.osi_blameless.proofs.transport.what_each_thing_keeps_all_of_them_keep.{along_keeps}
 
 -- ---- a connection that is judged was judged before
 

@@ -1,12 +1,13 @@
 -- What follows the acts of a line twice, one after the other, follows them; so TSDUs that are sent together are acts too.
 -- For the law on carriers and their lines.
-use Rattle.osi_blameless.proofs.transport.Vocabulary.{arith, [], append_assoc, length, List, Option, refl, Some, subst, ℕ, ◌++◌, ◌∙◌, ◌∷◌, ◌≡◌}
+use Rattle.osi_blameless.proofs.transport.Vocabulary.{arith, [], append_assoc, length, List, Option, refl, Some, subst, ℕ, ◌++◌, ◌∙◌, ◌∷◌}
+use Rattle.osi_blameless.proofs.transport.Vocabulary.{◌≡◌}
 use Rattle.osi_blameless.proofs.transport.Vocabulary.{◌≤◌, flat_map-append, append-nil, AllByRecursion, Value, longest_tsdu, Standing}
 use Rattle.osi_blameless.proofs.transport.Vocabulary.{with_tsdu, put_here}
 use Rattle.osi_blameless.proofs.transport.Vocabulary.{open_link, sent, sent_all, pumped, value_at, Follows, link_now, Line, put_sent}
 use Rattle.osi_blameless.proofs.transport.Vocabulary.{put_together, State}
 use Rattle.osi_blameless.proofs.transport.lines.a_carrier_follows_lines.{follows_sent, open_is}
-use Rattle.osi_blameless.proofs.what_each_thing_keeps_all_of_them_keep.{along_join}
+use Rattle.osi_blameless.proofs.transport.what_each_thing_keeps_all_of_them_keep.{along_join}
 use Rattle.osi_blameless.proofs.transport.Vocabulary.{Acts, ActsAlong}
 
 -- ---- one after the other
@@ -24,7 +25,8 @@ follows_then r peer a b us vs old mid new f g = record {
       let first = f.along d line (b ++ later) is (coming ∙ append_assoc a b later) in
       subst (λ (l : List Value). ActsAlong d r peer line (f.acts ++ g.acts) (line_with line (link_now (value_at r new.live)) l later))
       (append_assoc line.put us vs)
-      (along_join (Acts d r peer) f.acts g.acts line next (line_with line (link_now (value_at r new.live)) ((line.put ++ us) ++ vs) later) first
+      (along_join (Acts d r peer) f.acts g.acts line next
+      (line_with line (link_now (value_at r new.live)) ((line.put ++ us) ++ vs) later) first
       (g.along d next later refl refl));
 }
 

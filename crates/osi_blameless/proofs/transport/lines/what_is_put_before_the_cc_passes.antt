@@ -9,7 +9,7 @@ use Rattle.osi_blameless.proofs.transport.Vocabulary.{PassesNone, units_put}
 use Rattle.osi_blameless.specs.transport.Lines.{begins_other, begins_own, passes_other, passes_own}
 use Rattle.osi_blameless.proofs.transport.small_facts_that_many_lemmas_use.{rest_is}
 use Rattle.osi_blameless.proofs.transport.Vocabulary.{disconnect, disconnected}
-use Rattle.osi_blameless.proofs.what_each_thing_keeps_all_of_them_keep.{along_join}
+use Rattle.osi_blameless.proofs.transport.what_each_thing_keeps_all_of_them_keep.{along_join}
 
 -- the line without its CC, as if this were the judge
 abbrev without_cc : Connection → List Value → Line → Line
@@ -69,7 +69,8 @@ module _ (d : Direction) (r peer : ℕ) (cc_is : Value) (judge : Connection) whe
         now = b.now;
         acts = a.acts ++ b.acts;
         put = b.put;
-        along = along_join (Acts d r peer) a.acts b.acts (without_cc judge more old) (without_cc judge a.now mid) (without_cc judge b.now new)
+        along = along_join (Acts d r peer) a.acts b.acts (without_cc judge more old) (without_cc judge a.now mid)
+            (without_cc judge b.now new)
             a.along b.along;
       }
 

@@ -10,7 +10,7 @@ use Rattle.osi_blameless.proofs.transport.Vocabulary.{Direction, units_by, put_b
 use Rattle.osi_blameless.proofs.transport.Vocabulary.{MayCall, Whole}
 use Rattle.osi_blameless.proofs.transport.Vocabulary.{State, call_written, unit_written}
 use Rattle.osi_carrier.specs.Packets.{Acts}
-use Rattle.osi_blameless.proofs.what_each_thing_keeps_all_of_them_keep.{along_join}
+use Rattle.osi_blameless.proofs.transport.what_each_thing_keeps_all_of_them_keep.{along_join}
 use Rattle.osi_blameless.proofs.transport.Vocabulary.{Happens}
 
 packets_join : (xs ys : List Value) → packets (xs ++ ys) ≡ packets xs ++ packets ys

@@ -32,7 +32,7 @@ use Rattle.osi_blameless.proofs.transport.requests.while_no_class_is_selected.{W
 use Rattle.osi_blameless.proofs.transport.requests.while_no_class_is_selected.{calm_judge, confirmed_judge, confirms, done_begins}
 use Rattle.osi_blameless.proofs.transport.requests.while_no_class_is_selected.{done_takes, over_begins}
 use Rattle.osi_blameless.proofs.transport.requests.while_no_class_is_selected.{over_still, refuses, says_nothing, waits_begins, waits_takes}
-use Rattle.osi_blameless.proofs.transport.calling.a_dr_for_what_is_gone.{after_arriving, after_calling}
+use Rattle.osi_blameless.proofs.transport.by_line.a_dr_for_what_is_gone.{after_arriving, after_calling}
 
 abbrev AreDcs : List Value → Type 0
 AreDcs units = AllByRecursion IsDc units

@@ -13,7 +13,7 @@ use Rattle.osi_blameless.proofs.transport.requests.how_requests_go_on.{ended, re
 use Rattle.osi_blameless.proofs.transport.class_0.what_an_end_does_in_class_zero.{anyhow, zero_puts}
 use Rattle.osi_blameless.proofs.transport.requests.what_lasts_at_the_judge.{lasts_happening}
 use Rattle.osi_blameless.proofs.transport.requests.while_no_class_is_selected.{AllOver, GoesOn, calm_judge}
-use Rattle.osi_blameless.proofs.what_each_thing_keeps_all_of_them_keep.{along_keeps}
+use Rattle.osi_blameless.proofs.transport.what_each_thing_keeps_all_of_them_keep.{along_keeps}
 
 -- ---- a run
 
