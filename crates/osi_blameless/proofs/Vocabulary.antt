@@ -166,8 +166,7 @@ pub use Rattle.osi_blameless.proofs.transport.by_place.an_end_is_fair.{Stage, li
 pub use Rattle.osi_blameless.proofs.transport.by_place.each_connection_has_its_place.{Answering, AreStrays, Asked, Called, Stand, StrayIf}
 pub use Rattle.osi_blameless.proofs.transport.by_place.each_connection_has_its_place.{Untagged, answers as answering, comes, line_of}
 pub use Rattle.osi_blameless.proofs.transport.by_place.each_connection_has_its_place.{refuses, runs}
-pub use Rattle.osi_blameless.proofs.transport.by_place.what_becomes_of_an_end.{IsCalled, closing_no_cc, confirms_no_cc, given_no_cc}
-pub use Rattle.osi_blameless.proofs.transport.by_place.what_becomes_of_an_end.{none_by_call}
+pub use Rattle.osi_blameless.proofs.transport.by_place.what_becomes_of_an_end.{IsCalled}
 pub use Rattle.osi_blameless.proofs.transport.class_0.a_called_end_selects_class_zero.{Selecting, selecting_passes}
 pub use Rattle.osi_blameless.proofs.transport.class_0.a_dt_of_class_zero_passes.{only_first, unlike}
 pub use Rattle.osi_blameless.proofs.transport.class_0.what_an_end_does_in_class_zero.{IsInZero, anyhow, zero_puts}
@@ -194,7 +193,6 @@ pub use Rattle.osi_blameless.proofs.transport.names.what_holds_of_one_item.{each
 pub use Rattle.osi_blameless.proofs.transport.names.what_holds_of_one_item.{one_changed, one_mapped, one_put}
 pub use Rattle.osi_blameless.proofs.transport.names.what_keeps_names_apart.{AreApart as NamesApart, Sound}
 pub use Rattle.osi_blameless.proofs.transport.requests.a_connection_is_lost_in_class_2_alone.{IsOfTwo, firm_unless_two, still_two}
-pub use Rattle.osi_blameless.proofs.transport.requests.a_request_of_a_whole_end_is_new.{unit_gives}
 pub use Rattle.osi_blameless.proofs.transport.requests.class_0_stays_selected.{zero_stays}
 pub use Rattle.osi_blameless.proofs.transport.requests.how_a_calling_end_asks.{IsOver, one}
 pub use Rattle.osi_blameless.proofs.transport.requests.how_requests_go_on.{Calling, answered, ended, known, quiet, refused, waits}

@@ -4,7 +4,6 @@ pub mod what_a_turn_puts_waits
 pub mod references_of_an_end_are_distinct
 pub mod each_unit_of_a_turn_has_one_connection
 pub mod a_cc_comes_before_what_is_put_for_it
-pub mod units_that_wait_give_references_above_those_that_passed
 pub mod each_reference_of_an_end_is_new
 pub mod nothing_is_done_before_a_cr_passes
 pub mod a_whole_end_runs_along

@@ -76,7 +76,7 @@ answer_of local w next more f is r lasts waits a =
 given_there : (local : Local) (w : Whole) (r : ℕ) → Follows local w → 0 < r → Tracked w.judge.connections r → has_given r w.end ≡ true
 given_there local w r j some (p, c, at, tracked, same) =
     let below = j.kept.newer.below p c at in
-    let last = j.kept.newer.given in
+    let last = j.kept.newer.above.given in
     let up : r ≤ w.end.given = omega (arith, below, last, same) in
     grind (arith, lt-ltb, le-leb)
 

@@ -33,7 +33,7 @@ use Rattle.osi_blameless.proofs.putting.nothing_is_done_before_a_cr_passes.{know
 use Rattle.osi_blameless.proofs.putting.references_of_an_end_are_distinct.{GivesNew, IsUnused}
 use Rattle.osi_blameless.proofs.putting.ccs_among_units.{AnswersTwo, AreOrdered, HasCc, IsCc, has_either}
 use Rattle.osi_blameless.proofs.putting.ccs_among_units.{has_above}
-use Rattle.osi_blameless.proofs.putting.units_that_wait_give_references_above_those_that_passed.{given_among}
+use Rattle.osi_blameless.proofs.transport.requests.units_that_wait_give_references_above_those_that_passed.{given_among}
 use Rattle.osi_blameless.proofs.putting.ccs_among_units.{has_back, has_front, none_before, not_twice}
 use Rattle.osi_blameless.proofs.putting.what_a_turn_puts_goes_to_its_peer.{IsNotZero, all_back, turn_puts}
 use Rattle.osi_blameless.proofs.coming.what_an_end_takes_at_a_connection.{apart_none, during_taken}
@@ -43,6 +43,7 @@ use Rattle.osi_blameless.proofs.standing.what_passes_leaves_all_standing.{IsRead
 use Rattle.osi_blameless.proofs.standing.what_stands_of_a_connection.{is_for, waiting_for}
 use Rattle.osi_blameless.proofs.putting.what_waits_after_the_ccs_of_a_called_end.{named, none_put, puts_for}
 use Rattle.osi_blameless.proofs.steps.what_the_turns_among_steps_do.{TurnDoes}
+use Rattle.osi_rules.specs.declared.directions.Direction.TheVariants as way
 
 -- ---- small facts
 
@@ -231,7 +232,7 @@ module _ (local : Local) where
     none_put_before n r has less (inl none) = none
     none_put_before n r has less (inr (m, waited)) =
         not_twice g.ahead.bound m n r old.put (all_units does.on.put)
-        (subst (λ (l : List Value). Rise g.ahead.bound (given_among Right l)) turn_put g.ahead.above.rise) waited
+        (subst (λ (l : List Value). Rise g.ahead.bound (given_among way.Right l)) turn_put g.ahead.above.rise) waited
         has
 
     waits_by : (n r : ℕ) → HasCc n r new.put → HasCc n r old.put ⊎ HasCc n r (all_units does.on.put) →

@@ -8,13 +8,14 @@ use Rattle.osi_blameless.proofs.putting.a_whole_end_runs_along.{first, whole_fol
 use Rattle.osi_blameless.proofs.putting.a_turn_does_what_its_deeds_say.{turn_leaves}
 use Rattle.osi_blameless.proofs.putting.what_a_turn_puts_goes_to_its_peer.{all_back}
 use Rattle.osi_blameless.proofs.in_class_2.an_end_of_class_2_goes_on.{AsksInTwo, OwnInTwo, in_higher}
-use Rattle.osi_blameless.proofs.putting.units_that_wait_give_references_above_those_that_passed.{passes_given}
+use Rattle.osi_blameless.proofs.transport.requests.units_that_wait_give_references_above_those_that_passed.{passes_given}
 use Rattle.osi_blameless.proofs.putting.each_reference_of_an_end_is_new.{passes_own_ahead, turns_ahead}
 use Rattle.osi_blameless.proofs.putting.nothing_is_done_before_a_cr_passes.{IsNoZero, cr_calm, cr_ready, known_from, none_come}
 use Rattle.osi_blameless.proofs.putting.nothing_is_done_before_a_cr_passes.{may_take, turn_undone}
 use Rattle.osi_blameless.proofs.standing.what_passes_leaves_all_standing.{IsReady}
 use Rattle.osi_blameless.proofs.steps.what_the_turns_among_steps_do.{TurnDoes}
 use Rattle.osi_blameless.proofs.keeping.steps_are_events.{whole_of}
+use Rattle.osi_rules.specs.declared.directions.Direction.TheVariants as way
 
 module _ (local : Local) (two : local.class2 ≡ true) where
   -- ---- a unit that passes
@@ -25,7 +26,7 @@ module _ (local : Local) (two : local.class2 ≡ true) where
       old.judge.sessions
   is_ready deeds at (request x) old new (read, octets, (put, begun, is)) clear h =
       let f = h.ahead.followed in
-      let k = passes_given Left h.ahead.bound x.source (request x) new.put (whole_of f)
+      let k = passes_given way.Left h.ahead.bound x.source (request x) new.put (whole_of f)
       (record (whole_of f) { put = new.put }) refl put refl refl
       h.ahead.above in
       cr_ready h.ahead.bound deeds old.end.end.carrier x (units_in old.coming) new.put old.judge.traffic old.judge.sessions k.new_is

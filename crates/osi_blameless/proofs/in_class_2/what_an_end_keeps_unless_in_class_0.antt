@@ -108,8 +108,8 @@ module _ (local : Local) where
           let f = h.followed in
           let w = (whole_of f) in
           let j = joined_by_place local old f in
-          let firm = firm_unless_two w.judge.course j.two (λ two. none_some w.judge.course.class Two z.class two) in
-          let p = selecting_passes local w j.apart (j.judged firm) clear.sure.right v new.put begun put z in
+          let firm = firm_unless_two w.judge.course j.sound.two (λ two. none_some w.judge.course.class Two z.class two) in
+          let p = selecting_passes local w j.sound.apart (j.sound.judged firm) clear.sure.right v new.put begun put z in
           grind (arith, unit_knows)
 
   silent_so : (d : Direction) → KeepsSilent d local (Silent d local)
@@ -169,7 +169,7 @@ turn_beside Right local turn old new t deeds does f g clear h =
         ap (λ (c : Passed). c.traffic.course.class) (sym t.course) ∙ z.class in
         let firm : old.judge.traffic.course.loose ≡ false =
         ap (λ (c : Passed). c.traffic.course.loose) (sym t.course)
-        ∙ firm_unless_two new.judge.traffic.course (joined_by_place local new g).two
+        ∙ firm_unless_two new.judge.traffic.course (joined_by_place local new g).sound.two
         (λ two. none_some new.judge.traffic.course.class Two z.class two) in
         inr (record {
           followed = g;

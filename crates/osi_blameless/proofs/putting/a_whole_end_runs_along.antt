@@ -47,7 +47,7 @@ module _ (local : Local) (j : Joint) (f : IsFollowed Right (wholes.begin false l
 
   module _ (clear : IsOngoing j.judge.traffic.course) where
     by_stage : Stage local (whole_of f) → HasLines local (whole_of f) ⊎ Selecting local (whole_of f)
-    by_stage (lines h c named) = inl (record { called = h; end = c; apart = joined_by_place.apart; named = named })
+    by_stage (lines h c named) = inl (record { called = h; end = c; apart = joined_by_place.sound.apart; named = named })
     by_stage (selecting z) = inr z
     by_stage (selected z) = absurd (clear.two z.judge.class)
 

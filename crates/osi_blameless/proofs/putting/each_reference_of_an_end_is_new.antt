@@ -12,7 +12,7 @@ use Rattle.osi_judge.specs.Connections as joined
 use Rattle.osi_blameless.proofs.keeping.steps_are_events.{whole_of, IsFollowed, begin_followed, step_followed}
 use Rattle.osi_blameless.proofs.standing.all_connections_stand.{map_of}
 use Rattle.osi_blameless.proofs.shown.connections_have_the_same_places.{unit_agrees, unit_joins}
-use Rattle.osi_blameless.proofs.putting.units_that_wait_give_references_above_those_that_passed.{AreAbove, above_along, gives, passes_given}
+use Rattle.osi_blameless.proofs.transport.requests.units_that_wait_give_references_above_those_that_passed.{AreAbove, above_along, gives, passes_given}
 use Rattle.osi_blameless.proofs.putting.references_of_an_end_are_distinct.{GivesNew, IsUnused}
 use Rattle.osi_blameless.proofs.standing.what_a_unit_does_at_its_place.{Does, asks_again, asks_more, nowhere, somewhere, unit_does}
 use Rattle.osi_blameless.proofs.standing.what_stands_of_a_connection.{named_begun}
@@ -98,16 +98,16 @@ units_up d e b at (v ∷ vs) c places up h =
 
 -- ---- what gives a reference
 
-none_up : (d : Direction) (b : ℕ) (v : Value) → gives d v ≡ None → IsUpTo d b v
+none_up : (d : Direction) (b : ℕ) (v : Value) → gives (way_of d) v ≡ None → IsUpTo d b v
 none_up d b v none = grind arith
 
-some_up : (d : Direction) (b r : ℕ) (v : Value) → gives d v ≡ Some r → 0 < r → r ≤ b → IsUpTo d b v
+some_up : (d : Direction) (b r : ℕ) (v : Value) → gives (way_of d) v ≡ Some r → 0 < r → r ≤ b → IsUpTo d b v
 some_up d b r v given some up = grind arith
 
-none_new : (d : Direction) (v : Value) (t : Sessions) → gives d v ≡ None → GivesNew d v t
+none_new : (d : Direction) (v : Value) (t : Sessions) → gives (way_of d) v ≡ None → GivesNew d v t
 none_new d v t none = grind arith
 
-some_new : (d : Direction) (v : Value) (r : ℕ) (t : Sessions) → gives d v ≡ Some r → IsUnused d r t → GivesNew d v t
+some_new : (d : Direction) (v : Value) (r : ℕ) (t : Sessions) → gives (way_of d) v ≡ Some r → IsUnused d r t → GivesNew d v t
 some_new d v r t given unused = grind arith
 
 -- no connection has a reference above all of the judge
@@ -120,10 +120,10 @@ above_unused d b r t up less = grind arith
 pub record IsAhead (d : Direction) (first : Whole) (j : Joint) : Type 0 where
   pub followed : IsFollowed d first j
   pub bound : ℕ
-  pub above : AreAbove d bound (whole_of followed)
+  pub above : AreAbove (way_of d) bound (whole_of followed)
   pub below : AreUpTo d bound j.judge.sessions
 
-first_above : (d : Direction) (local : Local) → AreAbove d 0 (wholes.begin (calls_from d) local)
+first_above : (d : Direction) (local : Local) → AreAbove (way_of d) 0 (wholes.begin (calls_from d) local)
 first_above d local = record { rise = tt; up = tt; given = omega arith }
 
 pub first_ahead : (d : Direction) (local : Local) (h : Holding) → IsFresh (calls_from d) local h →
@@ -133,7 +133,7 @@ first_ahead d local h fresh =
     record {
       followed = f;
       bound = 0;
-      above = above_along d 0 f.events (wholes.begin (calls_from d) local) (whole_of f) f.along (first_above d local);
+      above = above_along (way_of d) 0 f.events (wholes.begin (calls_from d) local) (whole_of f) f.along (first_above d local);
       below = record { live = λ i j r here named. absurd (cc here); done = λ i j r here named. absurd (cc here) };
     }
 
@@ -168,7 +168,7 @@ module _ (d : Direction) (first : Whole) where
       let ahead : IsAhead d first new = record {
         followed = then_happens d first old new f g.end g.come g.events g.along g.coming g.like;
         bound = h.bound;
-        above = above_along d h.bound g.events (whole_of f) (whole_of g) g.along h.above;
+        above = above_along (way_of d) h.bound g.events (whole_of f) (whole_of g) g.along h.above;
         below = up;
       } in
       record { ahead = ahead; rises = omega arith }
@@ -206,22 +206,22 @@ module _ (d : Direction) (first : Whole) where
   -- ---- a unit of the end
 
   -- the reference of one that passes is above
-  pub passes_above : (at : ℕ) (v : Value) (r : ℕ) → gives d v ≡ Some r → (old new : Joint) → Steps d (passes_own at v) old new →
+  pub passes_above : (at : ℕ) (v : Value) (r : ℕ) → gives (way_of d) v ≡ Some r → (old new : Joint) → Steps d (passes_own at v) old new →
       (h : IsAhead d first old) → h.bound < r
   passes_above at v r given old new (read, octets, (put, begun, is)) h =
       let w = whole_of h.followed in
-      (passes_given d h.bound r v new.put w (record w { put = new.put }) given put refl refl h.above).new_is
+      (passes_given (way_of d) h.bound r v new.put w (record w { put = new.put }) given put refl refl h.above).new_is
 
   pub gives_new : (at : ℕ) (v : Value) (old new : Joint) → Steps d (passes_own at v) old new → IsAhead d first old →
       GivesNew d v old.judge.sessions
-  gives_new at v old new step h = by (gives d v) refl
+  gives_new at v old new step h = by (gives (way_of d) v) refl
     where
-      by : (o : Option ℕ) → gives d v ≡ o → GivesNew d v old.judge.sessions
+      by : (o : Option ℕ) → gives (way_of d) v ≡ o → GivesNew d v old.judge.sessions
       by None none = none_new d v old.judge.sessions none
       by (Some r) given = some_new d v r old.judge.sessions given
           (above_unused d h.bound r old.judge.sessions h.below (passes_above at v r given old new step h))
 
-  pub passes_highest : (at : ℕ) (v : Value) (r : ℕ) → gives d v ≡ Some r → (old new : Joint) → Steps d (passes_own at v) old new →
+  pub passes_highest : (at : ℕ) (v : Value) (r : ℕ) → gives (way_of d) v ≡ Some r → (old new : Joint) → Steps d (passes_own at v) old new →
       HaveSamePlaces old.judge.traffic.connections old.judge.sessions.live → (h : IsAhead d first old) →
       GivesHighest d first h.bound r new
   passes_highest at v r given old new (read, octets, (put, begun, is)) places h =
@@ -230,7 +230,7 @@ module _ (d : Direction) (first : Whole) where
       let next = ap (λ (t : State). record (whole_of f) { put = new.put; begun = false; judge = t }) (unit_traffic d at v old.judge) in
       let g = then_happens d first old mid f f.end f.come (wholes.passes_own ∷ [])
       (seen mid f.end f.come, (v, (put, begun, next)), refl) f.coming f.like in
-      let k = passes_given d h.bound r v new.put (whole_of f) (whole_of g) given put refl refl h.above in
+      let k = passes_given (way_of d) h.bound r v new.put (whole_of f) (whole_of g) given put refl refl h.above in
       let less = k.new_is in
       let ahead : IsAhead d first mid = record {
         followed = g;
@@ -242,7 +242,7 @@ module _ (d : Direction) (first : Whole) where
       subst (GivesHighest d first h.bound r) (sym is) (record { higher = less; ahead = ahead; bound = refl })
 
   passes_another : (at : ℕ) (v : Value) (old new : Joint) → Steps d (passes_own at v) old new →
-      HaveSamePlaces old.judge.traffic.connections old.judge.sessions.live → (h : IsAhead d first old) → gives d v ≡ None →
+      HaveSamePlaces old.judge.traffic.connections old.judge.sessions.live → (h : IsAhead d first old) → gives (way_of d) v ≡ None →
       PassesOn d first h.bound v new
   passes_another at v old new step places h none =
       let g = goes_on (passes_own at v) old new step h
@@ -252,9 +252,9 @@ module _ (d : Direction) (first : Whole) where
 
   pub passes_own_ahead : (at : ℕ) (v : Value) (old new : Joint) → Steps d (passes_own at v) old new →
       HaveSamePlaces old.judge.traffic.connections old.judge.sessions.live → (h : IsAhead d first old) → PassesOn d first h.bound v new
-  passes_own_ahead at v old new step places h = by (gives d v) refl
+  passes_own_ahead at v old new step places h = by (gives (way_of d) v) refl
     where
-      by : (o : Option ℕ) → gives d v ≡ o → PassesOn d first h.bound v new
+      by : (o : Option ℕ) → gives (way_of d) v ≡ o → PassesOn d first h.bound v new
       by None none = passes_another at v old new step places h none
       by (Some r) given =
           let k = passes_highest at v r given old new step places h in

@@ -1,14 +1,13 @@
 -- The calling side knows of class 0 only once it is selected, whatever passes.
 -- For the units of both sides that are no breaks.
-use Rattle.osi_blameless.proofs.Vocabulary.{◌≡◌, sym, subst, ℕ, Bool, List, Option, Some, Value, Zero, Local, Direction}
+use Rattle.osi_blameless.proofs.Vocabulary.{◌≡◌, ℕ, Bool, List, Option, Some, Value, Zero, Local, Direction}
 use Rattle.osi_blameless.proofs.Vocabulary.{Connection, Rules, Way, Reach, Route, Outcome, Traffic, at_found, routed, takes, unnamed_told}
-use Rattle.osi_blameless.proofs.Vocabulary.{Passing, passes, unit, Event, HappenAlong, Happens, Whole, arrives, calls, passes_rubbish}
+use Rattle.osi_blameless.proofs.Vocabulary.{Passing, passes, unit, Event, HappenAlong, Happens, Whole}
 use Rattle.osi_blameless.proofs.Vocabulary.{zero_stays, arith, Joint, way_of}
-use Rattle.osi_rules.specs.Sides as sides
 use Rattle.osi_rules.specs.Traffic.{reached}
-use Rattle.osi_blameless.specs.transport.Wholes.{begin, begins_other, begins_own, passes_other, passes_own}
+use Rattle.osi_blameless.specs.transport.Wholes.{begin}
 use Rattle.osi_blameless.proofs.keeping.steps_are_events.{whole_of, IsFollowed}
-use Rattle.osi_blameless.proofs.transport.what_each_thing_keeps_all_of_them_keep.{along_keeps}
+use Rattle.osi_blameless.proofs.transport.what_each_thing_keeps_all_of_them_keep.{along_keeps, judge_keeps}
 
 -- ---- a unit leaves what the calling side knows
 
@@ -42,17 +41,8 @@ known_once p s h = grind (arith, zero_stays, takes_seen, reached_seen)
 pub unit_known_once : (d : Way) (v : Value) (s : Traffic) → IsKnownOnce s → IsKnownOnce (takes d v s).state
 unit_known_once d v s h = known_once (unit d v) s h
 
-event_known_once : (d : Way) (event : Event) (w new : Whole) → Happens d event w new → IsKnownOnce w.judge → IsKnownOnce new.judge
-event_known_once d arrives w new (u, coming, is) h = subst (λ (x : Whole). IsKnownOnce x.judge) (sym is) h
-event_known_once d (calls call) w new (may, is) h = subst (λ (x : Whole). IsKnownOnce x.judge) (sym is) h
-event_known_once d begins_own w new (some, none, is) h = grind (arith, known_once)
-event_known_once d passes_own w new (v, (put, begun, is)) h = grind (arith, known_once (unit d v) w.judge h)
-event_known_once d begins_other w new is h = grind (arith, known_once)
-event_known_once d (passes_other v) w new (ranges, is) h = grind (arith, known_once (unit (sides.other d) v) w.judge h)
-event_known_once d passes_rubbish w new is h = grind (arith, known_once)
-
 all_known_once : (d : Way) (events : List Event) (w new : Whole) → HappenAlong d w events new → IsKnownOnce w.judge → IsKnownOnce new.judge
-all_known_once d = along_keeps (Happens d) (λ w. IsKnownOnce w.judge) (event_known_once d)
+all_known_once d = along_keeps (Happens d) (λ w. IsKnownOnce w.judge) (judge_keeps IsKnownOnce known_once d)
 
 -- at every step of an end and a judge
 pub joint_known_once : (d : Direction) (is_caller : Bool) (local : Local) (j : Joint) → IsFollowed d (begin is_caller local) j →

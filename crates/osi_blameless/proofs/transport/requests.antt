@@ -9,6 +9,8 @@ pub mod an_end_has_broken_no_rule
 pub mod what_lasts_at_the_judge
 pub mod a_connection_is_lost_in_class_2_alone
 pub mod which_requests_are_put
+pub mod a_cc_is_put_only_for_a_cr
+pub mod units_that_wait_give_references_above_those_that_passed
 pub mod a_request_of_a_whole_end_is_new
 pub mod left_selects_no_class
 pub mod class_0_stays_selected

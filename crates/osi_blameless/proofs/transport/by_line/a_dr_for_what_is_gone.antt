@@ -13,7 +13,8 @@ use Rattle.osi_carrier.specs.State.{State}
 use Rattle.osi_blameless.specs.transport.Wholes.{begins_other, begins_own, passes_other, passes_own}
 use Rattle.osi_blameless.proofs.transport.small_facts_that_many_lemmas_use.{none_of}
 use Rattle.osi_blameless.proofs.transport.names.a_reference_names_one_connection.{passes_apart}
-use Rattle.osi_blameless.proofs.transport.requests.a_request_of_a_whole_end_is_new.{Newer, rise_all, still_newer, unit_gives}
+use Rattle.osi_blameless.proofs.transport.requests.a_request_of_a_whole_end_is_new.{Newer, rise_all, still_newer}
+use Rattle.osi_blameless.proofs.transport.requests.references_of_requests_rise.{unit_gives}
 use Rattle.osi_blameless.proofs.transport.names.all_are_judged_unless_one_broke.{still_judged}
 use Rattle.osi_blameless.proofs.transport.requests.how_a_calling_end_asks.{over_takes}
 use Rattle.osi_blameless.proofs.transport.requests.references_of_requests_rise.{Rise, all_gives, closed_gives, ended_gives, not_less}
@@ -36,6 +37,7 @@ use Rattle.osi_blameless.proofs.transport.connections.what_is_live_at_an_end.{Gi
 use Rattle.osi_blameless.proofs.transport.connections.what_is_live_at_an_end.{gives_more, timely_begins}
 use Rattle.osi_blameless.proofs.transport.connections.what_is_live_at_an_end.{timely_calls, timely_closes, timely_comes, timely_gives}
 use Rattle.osi_blameless.proofs.transport.connections.what_is_live_at_an_end.{timely_puts, timely_takes}
+use Rattle.osi_blameless.proofs.transport.requests.units_that_wait_give_references_above_those_that_passed.{given_among}
 
 -- ---- the end takes a unit, and its user makes a call
 
@@ -106,7 +108,7 @@ own w v put e n distinct l =
 -- ---- a unit of the other side passes
 
 -- the references of CRs that are to pass are above those at the judge
-all_above : (n last : ℕ) (units : List Value) → n ≤ last → Rise last (asked_among units) →
+all_above : (n last : ℕ) (units : List Value) → n ≤ last → Rise last (given_among Left units) →
     AllByRecursion (Gives Left (λ m. m ≡ n → ⊥)) units
 all_above n last units h r =
     gives_more Left (λ m. last < m) (λ m. m ≡ n → ⊥) units (λ m up same. absurd (omega arith)) (rise_all last units r)
@@ -120,10 +122,10 @@ came w v n l (stays e judge) =
     timely_comes Left w.end w.coming w.judge.connections (takes Right v w.judge).state.connections w.put v e (dr_none v e) judge l
 came w v n l (closes_one q e p c at is dr judge) =
     let below = n.below p c at in
-    let last = n.given in
+    let last = n.above.given in
     timely_closes Left w.end w.coming w.judge.connections (takes Right v w.judge).state.connections w.put v q e
     (λ m k. subst (IsHeld Left w.end w.coming) (same_closed v q m e k) (dr (is_dr v m k))) (omega arith) judge
-    (all_above q n.last w.put (omega arith) n.rise) l
+    (all_above q n.last w.put (omega arith) n.above.rise) l
 
 -- ---- all that holds
 

@@ -532,7 +532,7 @@ module _ (local : Local) (w : Whole) (f : Followed local w) (sane : IsSane w.jud
     requests = all_two (λ u. (x : Connect) → u ≡ request x → IsAsking local w.end w.coming x)
         (λ u. (x : Connect) → u ≡ request x → newer.last < x.source)
         (λ u. (x : Connect) → u ≡ request x → IsAsking local w.end more x) w.put
-        new_request f.requests (rise_all newer.last w.put newer.rise);
+        new_request f.requests (rise_all newer.last w.put newer.above.rise);
     two = λ r k.
         let (i, x, there, tracked, is) = k in class_from r i x tracked is next_so (item i x there);
     silent = λ i x there silent. f.silent i x (was_waiting i x silent next_so (item i x there)) silent;

@@ -7,7 +7,8 @@ use Rattle.osi_blameless.proofs.transport.Vocabulary.{State}
 use Rattle.osi_blameless.proofs.transport.Vocabulary.{state_is, subst, sym, true, user_does, UserCall, Value, Whole, ℕ, ◌++◌, ◌∙◌, ◌∷◌, ◌≡◌}
 use Rattle.osi_blameless.proofs.transport.Vocabulary.{◌≤◌, ◌⊎◌}
 use Rattle.osi_blameless.proofs.transport.small_facts_that_many_lemmas_use.{none_of as no_end}
-use Rattle.osi_blameless.proofs.transport.requests.a_request_of_a_whole_end_is_new.{Newer, unit_gives}
+use Rattle.osi_blameless.proofs.transport.requests.a_request_of_a_whole_end_is_new.{Newer}
+use Rattle.osi_blameless.proofs.transport.requests.references_of_requests_rise.{unit_gives}
 use Rattle.osi_blameless.proofs.transport.by_line.an_end_makes_a_call.{end_calls, nothing_so, same_up}
 use Rattle.osi_blameless.proofs.transport.by_line.an_end_takes_a_unit.{end_takes}
 use Rattle.osi_blameless.proofs.transport.by_line.what_a_unit_leaves_at_the_end.{two_outcome}

@@ -15,7 +15,7 @@ use Rattle.std.proofs.lemmas.List.{append_assoc}
 unfoldable use Rattle.osi_carrier.specs.React.{react}
 use Rattle.osi_blameless.proofs.transport.small_facts_that_many_lemmas_use.{all_join, differ, number_is as same_number, number_is}
 use Rattle.osi_blameless.proofs.transport.lines.a_carrier_follows_lines.{follows_open}
-use Rattle.osi_blameless.proofs.transport.requests.a_request_of_a_whole_end_is_new.{unit_gives}
+use Rattle.osi_blameless.proofs.transport.requests.references_of_requests_rise.{unit_gives}
 use Rattle.osi_blameless.proofs.transport.by_line.each_connection_has_its_line.{followed_at, Followed, Following, IsAnswer, IsNoCc}
 use Rattle.osi_blameless.proofs.transport.by_line.each_connection_has_its_line.{IsSpare, Row, Tracked, asks}
 use Rattle.osi_blameless.proofs.transport.by_line.each_connection_has_its_line.{closes, is_tracked, over, talks}

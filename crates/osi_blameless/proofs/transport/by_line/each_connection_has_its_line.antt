@@ -19,6 +19,7 @@ use Rattle.osi_blameless.proofs.transport.names.what_holds_of_one_item.{HoldsOfE
 use Rattle.osi_blameless.proofs.transport.connections.which_units_are_for_a_connection.{IsDc, IsOf, is_dc, is_ours, leads, ours, those}
 use Rattle.osi_blameless.proofs.transport.connections.which_units_are_for_a_connection.{picked_first}
 use Rattle.osi_blameless.proofs.transport.connections.a_line_since_its_connection_opened.{Tracks, close_waits, tracks_keep, tracks_on}
+pub use Rattle.osi_blameless.proofs.transport.requests.a_cc_is_put_only_for_a_cr.{IsNoCc}
 
 -- ---- the connections at the judge
 
@@ -46,10 +47,6 @@ pub data Row (local : Local) (end : State) (coming : List Value) (r peer : ℕ) 
       those r coming ≡ line.coming → Row local end coming r peer line
   -- it has ended
   over : is_some end.ended ≡ true → Row local end coming r peer line
-
--- no CC
-abbrev pub IsNoCc : Value → Type 0
-IsNoCc v = (m : ℕ) (x : Connect) → v ≡ confirm m x → ⊥
 
 -- a DC for a DR that closed nothing
 pub record IsSpare (is_stray : Bool) (r peer : ℕ) (v : Value) : Type 0 where

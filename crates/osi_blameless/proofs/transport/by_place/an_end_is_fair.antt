@@ -77,12 +77,16 @@ pub data Stage (local : Local) (w : Whole) : Type 0 where
   selecting : Selecting local w → Stage local w
   selected : IsZeroed Right w.end w.put w.begun w.judge → Stage local w
 
-pub record Joined (local : Local) (w : Whole) : Type 0 where
-  pub apart : AreApart w.judge.connections
-  pub judged : AreJudged w.judge
+-- of the judge, whatever passes
+pub record IsSound (s : Traffic) : Type 0 where
+  pub apart : AreApart s.connections
+  pub judged : AreJudged s
   pub passings : List Passing
-  pub judge : w.judge ≡ all_passed passings fresh
-  pub two : IsOfTwo w.judge.course
+  pub is : s ≡ all_passed passings fresh
+  pub two : IsOfTwo s.course
+
+pub record Joined (local : Local) (w : Whole) : Type 0 where
+  pub sound : IsSound w.judge
   pub stage : IsCalm w.judge.course → Stage local w
   -- as long as the other side is judged, this one is
   pub right : w.judge.course.left_stopped ≡ false → w.judge.course.right_stopped ≡ false
@@ -98,8 +102,14 @@ one_more : (ps : List Passing) (p : Passing) (s : Traffic) → all_passed (ps ++
 one_more [] p s = refl
 one_more (q ∷ ps) p s = one_more ps p (passes q s)
 
-judge_next : (local : Local) (w : Whole) (p : Passing) (j : Joined local w) → passes p w.judge ≡ all_passed (j.passings ++ p ∷ []) fresh
-judge_next local w p j = ap (passes p) j.judge ∙ sym (one_more j.passings p fresh)
+sound_passing : (p : Passing) (s : Traffic) → IsSound s → IsSound (passes p s)
+sound_passing p s h = record {
+  apart = passes_apart p s h.apart;
+  judged = still_judged p s h.judged;
+  passings = h.passings ++ p ∷ [];
+  is = ap (passes p) h.is ∙ sym (one_more h.passings p fresh);
+  two = still_two p s h.two;
+}
 
 -- while no class is selected one CR waits
 one_so : (local : Local) (w : Whole) (j : Joined local w) → w.judge.course.class ≡ None → HoldsOfOne (is_live Left) w.judge.connections
@@ -108,7 +118,7 @@ one_so local w j none = grind (arith, one_waits)
 module _ (local : Local) (w : Whole) (j : Joined local w) where
   -- a connection is lost in class 2 alone
   firm_in : (k : Option Class) → w.judge.course.class ≡ k → (k ≡ Some Two → ⊥) → HoldsOfEach IsJudged w.judge.connections
-  firm_in k is none = j.judged (firm_unless_two w.judge.course j.two (λ e. none (sym is ∙ e)))
+  firm_in k is none = j.sound.judged (firm_unless_two w.judge.course j.sound.two (λ e. none (sym is ∙ e)))
 
   taken_by : (u : Value) (later : List Value) (f : Called local w) (c : IsCalled local w.end) (come : w.coming ≡ u ∷ later) →
       AreNamedApart Left w.judge.connections →
@@ -133,12 +143,12 @@ module _ (local : Local) (w : Whole) (j : Joined local w) where
   calls_stage call may (selected f) = selected (zeroed_calls Right w.end w.put w.begun w.judge f call may)
 
   own_stage : w.begun ≡ false → w.put ≢ [] → Stage local w → Stage local (record w { begun = true; judge = packet_begins Right w.judge })
-  own_stage e some (lines f c named) = lines (line_begins local w f e some) c (end_begins Left w.judge.connections j.apart named)
+  own_stage e some (lines f c named) = lines (line_begins local w f e some) c (end_begins Left w.judge.connections j.sound.apart named)
   own_stage e some (selecting f) = selecting (selecting_begins local Right w true (λ c h k. refl) f)
   own_stage e some (selected f) = selected (zeroed_begins Right w.end w.put w.begun w.judge f)
 
   other_stage : Stage local w → Stage local (record w { judge = packet_begins Left w.judge })
-  other_stage (lines f c named) = lines (lines_begin local w f) c (side_begins Left w.judge.connections j.apart named)
+  other_stage (lines f c named) = lines (lines_begin local w f) c (side_begins Left w.judge.connections j.sound.apart named)
   other_stage (selecting f) = selecting (selecting_begins local Left w w.begun (λ c h k. h k) f)
   other_stage (selected f) = selected (zeroed_elsewhere Right w.end w.put w.begun w.judge f)
 
@@ -149,10 +159,10 @@ module _ (local : Local) (w : Whole) (j : Joined local w) where
       Passes v rest
   passes_stage v rest e begun calm (lines f c named) =
       let knows = dc_known Right w v rest j.informed calm.left begun e in
-      grind (arith, own_passes local w f j.apart named j.judged calm.right v rest begun knows e)
+      grind (arith, own_passes local w f j.sound.apart named j.sound.judged calm.right v rest begun knows e)
   passes_stage v rest e begun calm (selecting f) =
       let all = firm_in None f.class (λ no. cc no) in
-      let (fine, after) = selecting_passes local w j.apart all calm.right v rest begun e f in (inl fine, selected after)
+      let (fine, after) = selecting_passes local w j.sound.apart all calm.right v rest begun e f in (inl fine, selected after)
   passes_stage v rest e begun calm (selected f) =
       let (fine, after) = zeroed_passes Right w.end w.put w.begun w.judge v rest calm.right e begun f in (inl fine, selected after)
 
@@ -161,48 +171,32 @@ module _ (local : Local) (w : Whole) (j : Joined local w) where
   comes_stage v ranges calm calm_after (lines f c named) = grind (arith, comes_so)
   comes_stage v ranges calm calm_after (selecting f) =
       selecting (selecting_comes w v local f (j.fine calm.left) calm_after)
-  comes_stage v ranges calm calm_after (selected f) = selected (selected_comes w.end w.put w.begun w.judge f j.apart v)
+  comes_stage v ranges calm calm_after (selected f) = selected (selected_comes w.end w.put w.begun w.judge f j.sound.apart v)
 
 pub next_joined : (local : Local) (event : Event) (w new : Whole) → Happens Right event w new → Joined local w → Joined local new
 next_joined local arrives w new (u, coming, is) j = subst (Joined local) (sym is) (record {
-  apart = j.apart;
-  judged = j.judged;
-  passings = j.passings;
-  judge = j.judge;
-  two = j.two;
+  sound = j.sound;
   stage = λ calm. takes_stage local w j u new.coming coming calm (j.stage calm);
   right = j.right;
   fine = j.fine;
   informed = next_informed Right arrives w _ (u, coming, refl) j.informed;
 })
 next_joined local (calls call) w new (may, is) j = subst (Joined local) (sym is) (record {
-  apart = j.apart;
-  judged = j.judged;
-  passings = j.passings;
-  judge = j.judge;
-  two = j.two;
+  sound = j.sound;
   stage = λ calm. calls_stage local w j call may (j.stage calm);
   right = j.right;
   fine = j.fine;
   informed = next_informed Right (calls call) w _ (may, refl) j.informed;
 })
 next_joined local begins_own w new (some, not_begun, is) j = subst (Joined local) (sym is) (record {
-  apart = passes_apart (packet Right) w.judge j.apart;
-  judged = still_judged (packet Right) w.judge j.judged;
-  passings = j.passings ++ packet Right ∷ [];
-  judge = judge_next local w (packet Right) j;
-  two = still_two (packet Right) w.judge j.two;
+  sound = sound_passing (packet Right) w.judge j.sound;
   stage = λ calm. own_stage local w j not_begun some (j.stage (calm_was (packet Right) w calm));
   right = j.right;
   fine = j.fine;
   informed = next_informed Right begins_own w _ (some, not_begun, refl) j.informed;
 })
 next_joined local passes_own w new (v, (put, begun, is)) j = subst (Joined local) (sym is) (record {
-  apart = passes_apart (passing Right v) w.judge j.apart;
-  judged = still_judged (passing Right v) w.judge j.judged;
-  passings = j.passings ++ passing Right v ∷ [];
-  judge = judge_next local w (passing Right v) j;
-  two = still_two (passing Right v) w.judge j.two;
+  sound = sound_passing (passing Right v) w.judge j.sound;
   stage = λ calm.
       let before = calm_was (passing Right v) w calm in
       (passes_stage local w j v new.put put begun before (j.stage before)).1;
@@ -218,22 +212,14 @@ next_joined local passes_own w new (v, (put, begun, is)) j = subst (Joined local
   informed = next_informed Right passes_own w _ (v, (put, begun, refl)) j.informed;
 })
 next_joined local begins_other w new is j = subst (Joined local) (sym is) (record {
-  apart = passes_apart (packet Left) w.judge j.apart;
-  judged = still_judged (packet Left) w.judge j.judged;
-  passings = j.passings ++ packet Left ∷ [];
-  judge = judge_next local w (packet Left) j;
-  two = still_two (packet Left) w.judge j.two;
+  sound = sound_passing (packet Left) w.judge j.sound;
   stage = λ calm. other_stage local w j (j.stage (calm_was (packet Left) w calm));
   right = j.right;
   fine = j.fine;
   informed = next_informed Right begins_other w _ refl j.informed;
 })
 next_joined local (passes_other v) w new (ranges, is) j = subst (Joined local) (sym is) (record {
-  apart = passes_apart (passing Left v) w.judge j.apart;
-  judged = still_judged (passing Left v) w.judge j.judged;
-  passings = j.passings ++ passing Left v ∷ [];
-  judge = judge_next local w (passing Left v) j;
-  two = still_two (passing Left v) w.judge j.two;
+  sound = sound_passing (passing Left v) w.judge j.sound;
   stage = λ calm.
       let before = calm_was (passing Left v) w calm in comes_stage local w j v ranges before calm (j.stage before);
   right = λ left.
@@ -243,11 +229,7 @@ next_joined local (passes_other v) w new (ranges, is) j = subst (Joined local) (
   informed = next_informed Right (passes_other v) w _ (ranges, refl) j.informed;
 })
 next_joined local passes_rubbish w new is j = subst (Joined local) (sym is) (record {
-  apart = passes_apart (rubbish Left) w.judge j.apart;
-  judged = still_judged (rubbish Left) w.judge j.judged;
-  passings = j.passings ++ rubbish Left ∷ [];
-  judge = judge_next local w (rubbish Left) j;
-  two = still_two (rubbish Left) w.judge j.two;
+  sound = sound_passing (rubbish Left) w.judge j.sound;
   stage = λ calm. by_reach Left w.judge.course.class_seen w.judge.course calm;
   right = grind (arith, lasts_passing);
   fine = grind (arith, lasts_passing, rubbish_fine);
@@ -260,11 +242,13 @@ all_joined local = along_keeps (Happens Right) (Joined local) (next_joined local
 
 pub first_joined : (local : Local) → Joined local (begin false local)
 first_joined local = record {
-  apart = fresh_apart;
-  judged = λ firm i c at. no_item i c at;
-  passings = [];
-  judge = refl;
-  two = record { lost = λ e. absurd (cc e); seen = λ e. absurd (cc e) };
+  sound = record {
+    apart = fresh_apart;
+    judged = λ firm i c at. no_item i c at;
+    passings = [];
+    is = refl;
+    two = record { lost = λ e. absurd (cc e); seen = λ e. absurd (cc e) };
+  };
   right = λ left. refl;
   fine = λ left. refl;
   informed = first_informed Right false local;

@@ -85,9 +85,9 @@ next_alone local event w new h j a still left = by w.judge.course.left_stopped r
     right = (lasts_happening Right event w new h).right still
 
     by : (b : Bool) → w.judge.course.left_stopped ≡ b → IsZeroAt new
-    by true was = zeroed_next event w new h j.apart right (a right was)
+    by true was = zeroed_next event w new h j.sound.apart right (a right was)
     by false was =
-        zeroed_next event w new h j.apart right
+        zeroed_next event w new h j.sound.apart right
         (by_seen_class local w (alone_first local event w new h j right was still left) (j.stage (calm_so w right was)))
 
 all_alone : (local : Local) (events : List Event) (w new : Whole) → HappenAlong Right w events new → Joined local w × Alone w →

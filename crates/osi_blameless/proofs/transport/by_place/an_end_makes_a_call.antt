@@ -15,7 +15,8 @@ use Rattle.osi_blameless.proofs.transport.Vocabulary.{with_tsdu, ℕ}
 use Rattle.osi_blameless.proofs.transport.Vocabulary.{◌++◌, ◌==◌, ◌∙◌, ◌∷◌, ◌≡◌, ◌≤◌}
 use Rattle.osi_carrier.specs.Calls.{sent_on}
 use Rattle.osi_blameless.proofs.transport.small_facts_that_many_lemmas_use.{none_of}
-use Rattle.osi_blameless.proofs.transport.by_place.what_becomes_of_an_end.{IsCalled, Same, called_still, none_by_call}
+use Rattle.osi_blameless.proofs.transport.by_place.what_becomes_of_an_end.{IsCalled, Same, called_still}
+use Rattle.osi_blameless.proofs.transport.requests.a_cc_is_put_only_for_a_cr.{none_by_call}
 use Rattle.osi_blameless.proofs.transport.lines.a_carrier_follows_lines.{follows_closed, follows_sent}
 use Rattle.osi_blameless.proofs.transport.lines.calls_of_a_line_join.{follows_together, still_open}
 use Rattle.osi_blameless.proofs.transport.by_place.each_connection_has_its_place.{Called}

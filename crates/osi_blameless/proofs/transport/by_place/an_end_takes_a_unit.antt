@@ -38,11 +38,12 @@ use Rattle.osi_blameless.proofs.transport.connections.what_is_live_at_an_end.{Is
 use Rattle.osi_blameless.proofs.transport.connections.which_units_are_for_a_connection.{first_kept, first_left, named_not, named_so, those}
 use Rattle.osi_blameless.proofs.transport.by_place.what_becomes_of_an_end.{above_up, rows_none, IsCalled, Same, called_still, no_row}
 use Rattle.osi_blameless.proofs.transport.by_place.what_becomes_of_an_end.{touch_rows, touch_none}
-use Rattle.osi_blameless.proofs.transport.by_place.what_becomes_of_an_end.{touch_lives, push_lives, none_but_cr, OpenSo, open_so}
+use Rattle.osi_blameless.proofs.transport.by_place.what_becomes_of_an_end.{touch_lives, push_lives, OpenSo, open_so}
 use Rattle.osi_blameless.proofs.transport.by_place.what_becomes_of_an_end.{dc_follows}
 use Rattle.osi_blameless.proofs.transport.by_place.what_becomes_of_an_end.{closing_touches, closing_puts, closing_same}
 use Rattle.osi_blameless.proofs.transport.by_place.an_end_makes_a_call.{given_same, same_peer}
 use Rattle.osi_blameless.proofs.transport.class_0.a_dt_of_class_zero_passes.{unlike}
+use Rattle.osi_blameless.proofs.transport.requests.a_cc_is_put_only_for_a_cr.{none_but_cr}
 
 -- ---- small facts
 

@@ -1,17 +1,16 @@
 -- What a called end has after it has taken a unit: its class, its references, and which of its connections are live.
 -- For the law on a whole called end.
-use Rattle.osi_blameless.proofs.transport.Vocabulary.{[], AllByRecursion, ap, AreUpTo, arith, asked, Bool, breaks_in, CarrierOutcome, Class}
+use Rattle.osi_blameless.proofs.transport.Vocabulary.{[], ap, AreUpTo, arith, asked, Bool, breaks_in, CarrierOutcome, Class}
 use Rattle.osi_blameless.proofs.transport.Vocabulary.{closes_with}
-use Rattle.osi_blameless.proofs.transport.Vocabulary.{closing, confirm, Connect, destination_of, disconnect, disconnected, Ends, eqb-true}
+use Rattle.osi_blameless.proofs.transport.Vocabulary.{closing, confirm, destination_of, disconnect, disconnected, Ends, eqb-true}
 use Rattle.osi_blameless.proofs.transport.Vocabulary.{Err, false}
-use Rattle.osi_blameless.proofs.transport.Vocabulary.{Flow, Follows, Given, handed_out, is_some, IsOrderly, link_now, linked, LinkFault}
+use Rattle.osi_blameless.proofs.transport.Vocabulary.{Flow, Follows, handed_out, is_some, IsOrderly, link_now, linked, LinkFault}
 use Rattle.osi_blameless.proofs.transport.Vocabulary.{List, Live, Local}
-use Rattle.osi_blameless.proofs.transport.Vocabulary.{None, Ok, Option, packets, pumped, push_here, push_other, put, put_by, put_for}
+use Rattle.osi_blameless.proofs.transport.Vocabulary.{None, Ok, Option, packets, pumped, push_here, push_other, put, put_for}
 use Rattle.osi_blameless.proofs.transport.Vocabulary.{put_here, put_other}
-use Rattle.osi_blameless.proofs.transport.Vocabulary.{puts_none, refl, request, Result, Right, RiseFrom, row_here, Rows, Some, Standing}
+use Rattle.osi_blameless.proofs.transport.Vocabulary.{puts_none, refl, Result, Right, RiseFrom, row_here, Rows, Some, Standing}
 use Rattle.osi_blameless.proofs.transport.Vocabulary.{State, state_is}
-use Rattle.osi_blameless.proofs.transport.Vocabulary.{subst, sym, taken_by, taking, to_closing, to_linked, true, Two, unit_of, unit_written}
-use Rattle.osi_blameless.proofs.transport.Vocabulary.{UserCall}
+use Rattle.osi_blameless.proofs.transport.Vocabulary.{subst, sym, taken_by, taking, to_closing, to_linked, true, Two, unit_written}
 use Rattle.osi_blameless.proofs.transport.Vocabulary.{Value, value_at, without, without_here, without_other, WrongForm, ℕ, ◌++◌, ◌==◌, ◌∙◌}
 use Rattle.osi_blameless.proofs.transport.Vocabulary.{◌∷◌, ◌≡◌, ◌≤◌}
 use Rattle.osi_blameless.proofs.transport.Vocabulary.{◌⊎◌}
@@ -19,13 +18,11 @@ unfoldable use Rattle.osi_carrier.specs.React.{react}
 use Rattle.osi_blameless.proofs.transport.by_place.each_connection_has_its_place.{AreAbove}
 use Rattle.osi_blameless.proofs.transport.lines.a_carrier_follows_lines.{outcome_at}
 use Rattle.osi_blameless.proofs.transport.by_place.what_an_end_does_to_its_lines.{Leaves, still}
-use Rattle.osi_blameless.proofs.transport.requests.what_a_carrier_puts.{Confirms, accepts_none, confirms_any, put_by_so, put_for_so}
 use Rattle.osi_blameless.proofs.transport.connections.what_is_live_at_an_end.{IsLive, shuts_of}
 use Rattle.osi_blameless.proofs.transport.pieces.a_run_of_calls_is_events.{no_end}
 use Rattle.osi_blameless.proofs.transport.class_0.a_dt_of_class_zero_passes.{unlike}
 use Rattle.osi_blameless.proofs.transport.class_0.what_an_end_does_in_class_zero.{some_is}
 use Rattle.osi_blameless.proofs.transport.by_place.what_an_end_does_to_its_lines.{shuts}
-pub use Rattle.osi_blameless.proofs.transport.by_line.each_connection_has_its_line.{IsNoCc}
 
 -- ---- the end
 
@@ -91,24 +88,6 @@ pushed_still r z k ((i, y) ∷ rows) h = pushed_by r i z k y rows (i == r) refl 
 pub push_lives : (m r : ℕ) (k : Live) (rows : Rows Live) → is_some (value_at m rows) ≡ true →
     is_some (value_at m (rows ++ (r, k) ∷ [])) ≡ true
 push_lives m r k rows live = grind (arith, push_other, unlike, eqb-true, push_here, pushed_still)
-
--- ---- units that are no CCs
-
-pub given_no_cc : (peer : ℕ) (g : Given) → IsNoCc (unit_of peer g)
-given_no_cc peer g = grind arith
-
-pub closing_no_cc : (m n reason : ℕ) → IsNoCc (disconnect m n reason [])
-closing_no_cc m n reason i x e = cc e
-
-pub confirms_no_cc : (u : Value) → Confirms IsNoCc u
-confirms_no_cc u = confirms_any IsNoCc (λ m n i x e. cc e) u
-
--- a CC is put only for a CR
-pub none_but_cr : (u : Value) (s : State) → ((x : Connect) → u ≡ request x → ⊥) → AllByRecursion IsNoCc (put_for u s)
-none_but_cr u s no_cr = put_for_so IsNoCc given_no_cc closing_no_cc s u (accepts_none IsNoCc s u no_cr) (confirms_no_cc u)
-
-pub none_by_call : (call : UserCall) (s : State) → AllByRecursion IsNoCc (put_by call s)
-none_by_call call s = put_by_so IsNoCc given_no_cc closing_no_cc (λ y i x e. cc e) call s
 
 -- ---- an open connection
 

@@ -32,7 +32,7 @@ holds_all local = along_keeps (Happens Left) (Holds local) (holds_next local)
 
 pub holds_first : (local : Local) → Holds local (begin true local)
 holds_first local = record {
-  newer = record { last = 0; below = λ i c at. no_item i c at; rise = tt; up = tt; given = omega arith };
+  newer = record { last = 0; below = λ i c at. no_item i c at; above = record { rise = tt; up = tt; given = omega arith } };
   stage = λ goes.
       quiet (record { lasts = refl; caller = refl; class = refl; live = refl }, refl) refl refl [] no_disconnects refl
       (λ i c at. no_item i c at) tt;
