@@ -20,6 +20,7 @@ use Rattle.osi_blameless.proofs.accord.a_pair_explains_both_sides.{both_explaine
 use Rattle.osi_blameless.proofs.accord.one_connection_has_a_number.{told_of_one}
 use Rattle.osi_blameless.proofs.accord.two_runs_are_one.{accord_of}
 use Rattle.osi_blameless.proofs.accord.what_passed_by_then_stands_in_front.{passes}
+use Rattle.osi_blameless.proofs.accord.one_connection_has_a_number.{same_joined as same_one}
 
 -- what the other side hears of TSDUs
 heard_so : (said : List Said) → map octets_told (map told_of said) ≡ map octets_of said
@@ -28,9 +29,6 @@ heard_so (t ∷ said) = ap (λ (x : List (List ℕ)). t.octets ∷ x) (heard_so 
 
 heard_as : (s : Spoken) (ts : List Told) → ts ≡ told s → map octets_told ts ≡ heard s
 heard_as s ts e = ap (map octets_told) e ∙ heard_so s.said
-
-same_one : (j k : Joined) → Some j ≡ Some k → j ≡ k
-same_one j k e = cc
 
 -- ---- two sides of a connection, with the TSDUs of both in an order
 

@@ -41,6 +41,7 @@ use Rattle.osi_blameless.proofs.standing.what_passes_leaves_all_standing.{AllGoe
 use Rattle.osi_blameless.proofs.standing.what_stands_of_a_connection.{is_for, waiting_for}
 use Rattle.osi_blameless.proofs.steps.what_the_turns_among_steps_do.{TurnDoes}
 use Rattle.osi_blameless.proofs.transport.small_facts_that_many_lemmas_use.{units_join}
+use Rattle.osi_blameless.proofs.transport.connections.what_stays_of_each_connection.{left_judged as own_judged}
 
 -- ---- what is so
 
@@ -91,9 +92,6 @@ still_tracked local w next more j then_j clear then_clear same is r may tracked 
     (ap (λ (c : Carrier). value_at r c.live) same ∙ (asked_so r w.end given may.1).1) (has_cc local w r j clear tracked given may.1 lasts)
 
 -- ---- a unit of the end passes
-
-own_judged : (r : Reach) (c : Connection) → (judged_on r c).left ≡ c.left
-own_judged r c = grind arith
 
 -- right has sent a CC, and has not answered a DR of left
 there_by : (c : Connection) (n : ℕ) (p : Phase) → Sound c → is_open c.left.phase ≡ true → c.right.phase ≡ p →

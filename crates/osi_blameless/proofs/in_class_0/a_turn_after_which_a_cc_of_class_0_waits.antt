@@ -27,6 +27,7 @@ use Rattle.osi_blameless.proofs.coming.what_is_in_flight_to_an_end.{parts_taken}
 use Rattle.osi_blameless.proofs.standing.what_stands_of_a_connection.{is_for, waiting_for}
 use Rattle.osi_blameless.proofs.in_class_0.what_the_stage_of_a_whole_end_says.{IsDt0, all_data}
 use Rattle.osi_blameless.proofs.steps.what_the_turns_among_steps_do.{TurnDoes}
+use Rattle.osi_blameless.proofs.transport.small_facts_that_many_lemmas_use.{no_list}
 
 -- ---- small facts
 
@@ -39,9 +40,6 @@ none_named o r h e = absurd (cc)
 none_first : (xs ys : List Part) → [] ≡ xs ++ ys → xs ≡ []
 none_first [] ys e = refl
 none_first (x ∷ xs) ys e = absurd (cc)
-
-no_list : (v : Value) (vs : List Value) → v ∷ vs ≡ [] → ⊥
-no_list v vs e = cc
 
 same_later : (u v : Value) (us vs : List Value) → u ∷ us ≡ v ∷ vs → us ≡ vs
 same_later u v us vs e = cc

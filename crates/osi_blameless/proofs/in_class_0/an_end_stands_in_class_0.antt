@@ -4,7 +4,7 @@
 use Rattle.osi_blameless.proofs.Vocabulary.{◌≡◌, ◌≢◌, ◌∙◌, refl, sym, ap, subst, ℕ, ◌^◌, ◌<◌, ◌≤◌, Bool, true, false, List, [], ◌∷◌, ◌++◌}
 use Rattle.osi_blameless.proofs.Vocabulary.{length, Option, Some, None, arith, slice_get, append-nil, append_assoc, AllByRecursion}
 use Rattle.osi_blameless.proofs.Vocabulary.{Connect, Value, acknowledge, confirm, data0, data2, disconnect, disconnected, error}
-use Rattle.osi_blameless.proofs.Vocabulary.{request, is_over, list_all, not, unlike, eqb-true, ◌==◌, is_refused, differ, unit_parts, Part}
+use Rattle.osi_blameless.proofs.Vocabulary.{request, is_over, list_all, unlike, eqb-true, ◌==◌, is_refused, differ, unit_parts, Part}
 use Rattle.osi_blameless.proofs.Vocabulary.{Class, Two, Zero, Local, Direction, Left, Right, other, State, class_for, takes}
 use Rattle.osi_blameless.proofs.Vocabulary.{zero_stays, Deeds, units_in, past, stage_at, Joined, Sessions, spoken}
 use Rattle.osi_blameless.proofs.Vocabulary.{Course, packet_begins, unit_passes, units_pass, heard, way_of, Joint, Steps}
@@ -21,7 +21,7 @@ use Rattle.osi_blameless.proofs.standing.a_dt_of_class_0_leaves_all_standing as 
 use Rattle.osi_blameless.proofs.standing.a_dt_of_class_0_leaves_all_standing.{GrowsThere, IsHeardZero, IsZero, told_there}
 use Rattle.osi_blameless.proofs.putting.a_turn_does_what_its_deeds_say.{units_more}
 use Rattle.osi_blameless.proofs.standing.all_connections_stand.{AllStand, all_begin_other, all_begin_own}
-use Rattle.osi_blameless.proofs.standing.class_0_has_one_connection.{all_so}
+use Rattle.osi_blameless.proofs.transport.requests.one_request_waits.{all_so}
 use Rattle.osi_blameless.proofs.in_class_0.class_0_keeps_its_one_place.{HasOne, IsStill, one_begins, one_stays, zero_still}
 use Rattle.osi_blameless.proofs.shown.connections_have_the_same_places.{unit_knows}
 use Rattle.osi_blameless.proofs.putting.each_reference_of_an_end_is_new.{GoesOn, IsAhead, IsUpTo, IsWithin, begins_other_ahead}
@@ -37,6 +37,7 @@ use Rattle.osi_blameless.proofs.standing.what_passes_leaves_all_standing as in_t
 use Rattle.osi_blameless.proofs.standing.what_passes_leaves_all_standing.{IsHeardFirm, cc_broke, goes_on}
 use Rattle.osi_blameless.proofs.standing.what_stands_of_a_connection.{Known}
 use Rattle.osi_blameless.proofs.in_class_0.what_the_stage_of_a_whole_end_says.{IsDt0, own_is_dt}
+use Rattle.osi_blameless.proofs.transport.names.a_reference_names_one_connection.{not_true}
 
 -- ---- what holds
 
@@ -87,9 +88,6 @@ place_of_one d r gone s t o one = by (o.place == one.place) refl
 pub class_begun : (e : Direction) (c : Course) → (packet_begins e c).traffic.course.class ≡ c.traffic.course.class
 class_begun Left c = refl
 class_begun Right c = refl
-
-not_true : (b : Bool) → not b ≡ true → b ≡ false
-not_true b h = grind arith
 
 -- no unit of the other side gives a reference of the end
 unnamed_so : (d : Direction) (b : ℕ) (v : Value) (c : Course) → IsTakenEarly d v c → IsUpTo d b v

@@ -22,11 +22,9 @@ use Rattle.osi_blameless.proofs.putting.each_reference_of_an_end_is_new.{IsAhead
 use Rattle.osi_blameless.proofs.keeping.a_carrier_does_events.{none_of}
 use Rattle.osi_blameless.proofs.in_class_0.units_of_class_0_come_after_its_cc.{HasCc}
 use Rattle.osi_blameless.proofs.transport.what_each_thing_keeps_all_of_them_keep.{along_keeps}
+use Rattle.osi_blameless.proofs.transport.by_line.an_end_is_fair.{none_put as some_put}
 
 -- ---- small facts
-
-some_put : {A : Type 0} (v : Value) (rest put : List Value) → put ≡ v ∷ rest → put ≡ [] → A
-some_put v rest put e none = absurd (cc (sym e ∙ none))
 
 class_not : {A : Type 0} (k : Option Class) (a b : Class) → k ≡ Some a → k ≡ Some b → (a ≡ b → ⊥) → A
 class_not k a b h e apart = absurd (let same : a ≡ b = cc in apart same)

@@ -2,7 +2,7 @@
 -- there, nothing in flight is for it, and its reference is new. And what passes and turns keep it so, also if a connection has lost its
 -- judgement.
 -- For all connections of an end and a judge.
-use Rattle.osi_blameless.proofs.Vocabulary.{◌≡◌, ◌∙◌, ◌⊎◌, inl, inr, refl, sym, ap, subst, ℕ, ◌<◌, ◌≤◌, Bool, true, false, List, [], ◌∷◌}
+use Rattle.osi_blameless.proofs.Vocabulary.{◌≡◌, ◌∙◌, ◌⊎◌, inl, inr, refl, sym, ap, subst, ℕ, ◌<◌, ◌≤◌, Bool, false, List, [], ◌∷◌}
 use Rattle.osi_blameless.proofs.Vocabulary.{◌++◌, Some, None, Option, IsSome, arith, if◌then◌else◌, is_some, slice_get, leb-false, leb-true}
 use Rattle.osi_blameless.proofs.Vocabulary.{AllByRecursion, Value, acknowledge, confirm, data0, data2, disconnect, disconnected, error}
 use Rattle.osi_blameless.proofs.Vocabulary.{request, Class, Two, Zero, Local, Standing, link_of, value_at, EndReason, Right, Connection}
@@ -44,11 +44,9 @@ use Rattle.osi_blameless.proofs.standing.what_stands_of_a_connection.{is_for, wa
 use Rattle.osi_blameless.proofs.putting.what_waits_after_the_ccs_of_a_called_end.{named, none_put, puts_for}
 use Rattle.osi_blameless.proofs.steps.what_the_turns_among_steps_do.{TurnDoes}
 use Rattle.osi_rules.specs.declared.directions.Direction.TheVariants as way
+use Rattle.osi_blameless.proofs.transport.small_facts_that_many_lemmas_use.{is_false as not_so}
 
 -- ---- small facts
-
-not_so : (b : Bool) → (b ≡ true → ⊥) → b ≡ false
-not_so b h = grind arith
 
 none_both : (xs ys : List Value) → xs ++ ys ≡ [] → (xs ≡ []) × (ys ≡ [])
 none_both [] ys e = (refl, e)

@@ -12,6 +12,7 @@ use Rattle.osi_blameless.specs.ends.Doing as doing
 use Rattle.osi_blameless.proofs.keeping.what_waits_changes_nothing.{IsApart, bare, call_apart, done_alike, put_alike, together_alike}
 use Rattle.osi_blameless.proofs.keeping.what_waits_changes_nothing.{unit_apart}
 use Rattle.osi_blameless.proofs.transport.what_each_thing_keeps_all_of_them_keep.{along_join}
+pub use Rattle.osi_blameless.proofs.transport.small_facts_that_many_lemmas_use.{none_of}
 
 -- ---- a carrier that has ended does nothing
 
@@ -33,9 +34,6 @@ none_closing r reason c over = ap (λ (o : Option (ℕ × Standing)). put_closin
 
 ended_so : (reason : EndReason) (c : State) → is_some c.ended ≡ false → ended_by reason c ≡ ends reason c
 ended_so reason c lasts = ap (λ (b : Bool). if b then c else ends reason c) lasts
-
-pub none_of : (o : Option EndReason) → is_some o ≡ false → o ≡ None
-none_of o e = grind arith
 
 may_last : (a b : Bool) (o : Option OpenError) → (if not a then Some NotCaller else (if b then Some Ended else o)) ≡ None → b ≡ false
 may_last a b o h = grind arith

@@ -28,7 +28,7 @@ mild_of v f none = grind arith
 -- ---- a DT or an AK
 
 -- it is right, or breaks a rule
-abbrev IsClear : Finding → Type 0
+abbrev pub IsClear : Finding → Type 0
 IsClear f = (f ≡ Kept) ⊎ ((r : Rule) × (f ≡ Broke r))
 
 pub applied_of : (v : Value) (f : Finding) → (IsDr v → ⊥) → IsClear f → IsMild v f → is_applied f ≡ true

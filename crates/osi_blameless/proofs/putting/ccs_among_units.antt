@@ -71,7 +71,8 @@ pub has_above : (b n r : ℕ) (vs : List Value) → Rise b (given_among way.Righ
 has_above b n r vs rise h = among (λ (q : ℕ). b < q) n r vs (rise_all b (given_among way.Right vs) rise) h
 
 -- no two give the same one
-pub not_twice : {A : Type 0} (b m n r : ℕ) (xs ys : List Value) → Rise b (given_among way.Right (xs ++ ys)) → HasCc m r xs → HasCc n r ys → A
+pub not_twice : {A : Type 0} (b m n r : ℕ) (xs ys : List Value) → Rise b (given_among way.Right (xs ++ ys)) → HasCc m r xs →
+    HasCc n r ys → A
 not_twice b m n r [] ys rise h k = absurd h
 not_twice b m n r (confirm i x ∷ xs) ys rise (inl (mine, source)) k =
     let more = has_above x.source n r (xs ++ ys) rise.1 (has_back n r xs ys k) in absurd (omega (arith, more, source))

@@ -25,6 +25,7 @@ use Rattle.osi_blameless.proofs.putting.ccs_among_units.{AnswersTwo, AreOrdered,
 use Rattle.osi_blameless.proofs.putting.what_a_turn_puts_goes_to_its_peer.{IsNotZero, all_so, one_of}
 use Rattle.osi_blameless.proofs.standing.what_stands_of_a_connection.{is_for}
 use Rattle.osi_blameless.proofs.transport.what_each_thing_keeps_all_of_them_keep.{along_keeps}
+use Rattle.osi_blameless.proofs.transport.by_place.an_end_answers_a_cr.{item_is as item}
 
 -- ---- what a line puts
 
@@ -83,9 +84,6 @@ has_at n r p (t ∷ ts) h = by (is_at p t.0) h (λ k. has_at n r p ts k)
 
 has_more : (n r p : ℕ) (t : Placed) (ts : List Placed) → HasCc n r (units_at p ts) → HasCc n r (units_at p (t ∷ ts))
 has_more n r p t ts h = grind (arith, is_at, keep, units_at)
-
-item : (c e : Connection) (o : Option Connection) → o ≡ Some c → o ≡ Some e → c ≡ e
-item c e o h k = cc
 
 -- ---- the CCs that a called end has put
 

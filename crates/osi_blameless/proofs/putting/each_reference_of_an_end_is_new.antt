@@ -12,7 +12,8 @@ use Rattle.osi_judge.specs.Connections as joined
 use Rattle.osi_blameless.proofs.keeping.steps_are_events.{whole_of, IsFollowed, begin_followed, step_followed}
 use Rattle.osi_blameless.proofs.standing.all_connections_stand.{map_of}
 use Rattle.osi_blameless.proofs.shown.connections_have_the_same_places.{unit_agrees, unit_joins}
-use Rattle.osi_blameless.proofs.transport.requests.units_that_wait_give_references_above_those_that_passed.{AreAbove, above_along, gives, passes_given}
+use Rattle.osi_blameless.proofs.transport.requests.units_that_wait_give_references_above_those_that_passed.{AreAbove, above_along, gives}
+use Rattle.osi_blameless.proofs.transport.requests.units_that_wait_give_references_above_those_that_passed.{passes_given}
 use Rattle.osi_blameless.proofs.putting.references_of_an_end_are_distinct.{GivesNew, IsUnused}
 use Rattle.osi_blameless.proofs.standing.what_a_unit_does_at_its_place.{Does, asks_again, asks_more, nowhere, somewhere, unit_does}
 use Rattle.osi_blameless.proofs.standing.what_stands_of_a_connection.{named_begun}

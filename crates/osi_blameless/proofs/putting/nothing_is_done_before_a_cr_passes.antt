@@ -4,7 +4,7 @@ use Rattle.osi_blameless.proofs.Vocabulary.{◌≡◌, ◌∙◌, refl, sym, ap,
 use Rattle.osi_blameless.proofs.Vocabulary.{Some, None, arith, inl, inr, is_some, ◌⊎◌, le-leb, lt-ltb, AllByRecursion, Connect}
 use Rattle.osi_blameless.proofs.Vocabulary.{Value, acknowledge, confirm, data0, data2, destination_of, disconnect, disconnected, error}
 use Rattle.osi_blameless.proofs.Vocabulary.{request, Local, EndReason, Left, State, Whole, AreGiven, Followed, IsAnswer, IsAsking, Tracked}
-use Rattle.osi_blameless.proofs.Vocabulary.{IsDc, is_dc, first_kept, first_left, names, picked_rest, those, AreApart, Opens}
+use Rattle.osi_blameless.proofs.Vocabulary.{IsDc, is_dc, first_kept, first_left, names, picked_rest, those, Opens}
 use Rattle.osi_blameless.proofs.Vocabulary.{Deeds, then_did, units_in, units_taken, Marked, all_units, units_at, Turn, Life, amid, early}
 use Rattle.osi_blameless.proofs.Vocabulary.{opens_by, past, stage_at, stage_over, stays, asked_so, taken_more, has_given, Sessions, Joint}
 use Rattle.osi_blameless.proofs.Vocabulary.{TakesTurn, HaveSamePlaces}
@@ -21,6 +21,8 @@ use Rattle.osi_blameless.proofs.standing.what_passes_leaves_all_standing.{IsRead
 use Rattle.osi_blameless.proofs.standing.what_stands_of_a_connection.{Known, is_for, waiting_for}
 use Rattle.osi_blameless.proofs.small_facts_that_many_lemmas_use.{all_left}
 use Rattle.osi_blameless.proofs.steps.what_the_turns_among_steps_do.{TurnDoes}
+use Rattle.osi_blameless.proofs.coming.what_an_end_takes_at_a_connection.{apart_none}
+pub use Rattle.osi_blameless.proofs.ends.links.the_first_cc_opens_a_connection.{IsNotCc}
 
 -- ---- one connection
 
@@ -29,14 +31,6 @@ pub record IsUndone (deeds : Deeds) (s : Stage) : Type 0 where
   pub put : deeds.put ≡ []
   pub taken : units_taken deeds.calls ≡ []
   pub shut : (peer : ℕ) → s ≡ amid peer → ⊥
-
--- no CC for it
-abbrev pub IsNotCc : ℕ → Value → Type 0
-IsNotCc r v = (x : Connect) → v ≡ confirm r x → ⊥
-
-apart_none : (r : ℕ) (units : List Marked) → AreApart r units → units_at r units ≡ []
-apart_none r [] h = refl
-apart_none r (m ∷ units) h = grind (arith, apart_none r units h.1)
 
 -- a CC for it among the units
 cc_among : {A : Type 0} (r : ℕ) (some later : List Marked) (unit : Value) (x : Connect) → unit ≡ confirm r x →

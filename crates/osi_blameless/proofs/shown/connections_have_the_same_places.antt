@@ -17,6 +17,7 @@ use Rattle.osi_judge.specs.Connections as joined
 use Rattle.osi_judge.specs.States.{begin}
 use Rattle.osi_blameless.proofs.small_facts_that_many_lemmas_use.{or_first, same_one}
 use Rattle.osi_blameless.proofs.steps.what_passes_keeps_a_claim.{after_kept}
+pub use Rattle.osi_blameless.proofs.keeping.steps_are_events.{unit_traffic as unit_knows}
 
 -- ---- lists of the same length
 
@@ -143,10 +144,6 @@ noted_traffic d at v told o c = grind (arith, marked_traffic)
 pub unit_joins : (d : Direction) (at : ℕ) (v : Value) (c : Course) → (unit_passes d at v c).sessions
     ≡ taken d at v (takes (way_of d) v c.traffic).told.meaning (takes (way_of d) v c.traffic).told.place c.sessions
 unit_joins d at v c = grind (arith, noted_leaves)
-
-pub unit_knows : (d : Direction) (at : ℕ) (v : Value) (c : Course) →
-    (unit_passes d at v c).traffic ≡ (takes (way_of d) v c.traffic).state
-unit_knows d at v c = grind (arith, noted_traffic)
 
 -- ---- what has passed
 

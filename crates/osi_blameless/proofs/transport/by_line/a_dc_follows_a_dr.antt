@@ -276,7 +276,7 @@ begun_more : (d : Direction) (s : Traffic) (vs us : List Value) → Begun d s vs
 begun_more d s [] us h = absurd h
 begun_more d s (v ∷ vs) us h = h
 
-all_of : (P : Value → Type 0) (vs : List Value) → ((v : Value) → P v) → AllByRecursion P vs
+pub all_of : (P : Value → Type 0) (vs : List Value) → ((v : Value) → P v) → AllByRecursion P vs
 all_of P [] h = tt
 all_of P (v ∷ vs) h = (h v, all_of P vs h)
 

@@ -22,6 +22,7 @@ use Rattle.osi_blameless.proofs.transport.names.names_stay_apart_though_one_is_l
 use Rattle.osi_blameless.proofs.transport.connections.what_the_other_side_closes.{IsDr, IsSane}
 use Rattle.osi_blameless.proofs.transport.connections.which_units_are_for_a_connection.{IsDc, keep, those, names}
 use Rattle.osi_blameless.proofs.transport.connections.what_is_live_at_an_end.{IsLive, shuts_of}
+use Rattle.osi_blameless.proofs.transport.by_line.a_dc_follows_a_dr.{all_of as all_made}
 
 -- ---- as it ends it puts nothing
 
@@ -35,10 +36,6 @@ ended_puts : (b : Bool) (u : Value) (s : State) → is_some s.ended ≡ b → Of
 ended_puts b u s e o h = grind (arith, over_takes, outcome_is, two_outcome, in_two_puts, state_is, no_end)
 
 -- ---- the lines after the end
-
-all_made : (P : Value → Type 0) (vs : List Value) → ((v : Value) → P v) → AllByRecursion P vs
-all_made P [] h = tt
-all_made P (v ∷ vs) h = (h v, all_made P vs h)
 
 over_line : (local : Local) (put : List Value) (b strays : Bool) (s t : State) (coming later : List Value) (c : Connection) →
     is_some t.ended ≡ true → Following local put b strays s coming c → Following local put b strays t later c

@@ -26,7 +26,7 @@ record Stands (local : Local) (w : Whole) : Type 0 where
 
 -- ---- the unit that is passing
 
-none_put : {A : Type 0} (v : Value) (rest put : List Value) → put ≡ v ∷ rest → put ≡ [] → A
+pub none_put : {A : Type 0} (v : Value) (rest put : List Value) → put ≡ v ∷ rest → put ≡ [] → A
 none_put v rest put e none = absurd (cc (sym e ∙ none))
 
 first_of : (u v : Value) (xs ys : List Value) → u ∷ xs ≡ v ∷ ys → v ≡ u

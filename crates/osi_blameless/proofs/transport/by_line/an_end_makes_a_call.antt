@@ -38,16 +38,13 @@ use Rattle.osi_blameless.proofs.transport.by_line.a_dr_for_what_is_gone.{after_c
 use Rattle.osi_blameless.proofs.transport.by_place.an_end_makes_a_call.{all_none, all_open, open_of, rows_all, rows_sent}
 use Rattle.osi_blameless.proofs.transport.class_0.a_dt_of_class_zero_passes.{unlike}
 use Rattle.osi_blameless.proofs.transport.by_line.what_an_end_does_to_its_lines.{line_grows, not_asked_then, open_owner, taken_so}
+use Rattle.osi_blameless.proofs.transport.by_line.a_dc_follows_a_dr.{all_of as each_so}
 
 pub same_up : (n : ℕ) → n ≤ n
 same_up n = omega arith
 
 same_linked : (q r : ℕ) (l k : Standing) → Some (linked q l) ≡ Some (linked r k) → q ≡ r
 same_linked q r l k e = cc
-
-each_so : (P : Value → Type 0) (vs : List Value) → ((v : Value) → P v) → AllByRecursion P vs
-each_so P [] h = tt
-each_so P (v ∷ vs) h = (h v, each_so P vs h)
 
 -- ---- a call on an open connection
 

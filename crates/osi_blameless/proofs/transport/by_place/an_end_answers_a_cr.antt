@@ -30,7 +30,7 @@ rest_none v vs l h x e = cc
 request_is : (x y : Connect) (vs ys l : List Value) → l ≡ request x ∷ vs → l ≡ request y ∷ ys → x ≡ y
 request_is x y vs ys l h e = cc
 
-item_is : (c e : Connection) (o : Option Connection) → o ≡ Some c → o ≡ Some e → c ≡ e
+pub item_is : (c e : Connection) (o : Option Connection) → o ≡ Some c → o ≡ Some e → c ≡ e
 item_is c e o h k = cc
 
 place_not : (b : Bool) (c : Bool) → c ≡ b → (b ≡ true → ⊥) → b ≡ false

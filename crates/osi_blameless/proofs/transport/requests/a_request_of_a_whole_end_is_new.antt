@@ -7,7 +7,8 @@ use Rattle.osi_blameless.proofs.transport.Vocabulary.{unit as passing, uses, Val
 use Rattle.osi_blameless.specs.transport.Wholes.{passes_other, passes_own}
 use Rattle.osi_blameless.proofs.transport.requests.a_new_reference_is_not_in_use.{AreBelow, FewAsked, all_unlike, still_below, unused}
 use Rattle.osi_blameless.proofs.transport.requests.references_of_requests_rise.{Rise, rise_from}
-use Rattle.osi_blameless.proofs.transport.requests.units_that_wait_give_references_above_those_that_passed.{AreAbove, above_happens, gives, given_among}
+use Rattle.osi_blameless.proofs.transport.requests.units_that_wait_give_references_above_those_that_passed.{AreAbove, above_happens, gives}
+use Rattle.osi_blameless.proofs.transport.requests.units_that_wait_give_references_above_those_that_passed.{given_among}
 use Rattle.osi_blameless.proofs.transport.requests.units_that_wait_give_references_above_those_that_passed.{passes_another, passes_given}
 
 rise_parts : (n : ℕ) (v : Value) (vs : List Value) → Rise n (given_among Left (v ∷ vs)) →
@@ -60,7 +61,8 @@ own v put w e n = passes_none v put w tt refl refl e n
 
 -- the judge sees no CR
 stays : (event : Event) (old new : Whole) → Happens Left event old new → (n : Newer old) → AreBelow (suc n.last) new.judge → Newer new
-stays event old new happens n below = record { last = n.last; below = below; above = above_happens Left n.last event old new happens n.above }
+stays event old new happens n below =
+    record { last = n.last; below = below; above = above_happens Left n.last event old new happens n.above }
 
 pub still_newer : (event : Event) (old new : Whole) → Happens Left event old new → Newer old → Newer new
 still_newer passes_own old new (v, (put, begun, is)) n = subst Newer (sym is) (own v new.put old put n)

@@ -12,7 +12,8 @@ use Rattle.osi_carrier.specs.State.{Outcome}
 use Rattle.osi_blameless.specs.transport.Wholes as wholes
 use Rattle.std.proofs.Common.{option_to_list}
 use Rattle.osi_blameless.proofs.transport.requests.what_a_carrier_puts.{alone, connected}
-use Rattle.osi_blameless.proofs.transport.requests.a_cc_is_put_only_for_a_cr.{IsNoCc, closing_no_cc, confirms_no_cc, given_no_cc, none_by_call}
+use Rattle.osi_blameless.proofs.transport.requests.a_cc_is_put_only_for_a_cr.{IsNoCc, closing_no_cc, confirms_no_cc, given_no_cc}
+use Rattle.osi_blameless.proofs.transport.requests.a_cc_is_put_only_for_a_cr.{none_by_call}
 use Rattle.osi_blameless.proofs.transport.what_each_thing_keeps_all_of_them_keep.{along_keeps}
 use Rattle.osi_blameless.proofs.transport.requests.references_of_requests_rise.{Rise, all_gives, closed_gives, ended_gives, not_less}
 use Rattle.osi_blameless.proofs.transport.requests.references_of_requests_rise.{rise_from, sent_gives, unit_gives}

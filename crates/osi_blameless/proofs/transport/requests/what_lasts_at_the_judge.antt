@@ -86,7 +86,8 @@ lasts_passing p s = grind (arith, begun, if_judged, lasts_reached)
 
 pub lasts_happening : (d : Direction) (event : Event) (w new : Whole) → Happens d event w new → Lasts w.judge.course new.judge.course
 lasts_happening d event w new h =
-    judge_keeps (λ s. Lasts w.judge.course s.course) (λ p s so_far. lasts_then w.judge.course s.course (passes p s).course so_far (lasts_passing p s))
+    judge_keeps (λ s. Lasts w.judge.course s.course)
+    (λ p s so_far. lasts_then w.judge.course s.course (passes p s).course so_far (lasts_passing p s))
     d event w new h (lasts_same w.judge.course)
 
 -- ---- both sides are judged
