@@ -136,10 +136,6 @@ noted_leaves d at v told o c = grind (arith, marked_leaves)
 pub marked_traffic : (m : Mark) (r : Reach) (c : Course) → (marked m r c).traffic ≡ c.traffic
 marked_traffic m r c = grind arith
 
-noted_traffic : (d : Direction) (at : ℕ) (v : Value) (told : Told) (o : Option Cause) (c : Course) →
-    (noted_by d at v told o c).traffic ≡ c.traffic
-noted_traffic d at v told o c = grind (arith, marked_traffic)
-
 -- what a unit does to the connections, and what the rules know after it
 pub unit_joins : (d : Direction) (at : ℕ) (v : Value) (c : Course) → (unit_passes d at v c).sessions
     ≡ taken d at v (takes (way_of d) v c.traffic).told.meaning (takes (way_of d) v c.traffic).told.place c.sessions

@@ -24,6 +24,7 @@ use Rattle.osi_blameless.proofs.transport.by_place.how_a_unit_of_right_passes.{c
 use Rattle.osi_blameless.proofs.transport.names.what_keeps_names_apart.{AreApart}
 use Rattle.osi_blameless.proofs.transport.requests.while_no_class_is_selected.{after_change, set_there}
 use Rattle.osi_blameless.proofs.transport.class_0.an_end_goes_on_in_class_zero.{IsZeroed, other_one}
+use Rattle.osi_blameless.proofs.transport.Vocabulary.{State}
 
 -- ---- the CC has been put
 
@@ -47,9 +48,11 @@ pub record Selecting (local : Local) (w : Whole) : Type 0 where
 
 -- ---- the end takes a unit, and its user makes a call
 
-pub selecting_takes : (local : Local) (w : Whole) (u : Value) (later : List Value) → Selecting local w →
-    Selecting local (record w { end = react u w.end; put = w.put ++ put_for u w.end; coming = later })
-selecting_takes local w u later f = record {
+-- it puts these units then, and is in class 0 still
+selecting_more : (local : Local) (w : Whole) (f : Selecting local w) (end : State) (units later : List Value) →
+    IsInZero (unit_octets f.size - 3) end 0 (f.more ++ units) →
+    Selecting local (record w { end = end; put = w.put ++ units; coming = later })
+selecting_more local w f end units later in_zero = record {
   x = f.x;
   size = f.size;
   r = f.r;
@@ -58,36 +61,26 @@ selecting_takes local w u later f = record {
   at = f.at;
   asked = f.asked;
   selected = f.selected;
-  more = f.more ++ put_for u w.end;
-  put = ap (λ (l : List Value). l ++ put_for u w.end) f.put;
+  more = f.more ++ units;
+  put = ap (λ (l : List Value). l ++ units) f.put;
   seen = f.seen;
   class = f.class;
   class_seen = f.class_seen;
   unused = f.unused;
   others = f.others;
-  end = zero_takes (unit_octets f.size - 3) w.end 0 f.more f.end u;
+  end = in_zero;
 }
+
+pub selecting_takes : (local : Local) (w : Whole) (u : Value) (later : List Value) → Selecting local w →
+    Selecting local (record w { end = react u w.end; put = w.put ++ put_for u w.end; coming = later })
+selecting_takes local w u later f =
+    selecting_more local w f (react u w.end) (put_for u w.end) later (zero_takes (unit_octets f.size - 3) w.end 0 f.more f.end u)
 
 pub selecting_calls : (local : Local) (w : Whole) (call : UserCall) → MayCall call w.end → Selecting local w →
     Selecting local (record w { end = user_does call w.end; put = w.put ++ put_by call w.end })
-selecting_calls local w call may f = record {
-  x = f.x;
-  size = f.size;
-  r = f.r;
-  p = f.p;
-  c = f.c;
-  at = f.at;
-  asked = f.asked;
-  selected = f.selected;
-  more = f.more ++ put_by call w.end;
-  put = ap (λ (l : List Value). l ++ put_by call w.end) f.put;
-  seen = f.seen;
-  class = f.class;
-  class_seen = f.class_seen;
-  unused = f.unused;
-  others = f.others;
-  end = zero_calls (unit_octets f.size - 3) w.end 0 f.more call f.end may;
-}
+selecting_calls local w call may f =
+    selecting_more local w f (user_does call w.end) (put_by call w.end) w.coming
+    (zero_calls (unit_octets f.size - 3) w.end 0 f.more call f.end may)
 
 -- ---- a packet begins
 
