@@ -6,12 +6,12 @@ pub mod each_unit_of_a_turn_has_one_connection
 pub mod a_cc_comes_before_what_is_put_for_it
 pub mod each_reference_of_an_end_is_new
 pub mod nothing_is_done_before_a_cr_passes
+pub mod ccs_among_units
 pub mod a_whole_end_runs_along
 pub mod what_a_turn_puts_goes_to_its_peer
 pub mod by_its_lines_each_unit_of_an_end_has_a_home
 pub mod a_called_end_of_class_2_puts_no_dt_of_class_0
 pub mod by_its_places_each_unit_of_an_end_has_a_home
-pub mod ccs_among_units
 pub mod each_cc_of_a_called_end_opens_another_connection
 pub mod a_called_end_answers_with_class_2_or_selects_class_0
 pub mod what_waits_after_the_ccs_of_a_called_end

@@ -10,10 +10,10 @@ pub mod lines
 pub mod names
 -- A calling end asks for connections with references that rise, and no CR is blamed.
 pub mod requests
--- An end in class 0.
-pub mod class_0
 -- What is live at an end and what a unit closes at the judge: of the connections of any whole end.
 pub mod connections
+-- An end in class 0.
+pub mod class_0
 -- A whole end that calls: each of its connections has its line from the CC on, and what passes of it is not blamed.
 pub mod by_line
 -- What a carrier does with packets, pieces and calls is such events.

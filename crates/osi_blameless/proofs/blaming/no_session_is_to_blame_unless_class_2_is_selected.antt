@@ -33,7 +33,7 @@ use Rattle.osi_blameless.proofs.blaming.each_step_keeps_an_end_blameless.{Comes,
 use Rattle.osi_blameless.proofs.blaming.each_step_keeps_an_end_blameless.{done_claim, goes, is_done, is_rest, is_taken, rested}
 use Rattle.osi_blameless.proofs.blaming.each_step_keeps_an_end_blameless.{with_packet}
 use Rattle.osi_blameless.proofs.standing.nobody_of_a_side_is_to_blame.{NeverToBlame, never_unapplied, never_unread}
-use Rattle.osi_blameless.proofs.standing.what_has_no_effect_joins_nothing.{too_many_ends}
+use Rattle.osi_blameless.proofs.shown.what_has_no_effect_joins_nothing.{too_many_ends}
 use Rattle.osi_blameless.proofs.in_class_2.what_is_asked_of_what_holds_at_each_step.{IsWithout, Keeps, firm_so, goes_so, units_join}
 use Rattle.osi_blameless.proofs.shown.a_session_that_is_shown_is_not_to_blame.{not_both}
 

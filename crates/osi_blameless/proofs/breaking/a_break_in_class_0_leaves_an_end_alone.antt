@@ -16,7 +16,7 @@ use Rattle.osi_blameless.proofs.keeping.in_class_0_one_side_alone_is_judged.{IsA
 use Rattle.osi_blameless.proofs.keeping.later_steps_are_events.{later_followed, spoilt_followed}
 use Rattle.osi_blameless.proofs.keeping.steps_are_events.{IsFollowed}
 use Rattle.osi_blameless.proofs.steps.all_is_judged_or_nothing.{IsJudged}
-use Rattle.osi_blameless.proofs.keeping.what_is_halted_stays_halted.{unread_same}
+use Rattle.osi_blameless.proofs.steps.what_is_halted_stays_halted.{unread_same}
 use Rattle.osi_blameless.proofs.steps.what_passes_keeps_a_claim.{units_kept}
 use Rattle.osi_blameless.proofs.keeping.what_is_judged_beside_a_halted_side.{IsBeside, beside_break, beside_unread}
 use Rattle.osi_blameless.proofs.breaking.a_dt_that_is_too_long_stays_so.{IsTooLong, breaks_too_long}
@@ -28,7 +28,7 @@ use Rattle.osi_blameless.proofs.breaking.an_end_goes_on_as_if_no_break_had_come.
 use Rattle.osi_blameless.proofs.breaking.an_end_of_class_0_has_begun_what_a_judge_has_joined.{HasBegun}
 use Rattle.osi_blameless.proofs.breaking.an_end_of_class_0_has_its_connection_open.{MayBeFollowed}
 use Rattle.osi_blameless.proofs.standing.each_step_leaves_class_0_one_connection.{Sure, sure_claim}
-use Rattle.osi_blameless.proofs.blaming.no_more_tsdus_than_moments_have_passed.{AreFew, few_claim}
+use Rattle.osi_blameless.proofs.breaking.no_more_tsdus_than_moments_have_passed.{AreFew, few_claim}
 use Rattle.osi_blameless.proofs.in_class_2.what_is_asked_of_what_holds_at_each_step.{ArePassed, Keeps, firm_so, goes_so, long_claim}
 use Rattle.osi_blameless.proofs.in_class_2.what_is_asked_of_what_holds_at_each_step.{knows_zero, units_join}
 use Rattle.osi_blameless.proofs.small_facts_that_many_lemmas_use.{zero_two}

@@ -17,7 +17,7 @@ use Rattle.osi_blameless.proofs.steps.what_passes_keeps_a_claim.{step_kept}
 use Rattle.osi_blameless.proofs.steps.what_the_turns_among_steps_do.{TurnDoes}
 use Rattle.osi_blameless.proofs.breaking.a_judge_counts_what_it_has_joined_of_a_tsdu.{Counted, counted_claim, fresh_counted}
 use Rattle.osi_blameless.proofs.standing.each_step_leaves_class_0_one_connection.{Sure, fresh_sure, sure_claim}
-use Rattle.osi_blameless.proofs.blaming.no_more_tsdus_than_moments_have_passed.{AreFew, few_claim}
+use Rattle.osi_blameless.proofs.breaking.no_more_tsdus_than_moments_have_passed.{AreFew, few_claim}
 use Rattle.osi_blameless.proofs.standing.nobody_of_a_side_is_to_blame.{NeverToBlame, NoneIsToBlame, never_begins, never_first, never_unit}
 use Rattle.osi_blameless.proofs.in_class_2.what_is_asked_of_what_holds_at_each_step.{ArePassed, HaveCourses, IsStillJudged, Keeps}
 use Rattle.osi_blameless.proofs.in_class_2.what_is_asked_of_what_holds_at_each_step.{begins_judged, first_judged, lasts_so, nothing_judged}

@@ -28,7 +28,7 @@ use Rattle.osi_blameless.proofs.breaking.an_end_beside_a_judge.{Goes, other_begi
 use Rattle.osi_blameless.proofs.breaking.an_end_of_class_0_has_begun_what_a_judge_has_joined.{HasBegun}
 use Rattle.osi_blameless.proofs.breaking.an_end_of_class_0_has_its_connection_open.{IsOpenIn, MayBeFollowed, end_opens}
 use Rattle.osi_blameless.proofs.shown.connections_have_the_same_places.{at_same, unit_joins, unit_knows}
-use Rattle.osi_blameless.proofs.blaming.no_more_tsdus_than_moments_have_passed.{AreFew, few_claim}
+use Rattle.osi_blameless.proofs.breaking.no_more_tsdus_than_moments_have_passed.{AreFew, few_claim}
 use Rattle.osi_blameless.proofs.in_class_2.what_is_asked_of_what_holds_at_each_step.{Keeps, firm_so, goes_so}
 
 -- with this packet the TSDU of the other side is too long

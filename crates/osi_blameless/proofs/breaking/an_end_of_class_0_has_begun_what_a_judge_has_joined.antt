@@ -13,7 +13,7 @@ use Rattle.osi_blameless.proofs.in_class_0.what_an_end_keeps_until_class_2.{Stan
 use Rattle.osi_blameless.proofs.in_class_2.what_is_asked_of_what_holds_at_each_step.{HaveCourses}
 use Rattle.osi_blameless.proofs.putting.nothing_is_done_before_a_cr_passes.{is_under_way, may_take}
 use Rattle.osi_blameless.proofs.breaking.what_a_link_has_begun_is_left_over.{joined_is_begun, none_in_flight}
-use Rattle.osi_blameless.proofs.coming.what_is_in_flight_to_an_end.{known_of}
+use Rattle.osi_blameless.proofs.standing.what_is_in_flight_to_an_end.{known_of}
 
 -- If class 0 is selected, and class 2 is not, what a judge has joined of the unfinished TSDU of the other side is what the link has
 -- begun.

@@ -10,8 +10,8 @@ use Rattle.osi_blameless.proofs.coming.a_calling_end_takes_nothing_before_its_cc
 use Rattle.osi_blameless.proofs.putting.a_turn_does_what_its_deeds_say.{turn_leaves, turn_uses}
 use Rattle.osi_blameless.proofs.putting.nothing_is_done_before_a_cr_passes.{is_under_way, may_take}
 use Rattle.osi_blameless.proofs.coming.what_an_end_takes_at_each_stage.{AreReady, IsFlight, turn_clean, turn_takes, turn_takes_by}
-use Rattle.osi_blameless.proofs.coming.what_is_left_for_an_end.{AreLeft, dr_later, dr_none, has_dr, known_left, left_empty}
-use Rattle.osi_blameless.proofs.coming.what_is_left_for_an_end.{left_front, left_none}
+use Rattle.osi_blameless.proofs.standing.what_is_left_for_an_end.{AreLeft, dr_later, dr_none, has_dr, known_left, left_empty}
+use Rattle.osi_blameless.proofs.standing.what_is_left_for_an_end.{left_front, left_none}
 use Rattle.osi_blameless.proofs.standing.what_stands_of_a_connection.{Takes, is_for, waiting_for}
 
 -- ---- what is left over

@@ -19,7 +19,7 @@ use Rattle.osi_blameless.proofs.putting.references_of_an_end_are_distinct.{named
 use Rattle.osi_blameless.proofs.shown.what_a_judge_shows_goes_on.{named_added}
 use Rattle.osi_blameless.proofs.standing.what_a_unit_does_at_its_place.{Does, asks_again, asks_more, nowhere, somewhere, unit_does}
 use Rattle.osi_blameless.proofs.standing.what_holds_of_a_lost_connection.{was_judged}
-use Rattle.osi_blameless.proofs.coming.what_is_left_for_an_end.{dr_last, dr_more, has_dr}
+use Rattle.osi_blameless.proofs.standing.what_is_left_for_an_end.{dr_last, dr_more, has_dr}
 use Rattle.osi_blameless.proofs.standing.what_stands_of_a_connection.{named_begun, open_begun}
 use Rattle.osi_blameless.proofs.shown.connections_have_the_same_places.{none_given as unnamed_so}
 

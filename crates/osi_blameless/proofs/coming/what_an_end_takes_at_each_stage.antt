@@ -11,7 +11,7 @@ use Rattle.osi_blameless.proofs.small_facts_that_many_lemmas_use.{all_left}
 use Rattle.osi_blameless.proofs.putting.a_turn_does_what_its_deeds_say.{turn_uses}
 use Rattle.osi_blameless.proofs.putting.nothing_is_done_before_a_cr_passes.{is_under_way, may_take}
 use Rattle.osi_blameless.proofs.coming.what_an_end_takes_at_a_connection.{apart_none, during_taken}
-use Rattle.osi_blameless.proofs.coming.what_is_in_flight_to_an_end.{in_flight, in_flight_more, known_of, parts_taken, takes_none}
+use Rattle.osi_blameless.proofs.standing.what_is_in_flight_to_an_end.{in_flight, in_flight_more, known_of, parts_taken, takes_none}
 use Rattle.osi_blameless.proofs.standing.what_stands_of_a_connection.{Takes, is_for, waiting_for}
 
 -- ---- before it opens

@@ -23,7 +23,7 @@ use Rattle.osi_blameless.proofs.in_class_0.what_a_turn_puts_at_the_connections_t
 use Rattle.osi_blameless.proofs.putting.what_a_turn_puts_goes_to_its_peer.{all_back, all_so, one_of}
 use Rattle.osi_blameless.proofs.putting.what_a_turn_puts_waits.{marks_wait}
 use Rattle.osi_blameless.proofs.coming.what_an_end_takes_at_each_stage.{AreCalm, turn_takes}
-use Rattle.osi_blameless.proofs.coming.what_is_in_flight_to_an_end.{parts_taken}
+use Rattle.osi_blameless.proofs.standing.what_is_in_flight_to_an_end.{parts_taken}
 use Rattle.osi_blameless.proofs.standing.what_stands_of_a_connection.{is_for, waiting_for}
 use Rattle.osi_blameless.proofs.in_class_0.what_the_stage_of_a_whole_end_says.{IsDt0, all_data}
 use Rattle.osi_blameless.proofs.steps.what_the_turns_among_steps_do.{TurnDoes}

@@ -32,7 +32,7 @@ use Rattle.osi_blameless.proofs.standing.steps_of_either_class_leave_all_standin
 use Rattle.osi_blameless.proofs.in_class_0.units_of_class_0_come_after_its_cc.{InOrder, IsCcFor, IsLater, IsQuiet, order_more}
 use Rattle.osi_blameless.proofs.in_class_2.what_is_asked_of_what_holds_at_each_step.{ArePassed, HaveCourses, IsTakenEarly}
 use Rattle.osi_blameless.proofs.in_class_2.what_is_asked_of_what_holds_at_each_step.{early as tolerable}
-use Rattle.osi_blameless.proofs.coming.what_is_in_flight_to_an_end.{flight_same, known_of}
+use Rattle.osi_blameless.proofs.standing.what_is_in_flight_to_an_end.{flight_same, known_of}
 use Rattle.osi_blameless.proofs.standing.what_passes_leaves_all_standing as in_two
 use Rattle.osi_blameless.proofs.standing.what_passes_leaves_all_standing.{IsHeardFirm, cc_broke, goes_on}
 use Rattle.osi_blameless.proofs.standing.what_stands_of_a_connection.{Known}

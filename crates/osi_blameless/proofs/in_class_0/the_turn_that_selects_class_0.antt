@@ -22,7 +22,7 @@ use Rattle.osi_blameless.proofs.in_class_0.units_of_class_0_come_after_its_cc.{I
 use Rattle.osi_blameless.proofs.putting.ccs_among_units.{AnswersTwo, HasCc}
 use Rattle.osi_blameless.proofs.in_class_0.what_a_turn_puts_at_the_connections_that_are_open.{WasOpen, open_before, puts_cc, takes_cc}
 use Rattle.osi_blameless.proofs.putting.what_a_turn_puts_goes_to_its_peer.{all_so, one_of}
-use Rattle.osi_blameless.proofs.coming.what_is_in_flight_to_an_end.{parts_taken}
+use Rattle.osi_blameless.proofs.standing.what_is_in_flight_to_an_end.{parts_taken}
 use Rattle.osi_blameless.proofs.standing.what_stands_of_a_connection.{Known, waiting_for}
 use Rattle.osi_blameless.proofs.in_class_0.what_the_stage_of_a_whole_end_says.{IsDt0}
 use Rattle.osi_blameless.proofs.steps.what_the_turns_among_steps_do.{TurnDoes}

@@ -6,11 +6,10 @@ use Rattle.osi_blameless.proofs.Vocabulary.{eqb-true, AllByRecursion, confirm, C
 use Rattle.osi_blameless.proofs.Vocabulary.{has_given, Traffic as State, takes, Connection, Offer, early, past, stage_at, stage_is, IsOver}
 use Rattle.osi_blameless.proofs.Vocabulary.{one, answered, Calling, known, quiet, refused, begun_by, anyhow, zero_puts, PutsData}
 use Rattle.osi_blameless.proofs.Vocabulary.{calm_judge, done_takes, GoesOn, Waits, Whole, arith, ended, waits, Stage as CalledStage}
-use Rattle.osi_blameless.proofs.Vocabulary.{Direction, Left, Carrier, calls_from, IsFirm, Joint, Holds, holds_first, holds_next, IsInZero}
+use Rattle.osi_blameless.proofs.Vocabulary.{Direction, Left, Carrier, calls_from, IsFirm, Joint, IsInZero}
 use Rattle.osi_blameless.proofs.Vocabulary.{lines, selected, selecting, stage_there, ◌≤◌, ◌<◌, is_some, units_in, Steps, passes_own}
-use Rattle.osi_blameless.proofs.Vocabulary.{Disconnects, Happens}
+use Rattle.osi_blameless.proofs.Vocabulary.{Disconnects}
 use Rattle.osi_rules.specs.declared.directions.Direction.TheVariants.{Right}
-use Rattle.osi_rules.specs.declared.directions.Direction.TheVariants as way
 use Rattle.osi_side.specs.declared.directions.Direction.TheVariants as side
 use Rattle.osi_blameless.specs.transport.Wholes as wholes
 use Rattle.osi_blameless.proofs.transport.requests.how_requests_go_on.{Stage, asks, zero}
@@ -21,8 +20,9 @@ use Rattle.osi_blameless.proofs.putting.a_whole_end_runs_along.{joined_by_place}
 use Rattle.osi_blameless.proofs.putting.each_reference_of_an_end_is_new.{IsAhead, IsWithin}
 use Rattle.osi_blameless.proofs.keeping.a_carrier_does_events.{none_of}
 use Rattle.osi_blameless.proofs.in_class_0.units_of_class_0_come_after_its_cc.{HasCc}
-use Rattle.osi_blameless.proofs.transport.what_each_thing_keeps_all_of_them_keep.{along_keeps}
 use Rattle.osi_blameless.proofs.transport.by_line.an_end_is_fair.{none_put as some_put}
+pub use Rattle.osi_blameless.proofs.keeping.what_is_judged_beside_a_halted_side.{IsDt0}
+pub use Rattle.osi_blameless.proofs.putting.a_whole_end_runs_along.{runs_staged}
 
 -- ---- small facts
 
@@ -36,10 +36,6 @@ calm_class : (w : Whole) (cs : List Connection) (drs : Disconnects) → w.judge 
 calm_class w cs drs judge = ap (λ (t : State). t.course.class) judge
 
 -- ---- DTs of class 0
-
-abbrev pub IsDt0 : Value → Type 0
-IsDt0 (data0 end user) = Unit {0}
-IsDt0 _ = ⊥
 
 none_all : {units : List Value} → units ≡ [] → AllByRecursion IsDt0 units
 none_all e = subst (AllByRecursion IsDt0) (sym e) tt
@@ -147,11 +143,6 @@ module _ (local : Local) (w : Whole) (class : w.judge.course.class ≡ Some Zero
 abbrev pub StageOf : Direction → Local → Whole → Type 0
 StageOf side.Left local w = Stage local w
 StageOf side.Right local w = CalledStage local w
-
-pub runs_staged : (local : Local) (j : Joint) (f : IsFollowed side.Left (wholes.begin true local) j) → Holds local (whole_of f)
-runs_staged local j f =
-    along_keeps (Happens way.Left) (Holds local) (holds_next local) f.events (wholes.begin true local) (whole_of f) f.along
-    (holds_first local)
 
 -- as long as all is judged
 pub stage_of : (d : Direction) (local : Local) (j : Joint) (f : IsFollowed d (wholes.begin (calls_from d) local) j) →

@@ -37,8 +37,8 @@ use Rattle.osi_blameless.proofs.transport.requests.units_that_wait_give_referenc
 use Rattle.osi_blameless.proofs.putting.ccs_among_units.{has_back, has_front, none_before, not_twice}
 use Rattle.osi_blameless.proofs.putting.what_a_turn_puts_goes_to_its_peer.{IsNotZero, all_back, turn_puts}
 use Rattle.osi_blameless.proofs.coming.what_an_end_takes_at_a_connection.{apart_none, during_taken}
-use Rattle.osi_blameless.proofs.coming.what_is_in_flight_to_an_end.{parts_taken}
-use Rattle.osi_blameless.proofs.coming.what_is_left_for_an_end.{left_empty}
+use Rattle.osi_blameless.proofs.standing.what_is_in_flight_to_an_end.{parts_taken}
+use Rattle.osi_blameless.proofs.standing.what_is_left_for_an_end.{left_empty}
 use Rattle.osi_blameless.proofs.standing.what_passes_leaves_all_standing.{IsReady}
 use Rattle.osi_blameless.proofs.standing.what_stands_of_a_connection.{is_for, waiting_for}
 use Rattle.osi_blameless.proofs.putting.what_waits_after_the_ccs_of_a_called_end.{named, none_put, puts_for}

@@ -4,7 +4,7 @@ use Rattle.osi_blameless.proofs.Vocabulary.{false, true, ℕ, ◌≡◌, Local, 
 use Rattle.osi_blameless.specs.transport.Wholes.{begin}
 use Rattle.osi_blameless.proofs.keeping.steps_are_events.{IsFollowed}
 use Rattle.osi_blameless.proofs.standing.what_stands_of_a_connection.{is_part}
-use Rattle.osi_blameless.proofs.in_class_0.what_the_stage_of_a_whole_end_says.{runs_staged}
+use Rattle.osi_blameless.proofs.putting.a_whole_end_runs_along.{runs_staged}
 
 pub puts_no_dt : (local : Local) → local.class2 ≡ false → (at : ℕ) (v : Value) (old new : Joint) → Steps Left (passes_own at v) old new →
     IsFollowed Left (begin true local) old → IsOngoing old.judge.traffic.course → is_part v ≡ false

@@ -8,7 +8,7 @@ use Rattle.osi_blameless.proofs.in_class_2.an_end_hears_what_breaks_no_rule.{Are
 use Rattle.osi_blameless.proofs.putting.each_reference_of_an_end_is_new.{AreUpTo, unit_up}
 use Rattle.osi_blameless.proofs.coming.nothing_comes_before_a_cc_passes.{IsBelow, left_below}
 use Rattle.osi_blameless.proofs.putting.references_of_an_end_are_distinct.{GivesNew}
-use Rattle.osi_blameless.proofs.standing.what_has_no_effect_joins_nothing.{joins_none}
+use Rattle.osi_blameless.proofs.shown.what_has_no_effect_joins_nothing.{joins_none}
 
 -- a unit of the calling side gives no reference of a called end, and none is awaited
 gives_none : (at : ℕ) (v : Value) (t : Sessions) (c : Course) → is_applied (takes way.Left v c.traffic).told.finding ≡ true →

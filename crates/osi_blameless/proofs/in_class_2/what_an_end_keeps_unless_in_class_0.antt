@@ -28,8 +28,8 @@ use Rattle.osi_blameless.proofs.putting.nothing_is_done_before_a_cr_passes.{know
 use Rattle.osi_blameless.proofs.standing.steps_of_either_class_leave_all_standing.{all_stand}
 use Rattle.osi_blameless.proofs.shown.a_session_that_is_shown_is_not_to_blame.{SessionLaws}
 use Rattle.osi_blameless.proofs.putting.ccs_among_units.{AnswersTwo, first_not_zero}
-use Rattle.osi_blameless.proofs.coming.what_has_come_before_a_cc.{AreQuiet, begin_quiet, begins_other_quiet, begins_own_quiet}
-use Rattle.osi_blameless.proofs.coming.what_has_come_before_a_cc.{passes_other_quiet, passes_own_quiet, turns_quiet}
+use Rattle.osi_blameless.proofs.in_class_2.what_has_come_before_a_cc.{AreQuiet, begin_quiet, begins_other_quiet, begins_own_quiet}
+use Rattle.osi_blameless.proofs.in_class_2.what_has_come_before_a_cc.{passes_other_quiet, passes_own_quiet, turns_quiet}
 use Rattle.osi_blameless.proofs.in_class_2.what_is_asked_of_what_holds_at_each_step.{ArePassed, Keeps, Leads, leads_either}
 use Rattle.osi_blameless.proofs.small_facts_that_many_lemmas_use.{all_front, none_some}
 use Rattle.osi_blameless.proofs.keeping.steps_are_events.{whole_of, IsFollowed, begin_followed}

@@ -24,7 +24,7 @@ use Rattle.osi_blameless.proofs.keeping.in_class_0_one_side_alone_is_judged.{unr
 use Rattle.osi_blameless.proofs.keeping.later_steps_are_events.{later_followed, spoilt_followed}
 use Rattle.osi_blameless.proofs.keeping.steps_are_events.{whole_of, IsFollowed, begin_followed}
 use Rattle.osi_blameless.proofs.keeping.no_unit_of_a_whole_end_is_a_break.{IsNoBreak, is_fair}
-use Rattle.osi_blameless.proofs.standing.class_0_is_known_once_it_is_selected.{IsKnownOnce, joint_known_once, unit_known_once}
+use Rattle.osi_blameless.proofs.keeping.class_0_is_known_once_it_is_selected.{IsKnownOnce, joint_known_once, unit_known_once}
 use Rattle.osi_blameless.proofs.shown.connections_have_the_same_places.{unit_knows}
 use Rattle.osi_blameless.proofs.transport.what_each_thing_keeps_all_of_them_keep.{along_keeps}
 

@@ -2,8 +2,8 @@
 -- For the first break of transport.
 use Rattle.osi_blameless.proofs.Vocabulary.{[], ap, append_assoc, Bool, false, is_some, List, None, Option, refl, Some, subst, sym, true, ℕ}
 use Rattle.osi_blameless.proofs.Vocabulary.{◌++◌, ◌∙◌, ◌∷◌, ◌≡◌, append-nil, AllByRecursion, units_fit, units_found, units_of, Value, Fits}
-use Rattle.osi_blameless.proofs.Vocabulary.{Local, Carrier, EndReason, End, Holding, Traffic, takes, Told, other, Direction, IsFresh, Turn}
-use Rattle.osi_blameless.proofs.Vocabulary.{noted_by, unit_passes, units_pass, way_of, Cause, units_by, Event, HappenAlong, Whole}
+use Rattle.osi_blameless.proofs.Vocabulary.{Local, Carrier, EndReason, End, Holding, Traffic, takes, other, Direction, IsFresh, Turn}
+use Rattle.osi_blameless.proofs.Vocabulary.{unit_passes, units_pass, way_of, units_by, Event, HappenAlong, Whole}
 use Rattle.osi_blameless.proofs.Vocabulary.{begins_other, begins_own, Joint, passes_other, passes_own, Step, Steps, TakesTurn, turns, arith}
 use Rattle.osi_blameless.proofs.Vocabulary.{Course, packet_begins, begin, Happens, Way, units_in, PassesOther}
 use Rattle.osi_rules.specs.Sides as sides
@@ -11,22 +11,15 @@ use Rattle.osi_rules.specs.Traffic as traffic
 use Rattle.osi_blameless.specs.transport.Wholes as wholes
 use Rattle.osi_blameless.proofs.small_facts_that_many_lemmas_use.{over_none}
 use Rattle.osi_blameless.proofs.keeping.a_carrier_does_events.{IsLike, IsNext, comes, none_of}
-use Rattle.osi_blameless.proofs.steps.all_is_judged_or_nothing.{changes_traffic}
 use Rattle.osi_blameless.proofs.keeping.what_waits_changes_nothing.{bare}
 use Rattle.osi_blameless.proofs.transport.what_each_thing_keeps_all_of_them_keep.{along_join}
 use Rattle.osi_blameless.proofs.transport.small_facts_that_many_lemmas_use.{units_join}
+pub use Rattle.osi_blameless.proofs.shown.connections_have_the_same_places.{unit_knows as unit_traffic}
 
 -- ---- what the rules know of a unit, and of the units of a packet
 
 pub turned : (d : Direction) → way_of (other d) ≡ sides.other (way_of d)
 turned d = grind arith
-
-noted_traffic : (d : Direction) (at : ℕ) (v : Value) (told : Told) (o : Option Cause) (c : Course) →
-    (noted_by d at v told o c).traffic ≡ c.traffic
-noted_traffic d at v told o c = grind (arith, changes_traffic)
-
-pub unit_traffic : (d : Direction) (at : ℕ) (v : Value) (c : Course) → (unit_passes d at v c).traffic ≡ (takes (way_of d) v c.traffic).state
-unit_traffic d at v c = grind (arith, noted_traffic)
 
 -- ---- an end and a judge, and a whole end
 

@@ -11,6 +11,8 @@ use Rattle.osi_blameless.proofs.transport.by_line.an_end_is_fair_in_class_2.{all
 use Rattle.osi_blameless.proofs.keeping.steps_are_events.{whole_of, IsFollowed}
 use Rattle.osi_blameless.proofs.shown.a_right_dt_has_one_place.{AreUsedApart, named_apart}
 use Rattle.osi_blameless.proofs.putting.ccs_among_units.{AnswersTwo, first_not_zero}
+use Rattle.osi_blameless.proofs.Vocabulary.{Happens, Holds, holds_first, holds_next}
+use Rattle.osi_blameless.proofs.transport.what_each_thing_keeps_all_of_them_keep.{along_keeps}
 
 -- ---- as long as both sides are judged
 
@@ -31,6 +33,12 @@ module _ (local : Local) (two : local.class2 ≡ true) where
       pub peers_apart : AreUsedApart Left j.judge.traffic.connections
       peers_apart =
           named_apart Left j.judge.traffic.connections joined_by_line.kept.sane.apart (joined_by_line.peers clear)
+
+-- with its stage, whichever classes it offers
+pub runs_staged : (local : Local) (j : Joint) (f : IsFollowed Left (wholes.begin true local) j) → Holds local (whole_of f)
+runs_staged local j f =
+    along_keeps (Happens way.Left) (Holds local) (holds_next local) f.events (wholes.begin true local) (whole_of f) f.along
+    (holds_first local)
 
 -- ---- a called end
 

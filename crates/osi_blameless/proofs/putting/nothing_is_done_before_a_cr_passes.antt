@@ -15,14 +15,18 @@ use Rattle.osi_blameless.proofs.keeping.steps_are_events.{whole_of, IsFollowed}
 use Rattle.osi_blameless.proofs.putting.a_turn_does_what_its_deeds_say.{turn_uses}
 use Rattle.osi_blameless.proofs.shown.connections_have_the_same_places.{at_same}
 use Rattle.osi_blameless.proofs.putting.each_reference_of_an_end_is_new.{AreUpTo}
-use Rattle.osi_blameless.proofs.coming.what_is_in_flight_to_an_end.{parts_taken}
-use Rattle.osi_blameless.proofs.coming.what_is_left_for_an_end.{known_left, left_empty}
+use Rattle.osi_blameless.proofs.standing.what_is_in_flight_to_an_end.{parts_taken}
+use Rattle.osi_blameless.proofs.standing.what_is_left_for_an_end.{known_left, left_empty}
 use Rattle.osi_blameless.proofs.standing.what_passes_leaves_all_standing.{IsReady}
 use Rattle.osi_blameless.proofs.standing.what_stands_of_a_connection.{Known, is_for, waiting_for}
 use Rattle.osi_blameless.proofs.small_facts_that_many_lemmas_use.{all_left}
 use Rattle.osi_blameless.proofs.steps.what_the_turns_among_steps_do.{TurnDoes}
-use Rattle.osi_blameless.proofs.coming.what_an_end_takes_at_a_connection.{apart_none}
 pub use Rattle.osi_blameless.proofs.ends.links.the_first_cc_opens_a_connection.{IsNotCc}
+use Rattle.osi_blameless.proofs.Vocabulary.{AreApart}
+
+pub apart_none : (r : ℕ) (units : List Marked) → AreApart r units → units_at r units ≡ []
+apart_none r [] h = refl
+apart_none r (m ∷ units) h = grind (arith, apart_none r units h.1)
 
 -- ---- one connection
 

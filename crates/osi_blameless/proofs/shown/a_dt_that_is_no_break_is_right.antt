@@ -14,7 +14,11 @@ use Rattle.osi_rules.specs.Traffic as traffic
 use Rattle.osi_judge.specs.States.{begin}
 use Rattle.osi_blameless.proofs.steps.what_passes_keeps_a_claim.{IsClaim, after_kept}
 use Rattle.osi_blameless.proofs.shown.connections_have_the_same_places.{marked_traffic, unit_knows}
-pub use Rattle.osi_blameless.proofs.keeping.what_a_taker_passes_over.{IsClear}
+use Rattle.osi_blameless.proofs.Vocabulary.{◌⊎◌}
+
+-- it is right, or breaks a rule
+abbrev pub IsClear : Finding → Type 0
+IsClear f = (f ≡ Kept) ⊎ ((r : Rule) × (f ≡ Broke r))
 
 abbrev BreaksARule : Test → Type 0
 BreaksARule t = (r : Rule) × (t.1 ≡ Broke r)

@@ -22,7 +22,7 @@ use Rattle.osi_blameless.proofs.steps.how_an_end_stands_to_what_has_passed.{rest
 use Rattle.osi_blameless.proofs.steps.what_follows_what_cannot_be_read.{LaterComes, OtherEnds, OtherReads, StandsLater, later_octet}
 use Rattle.osi_blameless.proofs.steps.what_follows_what_cannot_be_read.{later_steps}
 use Rattle.osi_blameless.proofs.steps.what_follows_what_cannot_be_read.{other_moved as other_moved_later}
-use Rattle.osi_blameless.proofs.keeping.what_is_halted_stays_halted.{unread_halts}
+use Rattle.osi_blameless.proofs.steps.what_is_halted_stays_halted.{unread_halts}
 use Rattle.osi_blameless.proofs.steps.turns_are_taken_late.{Follows, all_passed, other_passes, own_passes, seen_follows, turn_taken}
 use Rattle.osi_blameless.proofs.steps.what_an_octet_does.{begins, passes_so}
 use Rattle.osi_blameless.proofs.steps.what_the_turns_among_steps_do.{ComesByDoing, IsOfJudge, StepsDo, TurnDoes, judge_first, takes_turn}

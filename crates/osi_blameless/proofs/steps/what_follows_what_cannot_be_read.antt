@@ -19,7 +19,7 @@ use Rattle.osi_blameless.proofs.steps.how_an_end_stands_to_what_has_passed.{one_
 use Rattle.osi_blameless.proofs.steps.what_the_turns_among_steps_do.{takes_turn}
 use Rattle.osi_blameless.proofs.steps.turns_are_taken_late.{Follows, all_passed, other_passes, own_passes, turn_taken}
 use Rattle.osi_blameless.proofs.steps.what_an_octet_does.{begins, passes_so}
-use Rattle.osi_blameless.proofs.keeping.what_is_halted_stays_halted.{IsHalted, halted_claim, unread_same}
+use Rattle.osi_blameless.proofs.steps.what_is_halted_stays_halted.{IsHalted, halted_claim, unread_same}
 use Rattle.osi_blameless.proofs.steps.what_passes_keeps_a_claim.{units_kept}
 use Rattle.osi_blameless.proofs.steps.what_the_first_octets_are.{begins_none, own_front, whole_packet}
 use Rattle.osi_blameless.proofs.steps.how_an_end_stands_to_what_has_passed.{packet_ends}

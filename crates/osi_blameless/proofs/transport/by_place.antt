@@ -11,8 +11,8 @@ pub mod what_an_end_does_to_its_lines
 pub mod what_an_end_leaves_alone
 pub mod an_end_answers_a_cr
 pub mod what_becomes_of_an_end
-pub mod an_end_takes_a_unit
 pub mod an_end_makes_a_call
+pub mod an_end_takes_a_unit
 -- so it is fair
 pub mod an_end_is_fair
 pub mod an_end_is_fair_in_class_0

@@ -4,7 +4,7 @@
 use Rattle.osi_blameless.proofs.Vocabulary.{[], ap, append_assoc, Bool, false, inl, inr, List, refl, Some, sym, true, ℕ, ◌++◌, ◌==◌, ◌∙◌}
 use Rattle.osi_blameless.proofs.Vocabulary.{◌∷◌, ◌≡◌, ◌||◌, ◌⊎◌, eq-eqb, append-nil, data2, Value, unit_parts, Part, parts_of, picked_first}
 use Rattle.osi_blameless.proofs.Vocabulary.{picked_join, picked_rest, arith, is_dr, unequal}
-use Rattle.osi_blameless.proofs.coming.what_is_in_flight_to_an_end.{in_flight, in_flight_more}
+use Rattle.osi_blameless.proofs.standing.what_is_in_flight_to_an_end.{in_flight, in_flight_more}
 use Rattle.osi_blameless.proofs.standing.what_stands_of_a_connection.{Known, is_for, waiting_for}
 
 -- ---- what is left over

@@ -6,8 +6,8 @@ use Rattle.osi_blameless.proofs.Vocabulary.{Direction, HaveSamePlaces, picked_re
 use Rattle.osi_blameless.proofs.standing.a_unit_after_a_dr_is_for_a_closing_connection.{IsAfterDr, is_there}
 use Rattle.osi_blameless.proofs.standing.right_units_leave_all_standing.{IsLink}
 use Rattle.osi_blameless.proofs.coming.the_dr_of_the_other_side_is_in_flight.{AreShut}
-use Rattle.osi_blameless.proofs.coming.what_is_in_flight_to_an_end.{in_flight}
-use Rattle.osi_blameless.proofs.coming.what_is_left_for_an_end.{has_dr, known_left, left_after, left_still}
+use Rattle.osi_blameless.proofs.standing.what_is_in_flight_to_an_end.{in_flight}
+use Rattle.osi_blameless.proofs.standing.what_is_left_for_an_end.{has_dr, known_left, left_after, left_still}
 use Rattle.osi_blameless.proofs.standing.what_stands_of_a_connection.{is_for}
 
 -- ---- what is left over
