@@ -167,7 +167,7 @@ pub use Rattle.osi_blameless.proofs.transport.by_place.each_connection_has_its_p
 pub use Rattle.osi_blameless.proofs.transport.by_place.each_connection_has_its_place.{Untagged, answers as answering, comes, line_of}
 pub use Rattle.osi_blameless.proofs.transport.by_place.each_connection_has_its_place.{refuses, runs}
 pub use Rattle.osi_blameless.proofs.transport.by_place.what_becomes_of_an_end.{IsCalled}
-pub use Rattle.osi_blameless.proofs.transport.class_0.a_called_end_selects_class_zero.{Selecting, selecting_passes}
+pub use Rattle.osi_blameless.proofs.transport.class_0.an_end_selects_class_zero.{Selecting, selecting_passes}
 pub use Rattle.osi_blameless.proofs.transport.class_0.a_dt_of_class_zero_passes.{only_first, unlike}
 pub use Rattle.osi_blameless.proofs.transport.class_0.what_an_end_does_in_class_zero.{IsInZero, anyhow, zero_puts}
 pub use Rattle.osi_blameless.proofs.transport.class_0.what_an_end_puts_in_class_zero.{PutsData}

@@ -30,7 +30,7 @@ use Rattle.osi_blameless.proofs.in_class_2.an_end_is_ready_for_each_cr_that_pass
 use Rattle.osi_blameless.proofs.putting.a_whole_end_runs_along.{peers_apart, joined_by_line}
 use Rattle.osi_blameless.proofs.in_class_2.no_unit_waits_for_the_reference_that_a_cc_gives as crs_heard
 use Rattle.osi_blameless.proofs.in_class_2.no_unit_waits_for_the_reference_that_a_cc_gives.{IsBehind, IsPlain, fine_plain}
-use Rattle.osi_blameless.proofs.in_class_2.no_unit_of_the_calling_side_gives_a_reference as ccs_heard
+use Rattle.osi_blameless.proofs.in_class_2.no_unit_of_the_other_side_gives_a_reference as ccs_heard
 use Rattle.osi_blameless.proofs.putting.what_a_turn_puts_goes_to_its_peer.{all_so}
 use Rattle.osi_blameless.proofs.keeping.steps_are_events.{whole_of}
 

@@ -12,9 +12,9 @@ use Rattle.osi_blameless.proofs.transport.Vocabulary.{takes, Traffic, true, Two,
 use Rattle.osi_blameless.proofs.transport.Vocabulary.{◌++◌, ◌∙◌, ◌∷◌}
 use Rattle.osi_blameless.proofs.transport.Vocabulary.{◌≡◌, ◌≢◌, ◌⊎◌}
 use Rattle.osi_blameless.specs.transport.Wholes.{begins_other, begins_own, passes_other, passes_own}
-use Rattle.osi_blameless.proofs.transport.class_0.a_called_end_selects_class_zero.{Selecting, selecting_begins, selecting_calls}
-use Rattle.osi_blameless.proofs.transport.class_0.a_called_end_selects_class_zero.{selecting_passes}
-use Rattle.osi_blameless.proofs.transport.class_0.a_called_end_selects_class_zero.{selecting_takes}
+use Rattle.osi_blameless.proofs.transport.class_0.an_end_selects_class_zero.{Selecting, selecting_begins, selecting_calls}
+use Rattle.osi_blameless.proofs.transport.class_0.an_end_selects_class_zero.{selecting_passes}
+use Rattle.osi_blameless.proofs.transport.class_0.an_end_selects_class_zero.{selecting_takes}
 use Rattle.osi_blameless.proofs.transport.class_0.an_end_goes_on_in_class_zero.{IsZeroed, zeroed_begins, zeroed_calls, zeroed_elsewhere}
 use Rattle.osi_blameless.proofs.transport.class_0.an_end_goes_on_in_class_zero.{zeroed_passes}
 use Rattle.osi_blameless.proofs.transport.class_0.an_end_goes_on_in_class_zero.{zeroed_takes}

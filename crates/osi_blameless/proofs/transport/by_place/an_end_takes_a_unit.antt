@@ -22,7 +22,7 @@ use Rattle.osi_blameless.proofs.transport.Vocabulary.{◌&&◌, ◌++◌, ◌+�
 unfoldable use Rattle.osi_carrier.specs.React.{react}
 use Rattle.osi_blameless.proofs.transport.small_facts_that_many_lemmas_use.{and_false, differ, first_is, number_is, or_first, or_last}
 use Rattle.osi_blameless.proofs.transport.by_place.an_end_answers_a_cr.{Place, is_accepted, is_refused as refuses_it, place}
-use Rattle.osi_blameless.proofs.transport.class_0.a_called_end_selects_class_zero.{Selecting}
+use Rattle.osi_blameless.proofs.transport.class_0.an_end_selects_class_zero.{Selecting}
 use Rattle.osi_blameless.proofs.transport.names.all_are_judged_unless_one_broke.{IsJudged}
 use Rattle.osi_blameless.proofs.transport.class_0.what_an_end_does_in_class_zero.{IsInZero, some_is as same_row, talks as goes_on}
 use Rattle.osi_blameless.proofs.transport.names.what_holds_of_one_item.{HoldsOfEach}

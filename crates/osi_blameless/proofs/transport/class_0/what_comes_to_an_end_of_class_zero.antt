@@ -22,7 +22,7 @@ use Rattle.osi_blameless.proofs.transport.connections.which_unit_of_the_other_si
 use Rattle.osi_blameless.proofs.transport.connections.which_unit_of_the_other_side_passes.{came_so, for_one}
 use Rattle.osi_blameless.proofs.transport.connections.which_unit_of_the_other_side_passes.{lost}
 use Rattle.osi_blameless.proofs.transport.requests.while_no_class_is_selected.{after_change}
-use Rattle.osi_blameless.proofs.transport.class_0.a_called_end_selects_class_zero.{Selecting}
+use Rattle.osi_blameless.proofs.transport.class_0.an_end_selects_class_zero.{Selecting}
 use Rattle.osi_blameless.proofs.transport.class_0.an_end_goes_on_in_class_zero.{After, IsEarly, IsZeroed, at_name, comes_by, comes_so}
 use Rattle.osi_blameless.proofs.transport.class_0.an_end_goes_on_in_class_zero.{to_none}
 use Rattle.osi_rules.specs.Traffic.{route_before}

@@ -18,7 +18,7 @@ use Rattle.osi_blameless.proofs.transport.small_facts_that_many_lemmas_use.{diff
 use Rattle.osi_blameless.proofs.transport.requests.a_new_reference_is_not_in_use.{Passed}
 use Rattle.osi_blameless.proofs.transport.requests.a_refused_request_waits_no_more.{all_from}
 use Rattle.osi_blameless.proofs.transport.requests.a_request_of_a_whole_end_is_new.{IsUnused, Newer, next_unused}
-use Rattle.osi_blameless.proofs.transport.class_0.a_calling_end_takes_a_cc_of_class_zero.{confirmed_so}
+use Rattle.osi_blameless.proofs.transport.class_0.an_end_takes_a_cc_of_class_zero.{confirmed_so}
 use Rattle.osi_blameless.proofs.transport.class_0.an_end_goes_on_in_class_zero.{IsZeroed, zeroed_begins, zeroed_calls, zeroed_comes}
 use Rattle.osi_blameless.proofs.transport.class_0.an_end_goes_on_in_class_zero.{zeroed_elsewhere, zeroed_passes, zeroed_refused}
 use Rattle.osi_blameless.proofs.transport.class_0.an_end_goes_on_in_class_zero.{zeroed_takes}
