@@ -44,6 +44,7 @@ use Rattle.osi_blameless.proofs.in_class_0.what_the_stage_of_a_whole_end_says.{A
 use Rattle.osi_blameless.proofs.in_class_0.what_the_stage_of_a_whole_end_says.{gone, one_early}
 use Rattle.osi_blameless.proofs.in_class_0.what_the_stage_of_a_whole_end_says.{own_unit, runs_staged}
 use Rattle.osi_blameless.proofs.keeping.steps_are_events.{whole_of}
+use Rattle.osi_blameless.proofs.putting.a_whole_end_runs_along.{IsBehind, next_behind, with_unit}
 
 -- ---- small facts
 
@@ -61,12 +62,8 @@ pub undone_higher : (b n : ℕ) (deeds : ℕ → Deeds) (c : Carrier) → b ≤ 
 undone_higher b n deeds c up u r less = u r (omega (arith, up, less))
 
 -- a whole end with this judge and an end like this one, which has put these units
-pub record IsWith (local : Local) (end : Carrier) (put : List Value) (c : Course) : Type 0 where
-  pub whole : Whole
-  pub holds : Holds local whole
-  pub judge : whole.judge ≡ c.traffic
-  pub like : IsLike whole.end end
-  pub same : whole.put ≡ put
+abbrev pub IsWith : Local → Carrier → List Value → Course → Type 0
+IsWith local end put c = IsBehind (λ w. Holds local w × IsLike w.end end) put c
 
 -- ---- a unit of the other side
 
@@ -166,7 +163,7 @@ module _ (local : Local) (deeds : ℕ → Deeds) (end : Carrier) (put : List Val
 
     came : (w.whole.put ≡ []) × AwaitsAnswer local w.whole
     came =
-        cc_comes local w.whole n x (w.holds.stage (ap (λ (s : State). s.course.left_stopped) w.judge ∙ k.firm.left))
+        cc_comes local w.whole n x (w.holds.0.stage (ap (λ (s : State). s.course.left_stopped) w.judge ∙ k.firm.left))
         (ap (λ (s : State). s.course.class) w.judge ∙ h.class)
         (ap (λ (s : State). (takes way.Right v s).state.course.left_stopped) w.judge ∙ then_left)
 
@@ -178,7 +175,7 @@ module _ (local : Local) (deeds : ℕ → Deeds) (end : Carrier) (put : List Val
         AwaitsAnswer local w.whole → stage_at q end ≡ past
     past_by q lasts up some apart whole_lasts (gone over) = over_none w.whole.end.ended over whole_lasts
     past_by q lasts up some apart whole_lasts (awaits r p o cs strays is judge waits) =
-        let same = w.like.lasts whole_lasts in
+        let same = w.holds.1.lasts whole_lasts in
         let right = tolerable Left v c k in
         let mine : n ≡ r =
         awaits_this n x at c h.all.places right.goes h.class right.firm h.all.judged right.mild r p o cs strays
@@ -194,7 +191,7 @@ module _ (local : Local) (deeds : ℕ → Deeds) (end : Carrier) (put : List Val
           by (Some reason) over = stage_over q end (ap is_some over)
           by None lasts =
               past_by q lasts (let low = within.1 in let high = given lasts in omega (arith, low, high)) within.0 apart
-              (none_of w.whole.end.ended (sym w.like.over ∙ ap is_some lasts)) came.1
+              (none_of w.whole.end.ended (sym w.holds.1.over ∙ ap is_some lasts)) came.1
 
       cc_zero : Comes b (coming ++ v ∷ []) (after v c)
       cc_zero =
@@ -235,15 +232,8 @@ module _ (local : Local) (deeds : ℕ → Deeds) (end : Carrier) (put : List Val
 
     next_with : (v : Value) (c : Course) → HasFieldsInRange v → IsWith local end put c → IsWith local end put (after v c)
     next_with v c ranges w =
-        let next : Whole =
-        record w.whole { judge = (takes way.Right v w.whole.judge).state; coming = w.whole.coming ++ v ∷ [] } in
-        record {
-          whole = next;
-          holds = holds_next local (wholes.passes_other v) w.whole next (ranges, refl) w.holds;
-          judge = ap (λ (s : State). (takes way.Right v s).state) w.judge ∙ sym (unit_knows Right at v c);
-          like = w.like;
-          same = w.same;
-        }
+        next_behind (λ x. Holds local x × IsLike x.end end) put at v c
+        (λ x (h, like). (holds_next local (wholes.passes_other v) x (with_unit v x) (ranges, refl) h, like)) w
 
     -- the units of a packet
     pub units_come : (vs coming : List Value) (c : Course) → AllByRecursion HasFieldsInRange vs → ArePassed Two Left at vs c →
@@ -295,9 +285,8 @@ module _ (local : Local) where
       (ranges_of (front ++ back) (units_fit (front ++ back) octets (units_found octets (front ++ back) all read)))) passed not
       (record {
         whole = whole_of h.ahead.followed;
-        holds = runs_staged local j h.ahead.followed;
+        holds = (runs_staged local j h.ahead.followed, h.ahead.followed.like);
         judge = refl;
-        like = h.ahead.followed.like;
         same = refl;
       })
       h.ahead.below h.none

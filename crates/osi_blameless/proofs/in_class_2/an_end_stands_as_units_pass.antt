@@ -29,10 +29,12 @@ use Rattle.osi_blameless.proofs.in_class_2.an_end_is_ready_for_each_cc_that_pass
 use Rattle.osi_blameless.proofs.in_class_2.an_end_is_ready_for_each_cr_that_passes as crs
 use Rattle.osi_blameless.proofs.putting.a_whole_end_runs_along.{peers_apart, joined_by_line}
 use Rattle.osi_blameless.proofs.in_class_2.no_unit_waits_for_the_reference_that_a_cc_gives as crs_heard
-use Rattle.osi_blameless.proofs.in_class_2.no_unit_waits_for_the_reference_that_a_cc_gives.{IsBehind, IsPlain, fine_plain}
+use Rattle.osi_blameless.proofs.in_class_2.no_unit_waits_for_the_reference_that_a_cc_gives.{IsPlain, fine_plain}
 use Rattle.osi_blameless.proofs.in_class_2.no_unit_of_the_other_side_gives_a_reference as ccs_heard
 use Rattle.osi_blameless.proofs.putting.what_a_turn_puts_goes_to_its_peer.{all_so}
 use Rattle.osi_blameless.proofs.keeping.steps_are_events.{whole_of}
+use Rattle.osi_blameless.proofs.putting.a_whole_end_runs_along.{IsBehind}
+use Rattle.osi_blameless.proofs.Vocabulary.{Follows}
 
 -- what is known of the parts that are left over
 abbrev pub known_at : Joint → Known
@@ -197,8 +199,8 @@ pub hears_front : (d : Direction) (local : Local) → MayGetTwo d local → (dee
 hears_front Left local two deeds at octets front back j all read fine h =
     let f = h.own.ahead.followed in
     let b = h.own.ahead.bound in
-    let behind : IsBehind local j.put j.judge =
-    record { whole = whole_of f; follows = joined_by_line local two j f; judge = refl; same = refl } in
+    let behind : IsBehind (Follows local) j.put j.judge =
+    record { whole = whole_of f; holds = joined_by_line local two j f; judge = refl; same = refl } in
     let plain = fine_plain b at front j.judge fine in
     record {
       heard = crs_heard.units_heard local j.put deeds (may_take j.end.end.carrier) j.begun at front

@@ -13,6 +13,8 @@ use Rattle.osi_blameless.proofs.shown.a_right_dt_has_one_place.{AreUsedApart, na
 use Rattle.osi_blameless.proofs.putting.ccs_among_units.{AnswersTwo, first_not_zero}
 use Rattle.osi_blameless.proofs.Vocabulary.{Happens, Holds, holds_first, holds_next}
 use Rattle.osi_blameless.proofs.transport.what_each_thing_keeps_all_of_them_keep.{along_keeps}
+use Rattle.osi_blameless.proofs.Vocabulary.{Course, List, Traffic, Value, [], ap, takes, unit_passes, ℕ, ◌++◌, ◌∙◌, ◌∷◌}
+use Rattle.osi_blameless.proofs.shown.connections_have_the_same_places.{unit_knows}
 
 -- ---- as long as both sides are judged
 
@@ -39,6 +41,28 @@ pub runs_staged : (local : Local) (j : Joint) (f : IsFollowed Left (wholes.begin
 runs_staged local j f =
     along_keeps (Happens way.Left) (Holds local) (holds_next local) f.events (wholes.begin true local) (whole_of f) f.along
     (holds_first local)
+
+-- ---- a calling end, within a packet of the other side
+
+-- A whole end of which this holds, with this judge; it has put these units.
+pub record IsBehind (P : Whole → Type 0) (put : List Value) (c : Course) : Type 0 where
+  pub whole : Whole
+  pub holds : P whole
+  pub judge : whole.judge ≡ c.traffic
+  pub same : whole.put ≡ put
+
+-- a unit of the packet has passed
+abbrev pub with_unit : Value → Whole → Whole
+with_unit v w = record w { judge = (takes way.Right v w.judge).state; coming = w.coming ++ v ∷ [] }
+
+pub next_behind : (P : Whole → Type 0) (put : List Value) (at : ℕ) (v : Value) (c : Course) → ((w : Whole) → P w → P (with_unit v w)) →
+    IsBehind P put c → IsBehind P put (unit_passes Right at v c)
+next_behind P put at v c keeps b = record {
+  whole = with_unit v b.whole;
+  holds = keeps b.whole b.holds;
+  judge = ap (λ (s : Traffic). (takes way.Right v s).state) b.judge ∙ sym (unit_knows Right at v c);
+  same = b.same;
+}
 
 -- ---- a called end
 
