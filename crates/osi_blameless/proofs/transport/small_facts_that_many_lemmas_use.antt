@@ -9,6 +9,7 @@ use Rattle.osi_blameless.proofs.transport.Vocabulary.{set, sized}
 use Rattle.osi_blameless.proofs.transport.Vocabulary.{slice_get, Some, suc, Traffic, true, Value, zero, ℕ, ◌&&◌, ◌++◌, ◌==◌, ◌||◌, ◌∙◌, ◌∷◌}
 use Rattle.osi_blameless.proofs.transport.Vocabulary.{◌≡◌}
 use Rattle.osi_blameless.proofs.transport.Vocabulary.{eq-eqb, flat_map-append, units_by, units_in, units_of}
+use Rattle.osi_blameless.proofs.transport.Vocabulary.{Reach, judged_on}
 
 pub all_add : {X : Type 0} (P : X → Type 0) (vs : List X) (v : X) → AllByRecursion P vs → P v → AllByRecursion P (vs ++ v ∷ [])
 all_add P [] v a p = (p, tt)
@@ -156,3 +157,9 @@ set_there (z ∷ xs) (suc p) x y h = set_there xs p x y h
 
 pub unlike : (q p : ℕ) → (q == p) ≡ false → q ≡ p → ⊥
 unlike q p h e = differ (q == p) (ap (λ (x : ℕ). x == p) e ∙ eq-eqb p p refl) h
+
+pub left_judged : (r : Reach) (c : Connection) → (judged_on r c).left ≡ c.left
+left_judged r c = grind arith
+
+pub right_judged : (r : Reach) (c : Connection) → (judged_on r c).right ≡ c.right
+right_judged r c = grind arith

@@ -35,7 +35,7 @@ use Rattle.osi_blameless.proofs.transport.connections.what_the_other_side_closes
 use Rattle.osi_blameless.proofs.transport.connections.which_units_are_for_a_connection.{each_picked, is_dc, is_ours, names}
 use Rattle.osi_blameless.proofs.transport.connections.which_units_are_for_a_connection.{picked_other, those}
 use Rattle.osi_blameless.proofs.transport.by_line.a_dr_for_what_is_gone.{after_calling}
-use Rattle.osi_blameless.proofs.transport.by_place.an_end_makes_a_call.{all_none, all_open, open_of, rows_all, rows_sent}
+use Rattle.osi_blameless.proofs.transport.lines.calls_of_a_line_join.{all_none, all_open, open_of, rows_all, rows_sent}
 use Rattle.osi_blameless.proofs.transport.class_0.a_dt_of_class_zero_passes.{unlike}
 use Rattle.osi_blameless.proofs.transport.by_line.what_an_end_does_to_its_lines.{line_grows, not_asked_then, open_owner, taken_so}
 use Rattle.osi_blameless.proofs.transport.by_line.a_dc_follows_a_dr.{all_of as each_so}

@@ -20,12 +20,9 @@ use Rattle.osi_blameless.proofs.transport.connections.which_units_are_for_a_conn
 use Rattle.osi_blameless.proofs.transport.connections.which_units_are_for_a_connection.{picked_first}
 use Rattle.osi_blameless.proofs.transport.connections.a_line_since_its_connection_opened.{Tracks, close_waits, tracks_keep, tracks_on}
 pub use Rattle.osi_blameless.proofs.transport.requests.a_cc_is_put_only_for_a_cr.{IsNoCc}
+pub use Rattle.osi_blameless.proofs.transport.connections.what_stays_of_each_connection.{is_tracked}
 
 -- ---- the connections at the judge
-
--- left has not closed it, and right has answered the CR by a CC
-abbrev pub is_tracked : Connection → Bool
-is_tracked c = is_open c.left.phase && (is_open c.right.phase || is_closing c.right.phase)
 
 -- left has sent its CR, and right has not answered it
 abbrev pub is_waiting : Connection → Bool

@@ -26,6 +26,7 @@ use Rattle.osi_blameless.proofs.transport.connections.units_by_their_place.{valu
 use Rattle.osi_blameless.proofs.transport.connections.what_is_live_at_an_end.{IsLive, timely_calls}
 use Rattle.osi_blameless.proofs.transport.class_0.a_dt_of_class_zero_passes.{unlike}
 use Rattle.osi_blameless.proofs.transport.by_line.each_connection_has_its_line.{IsNoCc}
+pub use Rattle.osi_blameless.proofs.transport.lines.calls_of_a_line_join.{all_none, all_open, open_of, rows_all, rows_sent}
 
 -- ---- the end
 
@@ -35,23 +36,11 @@ given_same e = omega arith
 pub same_peer : (q p : ℕ) (l k : Standing) → Some (linked q l) ≡ Some (linked p k) → q ≡ p
 same_peer q p l k e = cc
 
-pub open_of : (r peer : ℕ) (link : Standing) (s : State) → s.ended ≡ None → value_at r s.live ≡ Some (linked peer link) →
-    open_link r s ≡ Some (peer, link)
-open_of r peer link s lasts h = grind arith
-
 open_is : (r peer : ℕ) (link : Standing) (s : State) → open_link r s ≡ Some (peer, link) →
     (s.ended ≡ None) × (value_at r s.live ≡ Some (linked peer link))
 open_is r peer link s e = grind (arith, none_of)
 
 -- ---- what calls change
-
-pub rows_sent : (m r : ℕ) (tsdu : List ℕ) (o : Option (ℕ × Standing)) (s : State) → (m ≡ r → ⊥) →
-    value_at m (sent_on r tsdu o s).live ≡ value_at m s.live
-rows_sent m r tsdu o s other = grind (arith, put_other)
-
-pub rows_all : (m r : ℕ) (tsdus : List (List ℕ)) (s : State) → (m ≡ r → ⊥) → value_at m (sent_all r tsdus s).live ≡ value_at m s.live
-rows_all m r [] s other = refl
-rows_all m r (tsdu ∷ tsdus) s other = rows_all m r tsdus (sent r tsdu s) other ∙ rows_sent m r tsdu (open_link r s) s other
 
 same_sent : (r : ℕ) (tsdu : List ℕ) (o : Option (ℕ × Standing)) (s : State) → Same s (sent_on r tsdu o s)
 same_sent r tsdu o s = grind arith
@@ -59,18 +48,6 @@ same_sent r tsdu o s = grind arith
 same_all : (r : ℕ) (tsdus : List (List ℕ)) (s : State) → Same s (sent_all r tsdus s)
 same_all r [] s = record { caller = refl; local_is = refl; class = refl; given = refl }
 same_all r (tsdu ∷ tsdus) s = grind (arith, same_sent, same_all r tsdus (sent r tsdu s))
-
--- the link after TSDUs that were sent together
-pub all_open : (r peer : ℕ) (tsdus : List (List ℕ)) (s : State) (link : Standing) → open_link r s ≡ Some (peer, link) →
-    (l : Standing) × (open_link r (sent_all r tsdus s) ≡ Some (peer, l))
-all_open r peer [] s link e = (link, e)
-all_open r peer (tsdu ∷ tsdus) s link e =
-    all_open r peer tsdus (sent r tsdu s) (pumped (with_tsdu link tsdu)) (still_open r peer tsdu s link e)
-
-pub all_none : (r : ℕ) (tsdus : List (List ℕ)) (s : State) → open_link r s ≡ None →
-    (sent_all r tsdus s ≡ s) × (put_together r tsdus s ≡ [])
-all_none r [] s h = (refl, refl)
-all_none r (tsdu ∷ tsdus) s h = grind (arith, all_none r tsdus s h)
 
 -- ---- any call
 
