@@ -127,10 +127,10 @@ open_or_over : (limit begun r : ℕ) (s : Carrier) (units : List Value) → IsIn
 open_or_over limit begun r s units h some up lasts may = grind (arith, stage_is, stage_there)
 
 module _ (local : Local) (w : Whole) (class : w.judge.course.class ≡ Some Zero) where
-  called_puts : CalledStage local w → AllByRecursion IsDt0 w.put
-  called_puts (lines h c named) = grind (arith, none_some, small.zero_two)
-  called_puts (selecting z) = none_some w.judge.course.class Zero z.class class
-  called_puts (selected z) =
+  dts_put_by_place : CalledStage local w → AllByRecursion IsDt0 w.put
+  dts_put_by_place (lines h c named) = grind (arith, none_some, small.zero_two)
+  dts_put_by_place (selecting z) = none_some w.judge.course.class Zero z.class class
+  dts_put_by_place (selected z) =
       all_data z.judge.limit z.judge.c.right.begun w.put (zero_puts z.judge.limit w.end z.judge.c.right.begun w.put z.goes)
 
   not_early : (r : ℕ) → 0 < r → r ≤ w.end.given → w.end.ended ≡ None → stage_at r w.end ≡ early → CalledStage local w → ⊥
@@ -154,7 +154,7 @@ stage_of side.Right local j f firm = (joined_by_place local j f).stage (grind ar
 pub zero_put : (d : Direction) (local : Local) (w : Whole) → w.judge.course.class ≡ Some Zero → StageOf d local w →
     AllByRecursion IsDt0 w.put
 zero_put side.Left local w class h = dts_put local w h class
-zero_put side.Right local w class h = called_puts local w class h
+zero_put side.Right local w class h = dts_put_by_place local w class h
 
 -- so a unit of it that passes is one
 pub own_is_dt : (local : Local) (d : Direction) (at : ℕ) (v : Value) (old new : Joint) → Steps d (passes_own at v) old new →

@@ -17,7 +17,7 @@ use Rattle.osi_blameless.proofs.keeping.a_carrier_does_events.{none_of}
 use Rattle.osi_blameless.proofs.small_facts_that_many_lemmas_use.{amid_not, early_lasts, given_so, past_not}
 use Rattle.osi_blameless.proofs.keeping.steps_are_events.{whole_of, IsFollowed}
 use Rattle.osi_blameless.proofs.putting.a_whole_end_runs_along.{HasLines, has_lines}
-use Rattle.osi_blameless.proofs.putting.a_called_end_of_class_2_puts_no_dt_of_class_0.{called_put_two}
+use Rattle.osi_blameless.proofs.putting.a_called_end_of_class_2_puts_no_dt_of_class_0.{none_of_zero_put}
 use Rattle.osi_blameless.proofs.in_class_2.an_end_of_class_2_goes_on.{OwnInTwo}
 use Rattle.osi_blameless.proofs.putting.a_turn_does_what_its_deeds_say.{turn_leaves, turn_uses}
 use Rattle.osi_blameless.proofs.shown.a_unit_is_joined_where_it_is_named.{joined_any}
@@ -303,7 +303,7 @@ module _ (local : Local) where
         by None lasts =
             units_marked local deeds turn old new t does.on f before places news
             (turn_puts Right first turn old new t (all_units does.on.put) does.units g.ahead.followed IsNotZero
-            (called_put_two local (whole_of g.ahead.followed) after.called)) no_cc
+            (none_of_zero_put local (whole_of g.ahead.followed) after.called)) no_cc
         by (Some reason) gone =
             let done = over_acts turn old.end new.end (subst IsSome (sym gone) refl) t.takes in
             grind (arith, none_put)

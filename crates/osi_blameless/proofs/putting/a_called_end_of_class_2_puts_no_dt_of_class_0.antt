@@ -117,5 +117,5 @@ module _ (local : Local) (w : Whole) (f : Called local w) where
       subst (AllByRecursion IsNotZero) h.put after.put
   stand_two p c (past silent up none asks un off) = subst (AllByRecursion IsNotZero) (sym none) tt
 
-  pub called_put_two : AllByRecursion IsNotZero w.put
-  called_put_two = put_so IsNotZero local w f (λ m n end user e. let no : disconnected m n ≡ data0 end user = e in cc) stand_two
+  pub none_of_zero_put : AllByRecursion IsNotZero w.put
+  none_of_zero_put = put_so IsNotZero local w f (λ m n end user e. let no : disconnected m n ≡ data0 end user = e in cc) stand_two

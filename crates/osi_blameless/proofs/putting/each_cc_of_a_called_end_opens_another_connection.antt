@@ -13,7 +13,7 @@ use Rattle.osi_rules.specs.declared.directions.Direction.TheVariants.{Left, Righ
 use Rattle.osi_blameless.proofs.transport.by_place.each_connection_has_its_place.{Running, past}
 use Rattle.osi_blameless.proofs.transport.connections.units_by_their_place.{units_at}
 use Rattle.osi_blameless.proofs.small_facts_that_many_lemmas_use.{all_join as all_of_both}
-use Rattle.osi_blameless.proofs.putting.a_called_end_of_class_2_puts_no_dt_of_class_0.{StandsAt, called_put_two, place_parts, put_so}
+use Rattle.osi_blameless.proofs.putting.a_called_end_of_class_2_puts_no_dt_of_class_0.{StandsAt, none_of_zero_put, place_parts, put_so}
 use Rattle.osi_blameless.proofs.shown.a_right_dt_has_one_place.{still_used}
 use Rattle.osi_blameless.proofs.putting.a_whole_end_runs_along.{HasLines}
 use Rattle.osi_blameless.proofs.shown.connections_have_the_same_places.{at_same}
@@ -297,7 +297,7 @@ module _ (local : Local) (w : Whole) (t : Sessions) (lined : HasLines local w) (
   pub put_ordered : AreOrdered w.put
   put_ordered =
       subst AreOrdered (sym f.put)
-      (all_ordered [] f.tagged refl f.strays (subst (AllByRecursion IsNotZero) f.put (called_put_two local w f)))
+      (all_ordered [] f.tagged refl f.strays (subst (AllByRecursion IsNotZero) f.put (none_of_zero_put local w f)))
 
   -- ---- the end has a connection open
 

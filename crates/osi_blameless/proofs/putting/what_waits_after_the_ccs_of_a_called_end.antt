@@ -12,7 +12,7 @@ use Rattle.osi_blameless.specs.ends.Arriving.{is_open as opened}
 use Rattle.osi_blameless.proofs.small_facts_that_many_lemmas_use.{same_bool}
 use Rattle.osi_blameless.proofs.keeping.steps_are_events.{whole_of, IsFollowed}
 use Rattle.osi_blameless.proofs.putting.a_whole_end_runs_along.{HasLines}
-use Rattle.osi_blameless.proofs.putting.a_called_end_of_class_2_puts_no_dt_of_class_0.{called_put_two}
+use Rattle.osi_blameless.proofs.putting.a_called_end_of_class_2_puts_no_dt_of_class_0.{none_of_zero_put}
 use Rattle.osi_blameless.proofs.standing.all_connections_stand.{one_at}
 use Rattle.osi_blameless.proofs.putting.each_cc_of_a_called_end_opens_another_connection.{none_open_for, open_there, same_destination}
 use Rattle.osi_blameless.proofs.putting.each_cc_of_a_called_end_opens_another_connection.{same_source}
@@ -114,7 +114,7 @@ module _ (local : Local) (deeds : ℕ → Deeds) (turn : Turn) (old new : Joint)
     class_2 : AllByRecursion IsNotZero (all_units does.on.put)
     class_2 =
         turn_puts Right (begin false local) turn old new step (all_units does.on.put) does.units g IsNotZero
-        (called_put_two local (whole_of g) after.called)
+        (none_of_zero_put local (whole_of g) after.called)
 
     module _ (front rest : List Marked) (m : Marked) (is : does.on.put ≡ front ++ m ∷ rest) where
       at : (P : Marked → Type 0) → AllByRecursion P does.on.put → P m
