@@ -11,6 +11,7 @@ pub use Rattle.std.proofs.lemmas.List.{append-nil, append_cancel_left, length-ap
 pub use Rattle.std.proofs.lemmas.List.{take_at}
 pub use Rattle.std.proofs.lemmas.Option.{slice_get-map, slice_get_past, slice_get_within}
 pub use Rattle.std.specs.List.{AllByRecursion, flat_map, list_all}
+pub use Rattle.std.specs.Option.{option_map}
 pub use Rattle.osi_unit.proofs.lists_of_octets_stay_octets.{octets_append, octets_cons, octets_left, octets_nil, octets_right}
 pub use Rattle.osi_unit.specs.Octets.{IsOctets}
 pub use Rattle.osi_tpkt.proofs.a_prefix_of_a_packet.{empty_partial}
@@ -73,7 +74,7 @@ pub use Rattle.osi_rules.specs.Traffic.{Outcome, State, State as Traffic, asked_
 pub use Rattle.osi_rules.specs.Traffic.{begun_after, class_for, class_of, closing_phase, connection_after, course_after, found, found_on}
 pub use Rattle.osi_rules.specs.Traffic.{fresh, half_after, has_broken, in_doubt, is_report, is_stopped, judged_on, meaning_if, meant}
 pub use Rattle.osi_rules.specs.Traffic.{none_told, noted, one_told, request_tests, route, route_in, route_zero, routed, sent_on}
-pub use Rattle.osi_rules.specs.Traffic.{silent_half, stops, stops_by, takes, unnamed_by, unnamed_told, uses_source}
+pub use Rattle.osi_rules.specs.Traffic.{silent_half, stops, stops_by, takes, unnamed, unnamed_by, unnamed_told, uses_source}
 pub use Rattle.osi_rules.specs.declared.connections.Connection.{Connection}
 pub use Rattle.osi_rules.specs.declared.connections.Offer.{Offer}
 pub use Rattle.osi_rules.specs.declared.courses.Course.{Course as Rules}
@@ -104,49 +105,11 @@ pub use Rattle.osi_side.specs.Running.{IsHonest, IsSentFrom}
 pub use Rattle.osi_side.specs.Sides.{begin_of}
 pub use Rattle.osi_side.specs.declared.directions.Direction.{Direction}
 pub use Rattle.osi_side.specs.declared.directions.Direction.TheVariants.{Left, Right}
-pub use Rattle.osi_blameless.proofs.ends.courses.an_end_is_sound_between_turns.{IsSane, fresh_sane, leads_to, turn_sane}
-pub use Rattle.osi_blameless.proofs.ends.courses.an_end_takes_packets_up_to_its_last.{Stopped, TakesFirst, none_held, prefix_or}
-pub use Rattle.osi_blameless.proofs.ends.courses.an_end_takes_packets_up_to_its_last.{stopped_there}
-pub use Rattle.osi_blameless.proofs.ends.courses.how_long_a_connection_is_open.{BeforeOpen, HasNoDr, Life, Stage as Time, WhenPast}
-pub use Rattle.osi_blameless.proofs.ends.courses.how_long_a_connection_is_open.{WhileOpen, amid}
-pub use Rattle.osi_blameless.proofs.ends.courses.how_long_a_connection_is_open.{early, is_dr, opens_by, past, stage_at, stage_by, stage_is}
-pub use Rattle.osi_blameless.proofs.ends.courses.how_long_a_connection_is_open.{stage_over, stage_there, stays}
-pub use Rattle.osi_blameless.proofs.ends.courses.the_first_cc_opens_a_connection.{Awaiting, FirstOf, HasNoCc, asked_so, awaits, goes}
-pub use Rattle.osi_blameless.proofs.ends.courses.units_of_each_connection.{all_units_more, none_mark, units_more}
-pub use Rattle.osi_blameless.proofs.ends.courses.what_a_run_does_to_it.{TurnOf, TurnsOf, fresh_course, fresh_turns, turn_continues}
-pub use Rattle.osi_blameless.proofs.ends.courses.what_a_session_puts.{unlinked_put}
-pub use Rattle.osi_blameless.proofs.ends.courses.what_calls_of_a_link_say.{fresh_of, none_said, out_more, said_more, taken_more}
-pub use Rattle.osi_blameless.proofs.ends.courses.what_sessions_hear_of_it.{Known}
-pub use Rattle.osi_blameless.proofs.ends.courses.what_units_do_to_a_course.{no_calls}
-pub use Rattle.osi_blameless.proofs.ends.courses.what_was_said_is_explained.{IsSaid, nothing, shown_said, something, units_came}
-pub use Rattle.osi_blameless.proofs.ends.ends.an_end_that_is_over_does_nothing.{never_lasts, over_acts}
-pub use Rattle.osi_blameless.proofs.ends.ends.the_cn_of_a_request_fits.{can_begin}
-pub use Rattle.osi_blameless.proofs.ends.ends.what_a_session_answers_fits.{all_proper}
-pub use Rattle.osi_blameless.proofs.ends.ends.what_a_session_sends_fits.{AllProper}
-pub use Rattle.osi_blameless.proofs.ends.ends.what_class_0_does_not_take_ends_the_end.{AreHard, IsHard, IsHardPacket, IsLast, IsZeroAt}
-pub use Rattle.osi_blameless.proofs.ends.ends.what_class_0_does_not_take_ends_the_end.{hard_ends}
-pub use Rattle.osi_blameless.proofs.ends.reading.two_readings_of_a_stream_agree.{GoesBeyond, first, packets_on, packets_then}
-pub use Rattle.osi_blameless.proofs.ends.reading.two_readings_of_a_stream_agree.{front_of as part_of}
-pub use Rattle.osi_blameless.proofs.ends.reading.two_readings_of_a_stream_agree.{second, two_readings}
-pub use Rattle.osi_blameless.proofs.ends.reading.what_is_written_is_read_again.{CanBeWritten, packets_joined, read_again}
-pub use Rattle.osi_blameless.proofs.ends.sessions.a_history_is_a_run.{history_runs}
-pub use Rattle.osi_blameless.proofs.ends.sessions.the_session_of_a_request_is_a_caller.{opens_so}
-pub use Rattle.osi_blameless.specs.ends.Arriving.{Answers, AreApart, Begins, GivesTo, Lives, Opens, Parts, TakesAll, is_shut, opens}
-pub use Rattle.osi_blameless.specs.ends.Courses.{AreCalls, Continues, Deeds, Gone, IsFreshLink, IsShut, Speaks, all_did, no_deeds, said_in}
-pub use Rattle.osi_blameless.specs.ends.Courses.{then_did, units_given, units_in, units_read, units_taken}
-pub use Rattle.osi_blameless.specs.ends.Courses.Course.{awaited, is_gone, unknown}
-pub use Rattle.osi_blameless.specs.ends.Courses.Gone.{closed, never, over}
-pub use Rattle.osi_blameless.specs.ends.Doing.{Makes}
-pub use Rattle.osi_blameless.specs.ends.Marked.{Marked, all_units, is_of_link, units_at}
-pub use Rattle.osi_blameless.specs.ends.Parts.{ends_whole}
-pub use Rattle.osi_blameless.specs.ends.Seeing.{IsFresh, IsPrefix, IsSeen, PassAfter, put_along, used_along}
-pub use Rattle.osi_blameless.specs.ends.Showing.{Shows}
-pub use Rattle.osi_blameless.specs.ends.Talking.{Said, octets_said, told_of}
-pub use Rattle.osi_blameless.specs.ends.Turns.{Run, Takes, Turn}
 pub use Rattle.osi_judge.proofs.a_capture_has_one_first_break.{first_held}
 pub use Rattle.osi_judge.proofs.a_piece_comes_to_what_its_octets_do.{after_more, going, looks}
 pub use Rattle.osi_judge.proofs.no_break_was_before_the_first.{marked_past, noted_past}
 pub use Rattle.osi_judge.proofs.octets_are_looked_at.{packet_front}
+pub use Rattle.osi_judge.proofs.the_session_of_a_side_is_known.{session_found}
 pub use Rattle.osi_judge.specs.Blaming.{BreaksFirst, IsBreakOf, IsFirstOf, IsToBlame, of_session, of_transport}
 pub use Rattle.osi_judge.specs.Connections.{Joined, Sessions, adds, adds_all, adds_if, all_begin, asked, changed, count, kept_on, none}
 pub use Rattle.osi_judge.specs.Connections.{opened, placed, reference_of, shut, spoken, taken, taken_at, user_of}
@@ -155,6 +118,8 @@ pub use Rattle.osi_judge.specs.Courses.{mark_by, marked, marks_of, moment_of, mo
 pub use Rattle.osi_judge.specs.Courses.{packet_by, packet_passes, reached, unit_passes, units_pass, unread, unread_mark, unread_moment}
 pub use Rattle.osi_judge.specs.Courses.{way_of}
 pub use Rattle.osi_judge.specs.Lines.{Begun, Spoken, added, begun_before, begun_octets, heard, octets_of, told}
+pub use Rattle.osi_judge.specs.Outcomes.{IsOutcomeOf, SaysSo}
+pub use Rattle.osi_judge.specs.Pasts.{HoldsPast, outcome_in}
 pub use Rattle.osi_judge.specs.Rooms.{fits}
 pub use Rattle.osi_judge.specs.Standing.{HoldsState, IsFed, IsJudged, first_in}
 pub use Rattle.osi_judge.specs.States.{after, begin_within, begun, comes_to, looked_at, octet_passes, stream_of, with_stream}
@@ -165,83 +130,113 @@ pub use Rattle.osi_judge.specs.declared.marks.Cause.TheVariants.{BadPacket, BadU
 pub use Rattle.osi_judge.specs.declared.marks.First.{First}
 pub use Rattle.osi_judge.specs.declared.marks.Mark.{Mark}
 pub use Rattle.osi_judge.specs.declared.marks.Marks.{Marks}
+pub use Rattle.osi_judge.specs.declared.pasts.Past.{Past}
 pub use Rattle.osi_judge.specs.declared.rooms.Room.{Room}
 pub use Rattle.osi_judge.specs.declared.rooms.Room.TheVariants.{All, Octets}
-pub use Rattle.osi_blameless.proofs.transport.called.a_called_end_is_fair.{Stage, called_fair, lines, selected, selecting}
-pub use Rattle.osi_blameless.proofs.transport.called.a_called_end_is_fair_in_class_0.{called_fair_in_class_0}
-pub use Rattle.osi_blameless.proofs.transport.class_0.a_called_end_selects_class_zero.{Selecting}
-pub use Rattle.osi_blameless.proofs.transport.calling.a_calling_end_is_fair.{calling_fair, calling_fair_in_class_0}
-pub use Rattle.osi_blameless.proofs.transport.calling.a_calling_end_is_fair_in_class_2.{Joined as Follows, first_joined, next_joined}
-pub use Rattle.osi_blameless.proofs.transport.requests.a_connection_is_lost_in_class_2_alone.{IsOfTwo, firm_unless_two, still_two}
-pub use Rattle.osi_blameless.proofs.transport.calling.a_dr_for_what_is_gone.{before_going}
+pub use Rattle.osi_blameless.proofs.ends.at_any_time.an_end_that_is_over_does_nothing.{never_lasts, over_acts}
+pub use Rattle.osi_blameless.proofs.ends.at_any_time.the_cn_of_a_request_fits.{can_begin}
+pub use Rattle.osi_blameless.proofs.ends.at_any_time.what_a_session_answers_fits.{all_proper}
+pub use Rattle.osi_blameless.proofs.ends.at_any_time.what_class_0_does_not_take_ends_the_end.{AreHard, IsHard, IsHardPacket, IsLast}
+pub use Rattle.osi_blameless.proofs.ends.at_any_time.what_class_0_does_not_take_ends_the_end.{IsZeroAt, hard_ends}
+pub use Rattle.osi_blameless.proofs.ends.courses.an_end_is_sound_between_turns.{IsSane, fresh_sane, leads_to, turn_sane}
+pub use Rattle.osi_blameless.proofs.ends.courses.an_end_takes_packets_up_to_its_last.{Stopped, TakesFirst, none_held, prefix_or}
+pub use Rattle.osi_blameless.proofs.ends.courses.an_end_takes_packets_up_to_its_last.{stopped_there}
+pub use Rattle.osi_blameless.proofs.ends.courses.what_a_run_does_to_it.{TurnOf, TurnsOf, fresh_course, fresh_turns, turn_continues}
+pub use Rattle.osi_blameless.proofs.ends.courses.what_a_session_puts.{unlinked_put}
+pub use Rattle.osi_blameless.proofs.ends.courses.what_sessions_hear_of_it.{Known}
+pub use Rattle.osi_blameless.proofs.ends.courses.what_units_do_to_a_course.{no_calls}
+pub use Rattle.osi_blameless.proofs.ends.courses.what_was_said_is_explained.{IsSaid, nothing, shown_said, something, units_came}
+pub use Rattle.osi_blameless.proofs.ends.links.how_long_a_connection_is_open.{BeforeOpen, HasNoDr, Life, Stage as Time, WhenPast, WhileOpen}
+pub use Rattle.osi_blameless.proofs.ends.links.how_long_a_connection_is_open.{amid, early, is_dr, opens_by, past, stage_at, stage_by}
+pub use Rattle.osi_blameless.proofs.ends.links.how_long_a_connection_is_open.{stage_is, stage_over, stage_there, stays}
+pub use Rattle.osi_blameless.proofs.ends.links.the_first_cc_opens_a_connection.{Awaiting, FirstOf, HasNoCc, asked_so, awaits, goes}
+pub use Rattle.osi_blameless.proofs.ends.links.units_of_each_connection.{all_units_more, none_mark, units_more}
+pub use Rattle.osi_blameless.proofs.ends.links.what_calls_of_a_link_say.{fresh_of, none_said, out_more, said_more, taken_more}
+pub use Rattle.osi_blameless.proofs.ends.reading.two_readings_of_a_stream_agree.{GoesBeyond, first, packets_on, packets_then}
+pub use Rattle.osi_blameless.proofs.ends.reading.two_readings_of_a_stream_agree.{front_of as part_of, second, two_readings}
+pub use Rattle.osi_blameless.proofs.ends.reading.what_is_written_is_read_again.{CanBeWritten, packets_joined, read_again}
+pub use Rattle.osi_blameless.proofs.ends.sessions.a_history_is_a_run.{history_runs}
+pub use Rattle.osi_blameless.proofs.ends.sessions.the_session_of_a_request_is_a_caller.{opens_so}
+pub use Rattle.osi_blameless.proofs.transport.by_line.a_dr_for_what_is_gone.{before_going}
+pub use Rattle.osi_blameless.proofs.transport.by_line.an_end_is_fair_in_class_2.{Joined as Follows, first_joined, next_joined}
+pub use Rattle.osi_blameless.proofs.transport.by_line.each_connection_has_its_line.{AreGiven, Followed, IsAnswer, IsAsking, IsNoCc, IsOwned}
+pub use Rattle.osi_blameless.proofs.transport.by_line.each_connection_has_its_line.{Row, Tracked, all_so, asking, is_tracked, stray}
+pub use Rattle.osi_blameless.proofs.transport.by_line.the_end_is_judged_as_the_other_side_is.{side_zero}
+pub use Rattle.osi_blameless.proofs.transport.by_place.an_end_is_fair.{Stage, lines, selected, selecting}
+pub use Rattle.osi_blameless.proofs.transport.by_place.each_connection_has_its_place.{Answering, AreStrays, Asked, Called, Stand, StrayIf}
+pub use Rattle.osi_blameless.proofs.transport.by_place.each_connection_has_its_place.{Untagged, answers as answering, comes, line_of}
+pub use Rattle.osi_blameless.proofs.transport.by_place.each_connection_has_its_place.{refuses, runs}
+pub use Rattle.osi_blameless.proofs.transport.by_place.what_becomes_of_an_end.{IsCalled}
+pub use Rattle.osi_blameless.proofs.transport.class_0.an_end_selects_class_zero.{Selecting, selecting_passes}
 pub use Rattle.osi_blameless.proofs.transport.class_0.a_dt_of_class_zero_passes.{only_first, unlike}
+pub use Rattle.osi_blameless.proofs.transport.class_0.what_an_end_does_in_class_zero.{IsInZero, anyhow, zero_puts}
+pub use Rattle.osi_blameless.proofs.transport.class_0.what_an_end_puts_in_class_zero.{PutsData}
+pub use Rattle.osi_blameless.proofs.transport.connections.no_two_open_connections_have_one_peer.{both, left_open}
+pub use Rattle.osi_blameless.proofs.transport.connections.units_by_their_place.{Placed, at_first, at_join, first_at, values}
+pub use Rattle.osi_blameless.proofs.transport.connections.what_becomes_of_a_connection.{comes_for}
+pub use Rattle.osi_blameless.proofs.transport.connections.what_stays_of_each_connection.{left_then, own_stays, right_passes}
+pub use Rattle.osi_blameless.proofs.transport.connections.what_the_other_side_closes.{IsClear, IsFirm, IsOngoing, going_on, is_name}
+pub use Rattle.osi_blameless.proofs.transport.connections.which_unit_of_the_other_side_passes.{IsIdle}
+pub use Rattle.osi_blameless.proofs.transport.connections.which_units_are_for_a_connection.{IsDc, each_picked, first_kept, first_left}
+pub use Rattle.osi_blameless.proofs.transport.connections.which_units_are_for_a_connection.{names_in as is_at, is_dc, keep, leads, names}
+pub use Rattle.osi_blameless.proofs.transport.connections.which_units_are_for_a_connection.{picked, picked_first, picked_join, picked_other}
+pub use Rattle.osi_blameless.proofs.transport.connections.which_units_are_for_a_connection.{picked_rest, those, those_join}
+pub use Rattle.osi_blameless.proofs.transport.lines.what_a_link_does.{begun_by, gives_so, takes_so}
+pub use Rattle.osi_blameless.proofs.transport.lines.what_is_right_passes_each_test.{passes_each}
 pub use Rattle.osi_blameless.proofs.transport.names.a_reference_names_one_connection.{applied_found, applied_judged, fresh_apart, no_item}
-pub use Rattle.osi_blameless.proofs.transport.names.a_reference_names_one_connection.{not_first, not_true}
-pub use Rattle.osi_blameless.proofs.transport.names.a_reference_names_one_connection.{passes_apart}
-pub use Rattle.osi_blameless.proofs.transport.requests.a_request_of_a_whole_end_is_new.{unit_gives}
+pub use Rattle.osi_blameless.proofs.transport.names.a_reference_names_one_connection.{not_first, not_true, passes_apart}
 pub use Rattle.osi_blameless.proofs.transport.names.a_right_unit_is_not_blamed.{first_there}
-pub use Rattle.osi_blameless.proofs.transport.class_0.a_called_end_selects_class_zero.{selecting_passes}
 pub use Rattle.osi_blameless.proofs.transport.names.all_are_judged_unless_one_broke.{AreJudged, still_judged}
+pub use Rattle.osi_blameless.proofs.transport.names.names_stay_apart_though_one_is_lost.{AreNamedApart, OnlyOne, each_sound}
+pub use Rattle.osi_blameless.proofs.transport.names.what_holds_of_one_item.{HoldsOfEach, after_add, after_map, after_set, each_add}
+pub use Rattle.osi_blameless.proofs.transport.names.what_holds_of_one_item.{each_map, each_set, first_true, none_true, one_added}
+pub use Rattle.osi_blameless.proofs.transport.names.what_holds_of_one_item.{one_changed, one_mapped, one_put}
+pub use Rattle.osi_blameless.proofs.transport.names.what_keeps_names_apart.{AreApart as NamesApart, Sound}
+pub use Rattle.osi_blameless.proofs.transport.requests.a_connection_is_lost_in_class_2_alone.{IsOfTwo, firm_unless_two, still_two}
 pub use Rattle.osi_blameless.proofs.transport.requests.class_0_stays_selected.{zero_stays}
-pub use Rattle.osi_blameless.proofs.transport.connections.each_connection_has_its_line.{AreGiven, Followed, IsAnswer, IsAsking, IsNoCc}
-pub use Rattle.osi_blameless.proofs.transport.connections.each_connection_has_its_line.{IsOwned, Row, Tracked, all_so}
-pub use Rattle.osi_blameless.proofs.transport.connections.each_connection_has_its_line.{asking, is_tracked, stray}
-pub use Rattle.osi_blameless.proofs.transport.called.each_connection_of_a_called_end.{Answering, AreAbove, AreStrays, Asked, Called, Stand}
-pub use Rattle.osi_blameless.proofs.transport.called.each_connection_of_a_called_end.{StrayIf, Untagged}
-pub use Rattle.osi_blameless.proofs.transport.called.each_connection_of_a_called_end.{answers as answering, comes, line_of, refuses, runs}
 pub use Rattle.osi_blameless.proofs.transport.requests.how_a_calling_end_asks.{IsOver, one}
 pub use Rattle.osi_blameless.proofs.transport.requests.how_requests_go_on.{Calling, answered, ended, known, quiet, refused, waits}
 pub use Rattle.osi_blameless.proofs.transport.requests.left_selects_no_class.{left_class}
-pub use Rattle.osi_blameless.proofs.transport.names.names_stay_apart_though_one_is_lost.{AreNamedApart, OnlyOne, each_sound}
 pub use Rattle.osi_blameless.proofs.transport.requests.no_request_is_blamed.{Holds, holds_first, holds_next}
-pub use Rattle.osi_blameless.proofs.transport.connections.no_two_open_connections_have_one_peer.{both, left_open}
 pub use Rattle.osi_blameless.proofs.transport.requests.one_request_waits.{begun_live, reached_class}
 pub use Rattle.osi_blameless.proofs.transport.requests.references_of_requests_rise.{Rise, all_gives, closed_gives, ended_gives, not_less}
 pub use Rattle.osi_blameless.proofs.transport.requests.references_of_requests_rise.{rise_from, sent_gives}
-pub use Rattle.osi_blameless.proofs.transport.small_facts_that_many_lemmas_use.{and_false, begins_judged, begun_left, begun_right}
-pub use Rattle.osi_blameless.proofs.transport.small_facts_that_many_lemmas_use.{closing_same, differ}
-pub use Rattle.osi_blameless.proofs.transport.small_facts_that_many_lemmas_use.{first_is, is_false, judged_same, no_list, none_of}
-pub use Rattle.osi_blameless.proofs.transport.small_facts_that_many_lemmas_use.{number_is, some_same}
-pub use Rattle.osi_blameless.proofs.transport.small_facts_that_many_lemmas_use.{unequal}
-pub use Rattle.osi_blameless.proofs.transport.calling.the_end_is_judged_as_the_other_side_is.{side_zero}
-pub use Rattle.osi_blameless.proofs.transport.connections.units_by_their_place.{Placed, at_first, at_join, first_at, values}
 pub use Rattle.osi_blameless.proofs.transport.requests.what_a_carrier_puts.{alone, connected}
-pub use Rattle.osi_blameless.proofs.transport.lines.what_a_link_does.{begun_by, gives_so, takes_so}
-pub use Rattle.osi_blameless.proofs.transport.class_0.what_an_end_does_in_class_zero.{IsInZero, anyhow, zero_puts}
-pub use Rattle.osi_blameless.proofs.transport.class_0.what_an_end_puts_in_class_zero.{PutsData}
-pub use Rattle.osi_blameless.proofs.transport.called.what_becomes_of_a_called_end.{IsCalled, closing_no_cc, confirms_no_cc, given_no_cc}
-pub use Rattle.osi_blameless.proofs.transport.called.what_becomes_of_a_called_end.{none_by_call}
-pub use Rattle.osi_blameless.proofs.transport.connections.what_becomes_of_a_connection.{comes_for}
-pub use Rattle.osi_blameless.proofs.transport.names.what_holds_of_one_item.{HoldsOfEach, after_add, after_map, after_set, each_add}
-pub use Rattle.osi_blameless.proofs.transport.names.what_holds_of_one_item.{each_map, each_set}
-pub use Rattle.osi_blameless.proofs.transport.names.what_holds_of_one_item.{first_true, none_true, one_added, one_changed, one_mapped}
-pub use Rattle.osi_blameless.proofs.transport.names.what_holds_of_one_item.{one_put}
-pub use Rattle.osi_blameless.proofs.transport.lines.what_is_right_passes_each_test.{passes_each}
-pub use Rattle.osi_blameless.proofs.transport.names.what_keeps_names_apart.{AreApart as NamesApart, Sound}
 pub use Rattle.osi_blameless.proofs.transport.requests.what_lasts_at_the_judge.{lasts_passing}
-pub use Rattle.osi_blameless.proofs.transport.connections.what_stays_of_each_connection.{left_then, own_stays, right_passes}
-pub use Rattle.osi_blameless.proofs.transport.connections.what_the_other_side_closes.{IsClear, IsFirm, IsOngoing, going_on, is_name}
 pub use Rattle.osi_blameless.proofs.transport.requests.which_requests_are_put.{asked_among, call_asks, unit_asks}
-pub use Rattle.osi_blameless.proofs.transport.connections.which_unit_of_the_other_side_passes.{IsCalm, IsIdle}
-pub use Rattle.osi_blameless.proofs.transport.connections.which_units_are_for_a_connection.{IsDc, each_picked, first_kept, first_left}
-pub use Rattle.osi_blameless.proofs.transport.connections.which_units_are_for_a_connection.{names_in as is_at, is_dc, keep}
-pub use Rattle.osi_blameless.proofs.transport.connections.which_units_are_for_a_connection.{leads, names, picked, picked_first, picked_join}
-pub use Rattle.osi_blameless.proofs.transport.connections.which_units_are_for_a_connection.{picked_other, picked_rest}
-pub use Rattle.osi_blameless.proofs.transport.connections.which_units_are_for_a_connection.{those, those_join}
 pub use Rattle.osi_blameless.proofs.transport.requests.while_no_class_is_selected.{GoesOn, Waits, after_change, calm_judge, done_takes}
 pub use Rattle.osi_blameless.proofs.transport.requests.while_no_class_is_selected.{set_same, set_there}
-pub use Rattle.osi_blameless.specs.transport.Asking.{asked_in}
-pub use Rattle.osi_blameless.specs.transport.Lines.{Act, Acts, ActsAlong, Line, begins_elsewhere, ignores, moves, opened_line, units_put}
-pub use Rattle.osi_blameless.specs.transport.Naming.{HoldsOfOne, Passing, packet, passes, rubbish, unit}
-pub use Rattle.osi_blameless.specs.transport.Pieces.{units_by}
-pub use Rattle.osi_blameless.specs.transport.Wholes.{Event, HappenAlong, Happens, MayCall, Whole, arrives, calls, passes_rubbish}
+pub use Rattle.osi_blameless.proofs.transport.small_facts_that_many_lemmas_use.{and_false, begins_judged, begun_left, begun_right}
+pub use Rattle.osi_blameless.proofs.transport.small_facts_that_many_lemmas_use.{closing_same, differ, first_is, is_false, judged_same}
+pub use Rattle.osi_blameless.proofs.transport.small_facts_that_many_lemmas_use.{no_list, none_of, number_is, some_same, unequal}
 pub use Rattle.osi_blameless.specs.Bounded.{AreJudgedOf, AreMomentsOf, IsCourseOf, IsFedWithin, IsJudgedOf, IsMomentOf, SessionsOf}
 pub use Rattle.osi_blameless.specs.Bounded.{comes_within}
 pub use Rattle.osi_blameless.specs.Bounded.IsFedWithin.{fed, unfed}
+pub use Rattle.osi_blameless.specs.EndAndJudge.{Along, PassesOther}
 pub use Rattle.osi_blameless.specs.Joint.{Joint, Step, Steps, StepsAlong, TakesTurn, begin, begins_other, begins_own, passes_other}
 pub use Rattle.osi_blameless.specs.Joint.{passes_own, turns}
+pub use Rattle.osi_blameless.specs.Packets.{units_by, units_in}
 pub use Rattle.osi_blameless.specs.Passing.{AreOctets, ComesBySteps, IsOctet, TurnsBad}
 pub use Rattle.osi_blameless.specs.Shown.{AreAfter, IsJoinedFrom, IsShownNow, IsShownOf, all_before, before_begun, before_of, calls_from}
 pub use Rattle.osi_blameless.specs.Shown.{left_over, parts_of, with_next}
 pub use Rattle.osi_blameless.specs.ShownPlaces.{HasAsked, HaveSamePlaces, IsJoinedAt, IsOneOf, named_by}
 pub use Rattle.osi_blameless.specs.Spoilt.{IsNoPacket, IsUnread, LaterAlong, LaterSteps, spoilt}
+pub use Rattle.osi_blameless.specs.ends.Arriving.{Answers, AreApart, Begins, GivesTo, Lives, Opens, Parts, TakesAll, is_shut, opens}
+pub use Rattle.osi_blameless.specs.ends.Courses.{AreCalls, Continues, Deeds, Gone, IsFreshLink, IsShut, Speaks, all_did, no_deeds, said_in}
+pub use Rattle.osi_blameless.specs.ends.Courses.{then_did, units_given, units_taken}
+pub use Rattle.osi_blameless.specs.ends.Courses.Course.{awaited, is_gone, unknown}
+pub use Rattle.osi_blameless.specs.ends.Courses.Gone.{closed, never, over}
+pub use Rattle.osi_blameless.specs.ends.Doing.{Makes}
+pub use Rattle.osi_blameless.specs.ends.Marked.{Marked, all_units, is_of_link, units_at}
+pub use Rattle.osi_blameless.specs.ends.Parts.{ends_whole}
+pub use Rattle.osi_blameless.specs.ends.Seeing.{IsFresh, IsPrefix, IsSeen, PassAfter, put_along, used_along}
+pub use Rattle.osi_blameless.specs.ends.Showing.{Shows}
+pub use Rattle.osi_blameless.specs.ends.Talking.{Said, octets_said, told_of}
+pub use Rattle.osi_blameless.specs.ends.Turns.{Run, Takes, Turn}
+pub use Rattle.osi_blameless.specs.transport.Asking.{asked_in}
+pub use Rattle.osi_blameless.specs.transport.Lines.{Act, Acts, ActsAlong, Line, begins_elsewhere, ignores, moves, opened_line, units_put}
+pub use Rattle.osi_blameless.specs.transport.Naming.{HoldsOfOne, Passing, packet, passes, rubbish, unit}
+pub use Rattle.osi_blameless.specs.transport.Wholes.{Event, HappenAlong, Happens, MayCall, Whole, arrives, calls, passes_rubbish}
+pub use Rattle.osi_report.specs.Blaming.{BlameNowhere, IsBlameless}
+pub use Rattle.osi_report.specs.Disputes.{IsJudgement}
+pub use Rattle.osi_report.specs.Rows.{IsCaptureOf}

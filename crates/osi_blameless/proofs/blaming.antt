@@ -6,7 +6,6 @@ pub mod a_loss_is_in_class_2_at_a_judge
 pub mod the_first_break_of_all_is_of_the_other_side
 pub mod no_end_is_ever_to_blame
 -- within a bound
-pub mod no_more_tsdus_than_moments_have_passed
 pub mod what_is_judged_within_a_bound
 pub mod nobody_else_is_to_blame_within_a_bound
 pub mod a_bound_changes_no_first_break

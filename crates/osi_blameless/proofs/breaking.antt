@@ -1,4 +1,5 @@
 -- A break of the other side in class 0: an end and a judge go on as if it had not come.
+pub mod no_more_tsdus_than_moments_have_passed
 pub mod an_end_of_class_0_has_its_connection_open
 pub mod a_judge_counts_what_it_has_joined_of_a_tsdu
 pub mod what_a_link_has_begun_is_left_over

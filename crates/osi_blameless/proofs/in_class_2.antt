@@ -1,8 +1,9 @@
 -- An end of class 2 and a judge, and what an end keeps unless class 0 is selected.
 pub mod an_end_hears_what_breaks_no_rule
 pub mod no_unit_waits_for_the_reference_that_a_cc_gives
-pub mod no_unit_of_the_calling_side_gives_a_reference
+pub mod no_unit_of_the_other_side_gives_a_reference
 pub mod an_end_of_class_2_goes_on
+pub mod what_has_come_before_a_cc
 pub mod an_end_is_ready_for_each_cr_that_passes
 pub mod an_end_is_ready_for_each_cc_that_passes
 pub mod an_end_stands_as_units_pass

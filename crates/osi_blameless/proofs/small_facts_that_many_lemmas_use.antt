@@ -1,19 +1,17 @@
 -- Small facts that lemmas of several files use: of truth values, lists and numbers, and of one step of a connection.
 -- For all proofs of this crate.
-use Rattle.osi_blameless.proofs.Vocabulary.{AllByRecursion, Bool, CanBeWritten, Carrier, Class, Connection, EndReason, Fits}
+use Rattle.osi_blameless.proofs.Vocabulary.{AllByRecursion, Bool, CanBeWritten, Carrier, Class, EndReason, Fits}
 use Rattle.osi_blameless.proofs.Vocabulary.{HasFieldsInRange, List, None, Option, Some, Time as Stage, Two, Value, Zero, [], amid, ap}
-use Rattle.osi_blameless.proofs.Vocabulary.{early, false, has_given, stage_at, stage_over, is_some, le-leb, lt-ltb, nat_le, past, refl, sym}
-use Rattle.osi_blameless.proofs.Vocabulary.{true, ℕ, ◌&&◌, ◌++◌, ◌<◌, ◌||◌, ◌∙◌, ◌∷◌, ◌≡◌, ◌≤◌, arith, units_in, units_of, units_read}
-use Rattle.osi_blameless.proofs.Vocabulary.{flat_map-append}
-use Rattle.osi_blameless.specs.transport.Pieces as pieces
+use Rattle.osi_blameless.proofs.Vocabulary.{early, has_given, stage_at, stage_over, is_some, le-leb, lt-ltb, nat_le, past, refl, sym}
+use Rattle.osi_blameless.proofs.Vocabulary.{true, ℕ, ◌&&◌, ◌++◌, ◌<◌, ◌∙◌, ◌∷◌, ◌≡◌, ◌≤◌, arith}
+pub use Rattle.osi_blameless.proofs.ends.links.units_of_each_connection.{all_of_both as all_join}
+pub use Rattle.osi_blameless.proofs.transport.small_facts_that_many_lemmas_use.{or_left as or_first}
+pub use Rattle.osi_blameless.proofs.transport.names.what_a_side_knows_stays.{same_item}
+pub use Rattle.osi_blameless.proofs.transport.names.a_right_unit_is_not_blamed.{same_item as same_one}
 
 pub all_front : {X : Type 0} (P : X → Type 0) (xs ys : List X) → AllByRecursion P (xs ++ ys) → AllByRecursion P xs
 all_front P [] ys h = tt
 all_front P (x ∷ xs) ys h = (h.0, all_front P xs ys h.1)
-
-pub all_join : {X : Type 0} (P : X → Type 0) (xs ys : List X) → AllByRecursion P xs → AllByRecursion P ys → AllByRecursion P (xs ++ ys)
-all_join P [] ys a b = b
-all_join P (x ∷ xs) ys a b = (a.0, all_join P xs ys a.1 b)
 
 pub all_left : (P : Value → Type 0) (xs ys : List Value) → AllByRecursion P (xs ++ ys) → AllByRecursion P xs
 all_left P [] ys h = tt
@@ -47,9 +45,6 @@ none_some k a h e = absurd (cc)
 pub not_some : {A : Type 0} (o : Option ℕ) (n : ℕ) → o ≡ Some n → o ≡ None → A
 not_some o n h e = absurd (cc)
 
-pub or_first : (a b : Bool) → (a || b) ≡ false → a ≡ false
-or_first a b h = grind arith
-
 pub over_none : {A : Type 0} (o : Option EndReason) → is_some o ≡ true → o ≡ None → A
 over_none h h2 e = grind arith
 
@@ -65,20 +60,6 @@ ranges_of (v ∷ units) h = (h.0.in_range, ranges_of units h.1)
 
 pub same_bool : (a b : Bool) → (a ≡ true → b ≡ true) → (b ≡ true → a ≡ true) → a ≡ b
 same_bool a b h k = grind arith
-
-pub same_item : (x y : Connection) → Some x ≡ Some y → x ≡ y
-same_item x y e = cc
-
-pub same_one : {X : Type 0} (x y : X) → Some x ≡ Some y → x ≡ y
-same_one x y e = cc
-
--- the units of packets, by either definition
-pub same_units : (packets : List (List ℕ)) → pieces.units_in packets ≡ units_in packets
-same_units [] = refl
-same_units (p ∷ packets) = ap (λ (l : List Value). pieces.units_by (units_of p) ++ l) (same_units packets)
-
-pub units_join : (some more : List (List ℕ)) → units_in (some ++ more) ≡ units_in some ++ units_in more
-units_join some more = flat_map-append (λ packet. units_read (units_of packet)) some more
 
 pub zero_two : {A : Type 0} (k : Option Class) → k ≡ Some Zero → k ≡ Some Two → A
 zero_two k h e = absurd (let no : Some Zero ≡ Some Two = sym h ∙ e in cc)

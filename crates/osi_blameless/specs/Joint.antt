@@ -1,6 +1,6 @@
 -- An end of this library and a judge, packet by packet. What passes is what the judge is fed: the capture may be taken anywhere between the
 -- end and the other side.
-use Rattle.std.specs.Prelude.{◌≡◌, ◌≢◌, ℕ, Bool, true, false, List, [], ◌∷◌, ◌++◌, None, Ok}
+use Rattle.std.specs.Prelude.{◌≡◌, ◌≢◌, ℕ, false, List, [], ◌∷◌, ◌++◌, None, Ok}
 use Rattle.std.specs.List.{AllByRecursion}
 use Rattle.osi_unit.specs.Octets.{IsOctets}
 use Rattle.osi_tpkt.specs.Stream.{ArePackets}
@@ -11,23 +11,17 @@ use Rattle.osi_carrier.specs.State.{State, packets}
 use Rattle.osi_side.specs.declared.directions.Direction.{Direction}
 use Rattle.osi_side.specs.Captures.{other}
 use Rattle.osi_stack.specs.State.{Holding}
-use Rattle.osi_blameless.specs.transport.Pieces.{units_in}
+use Rattle.osi_blameless.specs.Packets.{units_in}
 use Rattle.osi_blameless.specs.ends.Doing.{Makes}
 use Rattle.osi_blameless.specs.ends.Turns.{Takes, Turn}
 use Rattle.osi_blameless.specs.ends.Writable.{CanBeWritten}
 use Rattle.osi_judge.specs.Courses.{Course, fresh, packet_begins, units_pass}
+use Rattle.osi_blameless.specs.EndAndJudge.{Along, BeginsOwn, EndAndJudge, PassesOther, PassesOwn, Sees}
 
-pub record Joint : Type 0 where
-  -- the end, and what it holds of the packet that is arriving
-  pub holding : Holding
-  -- the units that it has put and that have not passed, the oldest first; each goes in a packet of its own
-  pub put : List Value
-  -- the first of them has begun to pass
-  pub begun : Bool
-  -- what has passed comes to this
-  pub course : Course
-  -- the packets of the other side that have passed and that the end has not used, the oldest first
-  pub coming : List (List ℕ)
+-- The end has what it holds of the packet that is arriving; the judge, all that the capture comes to. What comes is the packets of the
+-- other side that have passed and that the end has not used.
+abbrev pub Joint : Type 0
+Joint = EndAndJudge Holding Course (List ℕ)
 
 -- ---- what happens
 
@@ -45,7 +39,7 @@ pub data Step : Type 0 where
 -- long as it lasts, it holds the octets after them. By what was done at its carrier it put those units and took the first units of these
 -- packets: all of them, as long as it lasts.
 pub record TakesTurn (turn : Turn) (old new : Joint) : Type 0 where
-  pub takes : Takes old.holding turn new.holding
+  pub takes : Takes old.end turn new.end
   pub units : List Value
   pub written : turn.put ≡ packets units
   pub can : AllByRecursion CanBeWritten units
@@ -53,38 +47,35 @@ pub record TakesTurn (turn : Turn) (old new : Joint) : Type 0 where
   pub used : List (List ℕ)
   pub coming : old.coming ≡ used ++ new.coming
   pub rest : List ℕ
-  pub cut : old.holding.end.carrier.ended ≡ None → ArePackets used (old.holding.held.octets ++ turn.used) rest
-  pub held : new.holding.end.carrier.ended ≡ None → rest ≡ new.holding.held.octets
+  pub cut : old.end.end.carrier.ended ≡ None → ArePackets used (old.end.held.octets ++ turn.used) rest
+  pub held : new.end.end.carrier.ended ≡ None → rest ≡ new.end.held.octets
   -- an end that is over left no packet in them
-  pub all : old.holding.end.carrier.ended ≡ None → new.holding.end.carrier.ended ≢ None →
+  pub all : old.end.end.carrier.ended ≡ None → new.end.end.carrier.ended ≢ None →
       (more : List (List ℕ)) (last : List ℕ) → ArePackets more rest last → more ≡ []
   pub took : List Value
   pub there : State
-  pub makes : Makes old.holding.end.carrier took units there
-  pub same : new.holding.end.carrier ≡ record there { outgoing = new.holding.end.carrier.outgoing }
+  pub makes : Makes old.end.end.carrier took units there
+  pub same : new.end.end.carrier ≡ record there { outgoing = new.end.end.carrier.outgoing }
   pub left : List Value
-  pub first : old.holding.end.carrier.ended ≡ None → units_in used ≡ took ++ left
-  pub none_left : new.holding.end.carrier.ended ≡ None → left ≡ []
+  pub first : old.end.end.carrier.ended ≡ None → units_in used ≡ took ++ left
+  pub none_left : new.end.end.carrier.ended ≡ None → left ≡ []
   pub begun : new.begun ≡ old.begun
-  pub course : new.course ≡ old.course
+  pub course : new.judge ≡ old.judge
 
 -- The effect of each, at an end that sends in this direction. What passes is octets, and is read as these units.
 abbrev pub Steps : Direction → Step → Joint → Joint → Type 0
 Steps d (turns turn) old new = TakesTurn turn old new
-Steps d begins_own old new = (old.put ≢ []) × (old.begun ≡ false)
-    × (new ≡ record old { begun = true; course = packet_begins d old.course })
+Steps d begins_own old new = BeginsOwn (packet_begins d) old new
 Steps d (passes_own at unit) old new = (units_of (written unit) ≡ Ok (unit ∷ [])) × IsOctets (written unit)
-    × (old.put ≡ unit ∷ new.put) × (old.begun ≡ true)
-    × (new ≡ record old { put = new.put; begun = false; course = units_pass d at (unit ∷ []) old.course })
-Steps d begins_other old new = new ≡ record old { course = packet_begins (other d) old.course }
+    × PassesOwn unit (units_pass d at (unit ∷ [])) old new
+Steps d begins_other old new = Sees (packet_begins (other d)) old new
 Steps d (passes_other at packet units) old new = IsOctets packet × (units_of packet ≡ Ok units)
-    × (new ≡ record old { course = units_pass (other d) at units old.course; coming = old.coming ++ packet ∷ [] })
+    × PassesOther packet (units_pass (other d) at units) old new
 
 -- one after the other
 abbrev pub StepsAlong : Direction → Joint → List Step → Joint → Type 0
-StepsAlong d old [] new = new ≡ old
-StepsAlong d old (step ∷ steps) new = (mid : Joint) × Steps d step old mid × StepsAlong d mid steps new
+StepsAlong d old steps new = Along (Steps d) old steps new
 
 -- nothing has happened yet
 abbrev pub begin : Holding → Joint
-begin holding = record { holding = holding; put = []; begun = false; course = fresh; coming = [] }
+begin holding = record { end = holding; put = []; begun = false; judge = fresh; coming = [] }

@@ -1,3 +1,5 @@
+pub mod Packets
+pub mod EndAndJudge
 pub mod ends
 pub mod transport
 pub mod accord

@@ -33,5 +33,5 @@ pub record ComesBySteps (d : Direction) (capture : Capture) (first : Holding) : 
   pub steps : List Step
   pub last : Joint
   pub along : StepsAlong d (begin first) steps last
-  pub all : ((comes_to capture).course ≡ last.course) ⊎ TurnsBad d capture last.course
-  pub on : ((comes_to capture).course ≡ last.course) ⊎ GoesOn d capture last
+  pub all : ((comes_to capture).course ≡ last.judge) ⊎ TurnsBad d capture last.judge
+  pub on : ((comes_to capture).course ≡ last.judge) ⊎ GoesOn d capture last

@@ -1,7 +1,8 @@
 //! Laws of an end and of a judge of its byte connection. Each function does nothing: its clauses are the laws.
 //!
 //! - A `Joint` (`specs/Joint`) is an end and a judge of what passes anywhere between it and the other side, with the units
-//!   in flight. A `Step` is what happens to both, packet by packet.
+//!   in flight. A `Step` is what happens to both, packet by packet. It is one model with the whole ends and the lines of [`transport`]
+//!   (`specs/EndAndJudge`).
 //! - A capture of an end is such steps, up to what the other side sends and nobody can read:
 //!   [`a_capture_of_an_end_is_steps`].
 //! - **The transport of an end is never blamed first.** Steps of a `Joint` are events of a whole end (`specs/transport/Wholes`), whose
@@ -14,7 +15,7 @@
 //!   a connection beside what was done there: [`a_session_that_is_shown_is_not_to_blame`]. It goes on so packet by packet:
 //!   [`what_a_judge_shows_goes_on`]. A unit is joined at the place that the rules of transport tell:
 //!   [`connections_have_the_same_places`]. In either class, steps of a `Joint` leave this so of all its connections (`Standing` in
-//!   `proofs/sessions`), if nobody breaks a rule, the end takes at each connection the first of what is in flight to it, and what it puts
+//!   `proofs/standing`), if nobody breaks a rule, the end takes at each connection the first of what is in flight to it, and what it puts
 //!   in a turn is for the connections that put it. Lemmas there say so of a calling end and of a called end in class 2; and of both until
 //!   class 2 is selected, so in class 0 too.
 //! - **No session of an end is blamed first**, called or calling, in either class, with any number of connections. At each step of a

@@ -68,7 +68,7 @@ record Parts (js : List Joined) (i : ℕ) (j : Joined) : Type 0 where
   is : js ≡ before ++ j ∷ after
   sets : (k : Joined) → set js i k ≡ before ++ k ∷ after
 
-same_joined : (j k : Joined) → Some j ≡ Some k → j ≡ k
+pub same_joined : (j k : Joined) → Some j ≡ Some k → j ≡ k
 same_joined j k e = cc
 
 parts : (js : List Joined) (i : ℕ) (j : Joined) → slice_get js i ≡ Some j → Parts js i j

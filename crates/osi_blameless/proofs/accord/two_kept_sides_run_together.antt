@@ -1,6 +1,8 @@
 -- Two sides of a connection that kept the protocol run together; and where two sessions make a connection, neither is blamed.
 -- For the law that two kept sides are a pair.
-use Rattle.osi_blameless.proofs.accord.Vocabulary.{[], ap, arith, List, map, None, Option, refl, Some, subst, sym, take-append-drop, ℕ, ◌+◌}
+use Rattle.osi_blameless.proofs.Vocabulary.{other, IsFound, begin_of, Past, spoken, IsOutcomeOf, SaysSo, HoldsPast, outcome_in}
+use Rattle.osi_blameless.proofs.Vocabulary.{session_found, octets_of, after}
+use Rattle.osi_blameless.proofs.accord.Vocabulary.{[], ap, arith, List, map, refl, Some, subst, sym, take-append-drop, ℕ, ◌+◌}
 use Rattle.osi_blameless.proofs.accord.Vocabulary.{◌-◌, ◌<◌}
 use Rattle.osi_blameless.proofs.accord.Vocabulary.{◌^◌, ◌∙◌, ◌∷◌, ◌≡◌, seen_called, seen_calling, front_told, Told, Capture, IsExplained}
 use Rattle.osi_blameless.proofs.accord.Vocabulary.{Direction}
@@ -11,22 +13,14 @@ use Rattle.osi_blameless.proofs.accord.Vocabulary.{octets_told}
 use Rattle.osi_blameless.proofs.accord.Vocabulary.{told_by, Turn, tsdus_by}
 use Rattle.osi_side.specs.declared.findings.Finding.{Finding}
 use Rattle.osi_side.specs.declared.findings.Finding.TheVariants as finding
-use Rattle.osi_side.specs.Captures.{other}
-use Rattle.osi_side.specs.Judging.{IsFound}
-use Rattle.osi_side.specs.Sides.{begin_of}
 use Rattle.osi_judge.specs.declared.outcomes.Outcome.{Outcome}
 use Rattle.osi_judge.specs.declared.outcomes.Outcome.TheVariants as outcome
-use Rattle.osi_judge.specs.declared.pasts.Past.{Past}
-use Rattle.osi_judge.specs.Connections.{spoken}
-use Rattle.osi_judge.specs.Outcomes.{IsOutcomeOf, SaysSo}
-use Rattle.osi_judge.specs.Pasts.{HoldsPast, outcome_in}
-use Rattle.osi_judge.proofs.the_session_of_a_side_is_known.{session_found}
-use Rattle.osi_judge.specs.Lines.{Said, octets_of}
-use Rattle.osi_judge.specs.States.{after}
+use Rattle.osi_judge.specs.Lines.{Said}
 use Rattle.osi_blameless.proofs.accord.a_pair_explains_both_sides.{both_explained}
 use Rattle.osi_blameless.proofs.accord.one_connection_has_a_number.{told_of_one}
 use Rattle.osi_blameless.proofs.accord.two_runs_are_one.{accord_of}
 use Rattle.osi_blameless.proofs.accord.what_passed_by_then_stands_in_front.{passes}
+use Rattle.osi_blameless.proofs.accord.one_connection_has_a_number.{same_joined as same_one}
 
 -- what the other side hears of TSDUs
 heard_so : (said : List Said) → map octets_told (map told_of said) ≡ map octets_of said
@@ -35,9 +29,6 @@ heard_so (t ∷ said) = ap (λ (x : List (List ℕ)). t.octets ∷ x) (heard_so 
 
 heard_as : (s : Spoken) (ts : List Told) → ts ≡ told s → map octets_told ts ≡ heard s
 heard_as s ts e = ap (map octets_told) e ∙ heard_so s.said
-
-same_one : (j k : Joined) → Some j ≡ Some k → j ≡ k
-same_one j k e = cc
 
 -- ---- two sides of a connection, with the TSDUs of both in an order
 

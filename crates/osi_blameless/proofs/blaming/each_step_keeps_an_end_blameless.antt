@@ -69,7 +69,7 @@ pub record SoFar (barred : Class) (d : Direction) (at : ℕ) (front : List Value
 
 -- a packet with these units has passed
 abbrev pub with_packet : (d : Direction) (at : ℕ) → List ℕ → List Value → Joint → Joint
-with_packet d at octets units j = record j { course = units_pass (other d) at units j.course; coming = j.coming ++ octets ∷ [] }
+with_packet d at octets units j = record j { judge = units_pass (other d) at units j.judge; coming = j.coming ++ octets ∷ [] }
 
 -- What comes of it: the end takes it; or nothing is judged any more; or after its packet something else holds.
 pub data Comes (barred : Class) (d : Direction) (Rest : Joint → Type 0) (at : ℕ) (v : Value) (c : Passed) (new : Joint) : Type 0 where
@@ -88,63 +88,63 @@ module _ (barred : Class) (d : Direction) (local : Local) (Inv : (ℕ → Deeds)
   -- It holds from such a unit on; and each step keeps it.
   pub record RestsSo : Type 0 where
     pub unit : (deeds : ℕ → Deeds) (old : Joint) → Judging deeds old → (at : ℕ) (octets : List ℕ) (front back : List Value) (v : Value) →
-        IsOctets octets → units_of octets ≡ Ok (front ++ v ∷ back) → SoFar barred d at front old.course →
+        IsOctets octets → units_of octets ≡ Ok (front ++ v ∷ back) → SoFar barred d at front old.judge →
         IsFollowed d first (with_packet d at octets (front ++ v ∷ back) old) →
-        Comes barred d Rest at v (units_pass (other d) at front old.course) (with_packet d at octets (front ++ v ∷ back) old)
-    pub step : (step : Step) (old new : Joint) → Steps d step old new → length old.course.past < 2 ^ 64 → Rest old → Rest new
+        Comes barred d Rest at v (units_pass (other d) at front old.judge) (with_packet d at octets (front ++ v ∷ back) old)
+    pub step : (step : Step) (old new : Joint) → Steps d step old new → length old.judge.past < 2 ^ 64 → Rest old → Rest new
 
   module _ (so_rests : RestsSo) where
     pub data Stays (deeds : ℕ → Deeds) (j : Joint) : Type 0 where
       goes : Judging deeds j → Stays deeds j
-      ended : IsDone d j.course → Stays deeds j
+      ended : IsDone d j.judge → Stays deeds j
       rested : Rest j → Stays deeds j
 
     -- ---- a packet of the other side
 
     module _ (deeds : ℕ → Deeds) (at : ℕ) (octets : List ℕ) (units : List Value) (old : Joint) (all : IsOctets octets)
         (read : units_of octets ≡ Ok units) (g : Judging deeds old)
-        (not : (units_pass (other d) at units old.course).traffic.course.class ≡ Some barred → ⊥) where
+        (not : (units_pass (other d) at units old.judge).traffic.course.class ≡ Some barred → ⊥) where
       abbrev After : List Value → Passed
-      After front = units_pass (other d) at front old.course
+      After front = units_pass (other d) at front old.judge
 
       abbrev new : Joint
       new = with_packet d at octets units old
 
       data Passing : Type 0 where
-        all_taken : SoFar barred d at units old.course → Passing
+        all_taken : SoFar barred d at units old.judge → Passing
         then_done : IsDone d (After units) → Passing
         then_rests : Rest new → Passing
 
       followed : IsFollowed d first new
       followed = step_followed d first (passes_other at octets units) old new (all, read, refl) g.followed
 
-      module _ (front back : List Value) (v : Value) (is : units ≡ front ++ v ∷ back) (so : SoFar barred d at front old.course) where
+      module _ (front back : List Value) (v : Value) (is : units ≡ front ++ v ∷ back) (so : SoFar barred d at front old.judge) where
         abbrev next : Passed
         next = unit_passes (other d) at v (After front)
 
         joined : After (front ++ v ∷ []) ≡ next
-        joined = units_join (other d) at front (v ∷ []) old.course
+        joined = units_join (other d) at front (v ∷ []) old.judge
 
         all_join : After units ≡ units_pass (other d) at back next
-        all_join = ap After is ∙ units_join (other d) at front (v ∷ back) old.course
+        all_join = ap After is ∙ units_join (other d) at front (v ∷ back) old.judge
 
         next_not : next.traffic.course.class ≡ Some barred → ⊥
         next_not =
             units_not barred (other d) at back next
             (λ at_end. not (ap (λ (c : Passed). c.traffic.course.class) all_join ∙ at_end))
 
-        then_blameless : ArePassed barred d at (front ++ v ∷ []) old.course → NoneIsToBlame d next.sessions
+        then_blameless : ArePassed barred d at (front ++ v ∷ []) old.judge → NoneIsToBlame d next.sessions
         then_blameless taken =
             let parts : units ≡ (front ++ v ∷ []) ++ back = is ∙ sym (append_assoc front (v ∷ []) back) in
             subst (λ (c : Passed). NoneIsToBlame d c.sessions) joined
-            (none_so k.laws d deeds old.put old.begun old.holding.end (After (front ++ v ∷ [])) g.courses
+            (none_so k.laws d deeds old.put old.begun old.end.end (After (front ++ v ∷ [])) g.courses
             (k.leads.stands_amid deeds at octets (front ++ v ∷ []) back old new
             (subst (λ (l : List Value). Steps d (passes_other at octets l) old new) parts (all, read, refl)) taken
             (λ is. next_not (ap (λ (c : Passed). c.traffic.course.class) (sym joined) ∙ is)) g.holds))
 
-        on : IsPassed barred d v (After front) → IsStillJudged barred next → SoFar barred d at (front ++ v ∷ []) old.course
+        on : IsPassed barred d v (After front) → IsStillJudged barred next → SoFar barred d at (front ++ v ∷ []) old.judge
         on passed judged =
-            let taken = passed_then barred d at front v old.course so.passed passed in
+            let taken = passed_then barred d at front v old.judge so.passed passed in
             record {
               passed = taken;
               judged = subst (λ (c : Passed). IsStillJudged barred c) (sym joined) judged;
@@ -159,15 +159,15 @@ module _ (barred : Class) (d : Direction) (local : Local) (Inv : (ℕ → Deeds)
             (subst (λ (l : List Value). IsFollowed d first (with_packet d at octets l old)) is followed)
 
         then_rest : Comes barred d Rest at v (After front) (with_packet d at octets (front ++ v ∷ back) old) →
-            (SoFar barred d at (front ++ v ∷ []) old.course → Passing) → Passing
+            (SoFar barred d at (front ++ v ∷ []) old.judge → Passing) → Passing
         then_rest (is_taken passed judged) rest = rest (on passed judged)
         then_rest (is_done s) rest =
             then_done (subst (IsDone d) (sym all_join) (units_kept (IsDone d) (done_claim d) (other d) at back next s))
         then_rest (is_rest r) rest = then_rests (subst (λ (l : List Value). Rest (with_packet d at octets l old)) (sym is) r)
 
-      pass_on : (back front : List Value) → units ≡ front ++ back → SoFar barred d at front old.course → Passing
+      pass_on : (back front : List Value) → units ≡ front ++ back → SoFar barred d at front old.judge → Passing
       pass_on [] front is so =
-          all_taken (subst (λ (l : List Value). SoFar barred d at l old.course) (sym (is ∙ append-nil front)) so)
+          all_taken (subst (λ (l : List Value). SoFar barred d at l old.judge) (sym (is ∙ append-nil front)) so)
       pass_on (v ∷ back) front is so =
           then_rest front back v is so (comes front back v is so)
           (λ more. pass_on back (front ++ v ∷ []) (is ∙ sym (append_assoc front (v ∷ []) back)) more)
@@ -179,7 +179,7 @@ module _ (barred : Class) (d : Direction) (local : Local) (Inv : (ℕ → Deeds)
             judged = g.judged;
             never = g.never;
             sure = g.sure;
-            not = λ is. units_not barred (other d) at units old.course not is;
+            not = λ is. units_not barred (other d) at units old.judge not is;
           })
 
       other_by : Passing → Stays deeds new
@@ -195,31 +195,31 @@ module _ (barred : Class) (d : Direction) (local : Local) (Inv : (ℕ → Deeds)
     -- ---- a unit of the end
 
     own_so : (deeds : ℕ → Deeds) (at : ℕ) (v : Value) (old new : Joint) → Steps d (passes_own at v) old new → Judging deeds old →
-        (old.course.traffic.course.class ≡ Some barred → ⊥) → (new.course.traffic.course.class ≡ Some barred → ⊥) → Stays deeds new
+        (old.judge.traffic.course.class ≡ Some barred → ⊥) → (new.judge.traffic.course.class ≡ Some barred → ⊥) → Stays deeds new
     own_so deeds at v old new step g was_not not =
-        by (mild_reach d at v old.course (takes (way_of d) v old.course.traffic).told.finding refl none)
+        by (mild_reach d at v old.judge (takes (way_of d) v old.judge.traffic).told.finding refl none)
       where
-        none : IsNoBreak (takes (way_of d) v old.course.traffic).told.finding
-        none = own_mild d local at v old new step g.followed (going_of barred old.course g.judged)
+        none : IsNoBreak (takes (way_of d) v old.judge.traffic).told.finding
+        none = own_mild d local at v old new step g.followed (going_of barred old.judge g.judged)
 
-        by : ((takes (way_of d) v old.course.traffic).told.reach ≡ reach.Nothing)
-            ⊎ ((takes (way_of d) v old.course.traffic).told.reach ≡ reach.Everything) → Stays deeds new
+        by : ((takes (way_of d) v old.judge.traffic).told.reach ≡ reach.Nothing)
+            ⊎ ((takes (way_of d) v old.judge.traffic).told.reach ≡ reach.Everything) → Stays deeds new
         by (inl far) = goes (own_goes barred d local Inv k deeds at v old new step g was_not not none far)
-        by (inr far) = ended (subst (λ (j : Joint). IsDone d j.course) (sym step.4) (all_done d d at v old.course far g.never))
+        by (inr far) = ended (subst (λ (j : Joint). IsDone d j.judge) (sym step.2.2) (all_done d d at v old.judge far g.never))
 
     -- ---- each step
 
-    few_so : (deeds : ℕ → Deeds) (old : Joint) → Judging deeds old → IsWithout barred old.course → (i : ℕ) (j : Joined) →
-        slice_get old.course.sessions.live i ≡ Some j → length (heard (spoken (other d) j)) < 2 ^ 64
+    few_so : (deeds : ℕ → Deeds) (old : Joint) → Judging deeds old → IsWithout barred old.judge → (i : ℕ) (j : Joined) →
+        slice_get old.judge.sessions.live i ≡ Some j → length (heard (spoken (other d) j)) < 2 ^ 64
     few_so deeds old g within i j here = let most = g.few i j here in let few = within.few in omega (arith, most, few)
 
     turn_so : (turn : Turn) (old new : Joint) (t : TakesTurn turn old new) (deeds : ℕ → Deeds)
-        (does : TurnDoes (calls_from d) deeds turn old new t) → Judging deeds old → IsWithout barred old.course →
+        (does : TurnDoes (calls_from d) deeds turn old new t) → Judging deeds old → IsWithout barred old.judge →
         Stays (all_did deeds does.on.more) new
     turn_so turn old new t deeds does g within = goes (turn_goes barred d local Inv k turn old new t deeds does g within.not)
 
     -- what passes
-    judge_so : (step : Step) → IsOfJudge step → (old new : Joint) → Steps d step old new → IsWithout barred new.course →
+    judge_so : (step : Step) → IsOfJudge step → (old new : Joint) → Steps d step old new → IsWithout barred new.judge →
         (deeds : ℕ → Deeds) → Judging deeds old → Stays deeds new
     judge_so (turns turn) judge old new t within deeds g = absurd judge
     judge_so begins_own judge old new step within deeds g =
@@ -231,10 +231,10 @@ module _ (barred : Class) (d : Direction) (local : Local) (Inv : (ℕ → Deeds)
         own_so deeds at v old new step g (step_without barred d (passes_own at v) old new step within).not within.not
     judge_so (passes_other at octets units) judge old new (all, read, is) within deeds g =
         subst (Stays deeds) (sym is) (other_so deeds at octets units old all read g
-        (λ at_end. within.not (ap (λ (j : Joint). j.course.traffic.course.class) is ∙ at_end)))
+        (λ at_end. within.not (ap (λ (j : Joint). j.judge.traffic.course.class) is ∙ at_end)))
 
     -- what is over stays so
-    step_stays : (step : Step) (deeds then_deeds : ℕ → Deeds) (old new : Joint) → Steps d step old new → IsWithout barred new.course →
+    step_stays : (step : Step) (deeds then_deeds : ℕ → Deeds) (old new : Joint) → Steps d step old new → IsWithout barred new.judge →
         (Judging deeds old → Stays then_deeds new) → Stays deeds old → Stays then_deeds new
     step_stays step deeds then_deeds old new does within on (goes g) = on g
     step_stays step deeds then_deeds old new does within on (ended s) = ended (step_kept (IsDone d) (done_claim d) d step old new does s)
@@ -242,20 +242,20 @@ module _ (barred : Class) (d : Direction) (local : Local) (Inv : (ℕ → Deeds)
         rested (so_rests.step step old new does (step_without barred d step old new does within).few r)
 
     judge_stays : (step : Step) → IsOfJudge step → (deeds : ℕ → Deeds) (old new : Joint) → Steps d step old new →
-        IsWithout barred new.course → Stays deeds old → Stays deeds new
+        IsWithout barred new.judge → Stays deeds old → Stays deeds new
     judge_stays step judge deeds old new does within s =
         step_stays step deeds deeds old new does within (λ g. judge_so step judge old new does within deeds g) s
 
-    along_within : (steps : List Step) (old new : Joint) → StepsAlong d old steps new → IsWithout barred new.course →
-        IsWithout barred old.course
-    along_within [] old new is h = subst (λ (j : Joint). IsWithout barred j.course) is h
+    along_within : (steps : List Step) (old new : Joint) → StepsAlong d old steps new → IsWithout barred new.judge →
+        IsWithout barred old.judge
+    along_within [] old new is h = subst (λ (j : Joint). IsWithout barred j.judge) is h
     along_within (step ∷ steps) old new (mid, one, more) h = step_without barred d step old mid one (along_within steps mid new more h)
 
     abbrev pub Stood : Joint → Type 0
     Stood j = (deeds : ℕ → Deeds) × Stays deeds j
 
     along_so : (steps : List Step) (deeds : ℕ → Deeds) (old new : Joint) (along : StepsAlong d old steps new) →
-        StepsDo d (calls_from d) deeds old steps new along → IsWithout barred new.course → Stays deeds old → Stood new
+        StepsDo d (calls_from d) deeds old steps new along → IsWithout barred new.judge → Stays deeds old → Stood new
     along_so [] deeds old new is does within s = (deeds, subst (Stays deeds) (sym is) s)
     along_so (turns turn ∷ steps) deeds old new (mid, t, more) (does, rest) within s =
         let now = along_within steps mid new more within in
@@ -285,16 +285,16 @@ module _ (barred : Class) (d : Direction) (local : Local) (Inv : (ℕ → Deeds)
 
     -- after its steps, before what the other side sends and nobody can read
     pub at_last : (h : Holding) (capture : Capture) → IsFresh (calls_from d) local h → (comes : ComesByDoing d (calls_from d) capture h) →
-        IsWithout barred (comes_to capture).course → IsWithout barred comes.last.course × Stood comes.last
+        IsWithout barred (comes_to capture).course → IsWithout barred comes.last.judge × Stood comes.last
     at_last h capture fresh comes within = (
       last,
       along_so comes.steps (λ r. no_deeds) (begin h) comes.last comes.along comes.does last
           (goes (first_goes barred d local Inv k h fresh)),
     )
       where
-        from : ((comes_to capture).course ≡ comes.last.course) ⊎ TurnsBad d capture comes.last.course → IsWithout barred comes.last.course
+        from : ((comes_to capture).course ≡ comes.last.judge) ⊎ TurnsBad d capture comes.last.judge → IsWithout barred comes.last.judge
         from (inl is) = subst (IsWithout barred) is within
-        from (inr bad) = bad_within capture comes.last.course bad within
+        from (inr bad) = bad_within capture comes.last.judge bad within
 
-        last : IsWithout barred comes.last.course
+        last : IsWithout barred comes.last.judge
         last = from comes.all

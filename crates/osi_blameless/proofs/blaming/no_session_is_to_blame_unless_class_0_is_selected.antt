@@ -5,7 +5,7 @@ use Rattle.osi_blameless.proofs.Vocabulary.{◌≡◌, ◌∙◌, ◌⊎◌, inl
 use Rattle.osi_blameless.proofs.Vocabulary.{Local, Capture, other, Direction, Reach, class_for, takes, Deeds, Holding, IsFresh}
 use Rattle.osi_blameless.proofs.Vocabulary.{Cause, units_pass, unread, way_of, comes_to, Joint, Step, calls_from, LaterAlong, spoilt, Some}
 use Rattle.osi_rules.specs.declared.findings.Reach.TheVariants as reach
-use Rattle.osi_blameless.specs.transport.Pieces.{units_in}
+use Rattle.osi_blameless.specs.Packets.{units_in}
 use Rattle.osi_judge.specs.Courses.{Course as Passed}
 use Rattle.osi_blameless.specs.Spoilt.{GoesOn}
 use Rattle.osi_blameless.proofs.keeping.a_break_ends_no_judging_or_all.{IsGoing, nothing_goes, part_goes, side_known}
@@ -54,7 +54,7 @@ module _ (d : Direction) (local : Local) (Inv : (ℕ → Deeds) → Joint → Ty
   so_rests : RestsSo Zero d local Inv k NoRest
   so_rests = record {
     unit = λ deeds old g at octets front back v all read so followed.
-        one_by at front v old.course so _ (takes (way_of (other d)) v (units_pass (other d) at front old.course).traffic).told.reach refl;
+        one_by at front v old.judge so _ (takes (way_of (other d)) v (units_pass (other d) at front old.judge).traffic).told.reach refl;
     step = λ step old new does few none. none;
   }
 
@@ -63,31 +63,31 @@ module _ (d : Direction) (local : Local) (Inv : (ℕ → Deeds) → Joint → Ty
   abbrev StoodAt : Joint → Type 0
   StoodAt j = Stood Zero d local Inv k NoRest so_rests j
 
-  never_so : (j : Joint) → StoodAt j → NeverToBlame d j.course
+  never_so : (j : Joint) → StoodAt j → NeverToBlame d j.judge
   never_so j (deeds, goes g) = g.never
   never_so j (deeds, ended s) = s.never
   never_so j (deeds, rested none) = absurd none
 
   -- the other side sends what can't be read, and then anything passes
   module _ (at : ℕ) (cause_is : Cause) (packets : List (List ℕ)) (none_in : units_in packets ≡ []) (j : Joint)
-      (within : IsWithout Zero j.course) where
+      (within : IsWithout Zero j.judge) where
     abbrev bad : Joint
     bad = spoilt d at cause_is packets j
 
-    over_by : (x : Option Class) → IsGoing j.course → class_for (way_of (other d)) j.course.traffic.course ≡ x →
-        (class_for (way_of (other d)) j.course.traffic.course ≡ Some Zero → ⊥) → IsOver (unread (other d) at cause_is j.course)
+    over_by : (x : Option Class) → IsGoing j.judge → class_for (way_of (other d)) j.judge.traffic.course ≡ x →
+        (class_for (way_of (other d)) j.judge.traffic.course ≡ Some Zero → ⊥) → IsOver (unread (other d) at cause_is j.judge)
     over_by x going is not = grind arith
 
-    unread_so : StoodAt j → IsDone d bad.course
+    unread_so : StoodAt j → IsDone d bad.judge
     unread_so (deeds, goes g) = record {
-      over = over_by (class_for (way_of (other d)) j.course.traffic.course) g.judged refl
-          (λ zero. within.not (knows_zero (other d) j.course g.sure zero));
-      never = never_unread d (other d) at cause_is j.course g.never;
+      over = over_by (class_for (way_of (other d)) j.judge.traffic.course) g.judged refl
+          (λ zero. within.not (knows_zero (other d) j.judge g.sure zero));
+      never = never_unread d (other d) at cause_is j.judge g.never;
     }
-    unread_so (deeds, ended s) = (done_claim d).bad (other d) at cause_is j.course s
+    unread_so (deeds, ended s) = (done_claim d).bad (other d) at cause_is j.judge s
     unread_so (deeds, rested none) = absurd none
 
-    after_bad : (steps : List Step) (end : Joint) → LaterAlong d bad steps end → StoodAt j → NeverToBlame d end.course
+    after_bad : (steps : List Step) (end : Joint) → LaterAlong d bad steps end → StoodAt j → NeverToBlame d end.judge
     after_bad steps end along s =
         let last = later_kept (IsDone d) (done_claim d) d steps bad end along (unread_so s) in last.never
 
@@ -95,10 +95,10 @@ module _ (d : Direction) (local : Local) (Inv : (ℕ → Deeds) → Joint → Ty
       IsWithout Zero (comes_to capture).course → NeverToBlame d (comes_to capture).course
   never_to_blame h capture fresh comes within = by comes.on
     where
-      last : IsWithout Zero comes.last.course × StoodAt comes.last
+      last : IsWithout Zero comes.last.judge × StoodAt comes.last
       last = at_last Zero d local Inv k NoRest so_rests h capture fresh comes within
 
-      by : ((comes_to capture).course ≡ comes.last.course) ⊎ GoesOn d capture comes.last → NeverToBlame d (comes_to capture).course
+      by : ((comes_to capture).course ≡ comes.last.judge) ⊎ GoesOn d capture comes.last → NeverToBlame d (comes_to capture).course
       by (inl is) = subst (NeverToBlame d) (sym is) (never_so comes.last last.1)
       by (inr g) = subst (NeverToBlame d) (sym g.all)
           (after_bad g.at g.cause g.packets g.none comes.last last.0 g.steps g.end g.along last.1)

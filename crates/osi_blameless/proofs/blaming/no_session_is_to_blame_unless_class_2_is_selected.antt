@@ -5,11 +5,10 @@ use Rattle.osi_blameless.proofs.Vocabulary.{◌∷◌, ◌++◌, length, Option,
 use Rattle.osi_blameless.proofs.Vocabulary.{Zero, Local, Capture, other, Direction, Finding, Broke, TooMany, Reach, is_applied, reach_of}
 use Rattle.osi_blameless.proofs.Vocabulary.{class_for, is_stopped, takes, Deeds, Holding, IsFresh, Known, Cause, unit_passes, units_pass}
 use Rattle.osi_blameless.proofs.Vocabulary.{way_of, comes_to, Joint, Step, Steps, calls_from, Class, IsNoPacket, IsUnread, LaterAlong}
-use Rattle.osi_blameless.proofs.Vocabulary.{spoilt}
+use Rattle.osi_blameless.proofs.Vocabulary.{spoilt, units_in}
 use Rattle.osi_blameless.proofs.steps.what_the_turns_among_steps_do.{ComesByDoing}
 use Rattle.osi_rules.specs.declared.findings.Reach.TheVariants as reach
 use Rattle.osi_rules.specs.declared.findings.Rule.TheVariants as rule
-use Rattle.osi_blameless.specs.transport.Pieces.{units_in}
 use Rattle.osi_blameless.specs.transport.Wholes as wholes
 use Rattle.osi_judge.specs.Courses.{Course as Passed}
 use Rattle.osi_blameless.specs.Spoilt.{GoesOn}
@@ -34,7 +33,7 @@ use Rattle.osi_blameless.proofs.blaming.each_step_keeps_an_end_blameless.{Comes,
 use Rattle.osi_blameless.proofs.blaming.each_step_keeps_an_end_blameless.{done_claim, goes, is_done, is_rest, is_taken, rested}
 use Rattle.osi_blameless.proofs.blaming.each_step_keeps_an_end_blameless.{with_packet}
 use Rattle.osi_blameless.proofs.standing.nobody_of_a_side_is_to_blame.{NeverToBlame, never_unapplied, never_unread}
-use Rattle.osi_blameless.proofs.standing.what_has_no_effect_joins_nothing.{too_many_ends}
+use Rattle.osi_blameless.proofs.shown.what_has_no_effect_joins_nothing.{too_many_ends}
 use Rattle.osi_blameless.proofs.in_class_2.what_is_asked_of_what_holds_at_each_step.{IsWithout, Keeps, firm_so, goes_so, units_join}
 use Rattle.osi_blameless.proofs.shown.a_session_that_is_shown_is_not_to_blame.{not_both}
 
@@ -59,15 +58,15 @@ module _ (known : Known) (d : Direction) (local : Local) (Inv : (ℕ → Deeds) 
 
   -- a connection has lost its judgement, or the end goes on alone
   abbrev Rest : Joint → Type 0
-  Rest j = IsLoose j.course ⊎ (GoesWithout false j × NeverToBlame d j.course)
+  Rest j = IsLoose j.judge ⊎ (GoesWithout false j × NeverToBlame d j.judge)
 
   -- ---- a unit of the other side
 
   module _ (deeds : ℕ → Deeds) (old : Joint) (g : Judging deeds old) (at : ℕ) (octets : List ℕ) (front back : List Value) (v : Value)
-      (all : IsOctets octets) (read : units_of octets ≡ Ok (front ++ v ∷ back)) (so : SoFar Two d at front old.course)
+      (all : IsOctets octets) (read : units_of octets ≡ Ok (front ++ v ∷ back)) (so : SoFar Two d at front old.judge)
       (followed : IsFollowed d (wholes.begin (calls_from d) local) (with_packet d at octets (front ++ v ∷ back) old)) where
     abbrev c : Passed
-    c = units_pass (other d) at front old.course
+    c = units_pass (other d) at front old.judge
 
     abbrev next : Passed
     next = unit_passes (other d) at v c
@@ -81,8 +80,8 @@ module _ (known : Known) (d : Direction) (local : Local) (Inv : (ℕ → Deeds) 
     abbrev One : Type 0
     One = Comes Two d Rest at v c new
 
-    all_join : new.course ≡ units_pass (other d) at back next
-    all_join = units_join (other d) at front (v ∷ back) old.course
+    all_join : new.judge ≡ units_pass (other d) at back next
+    all_join = units_join (other d) at front (v ∷ back) old.judge
 
     -- it has no effect
     none_joined : is_applied found ≡ false → NeverToBlame d next
@@ -114,7 +113,7 @@ module _ (known : Known) (d : Direction) (local : Local) (Inv : (ℕ → Deeds) 
         (nothing_ends (other d) at v c
         ((reach_so (other d) at v c).far ∙ ap (reach_of (class_for (way_of (other d)) c.traffic.course)) after.closed) so.judged)
 
-    lost : IsLoose next → IsLoose new.course
+    lost : IsLoose next → IsLoose new.judge
     lost loose = subst IsLoose (sym all_join) (units_kept IsLoose loose_claim (other d) at back next loose)
 
     by_reach : is_applied found ≡ false → (r : Reach) → (takes (way_of (other d)) v c.traffic).told.reach ≡ r →
@@ -138,7 +137,7 @@ module _ (known : Known) (d : Direction) (local : Local) (Inv : (ℕ → Deeds) 
     one : One
     one = one_by (sort_of v found)
 
-  rest_step : (step : Step) (old new : Joint) → Steps d step old new → length old.course.past < 2 ^ 64 → Rest old → Rest new
+  rest_step : (step : Step) (old new : Joint) → Steps d step old new → length old.judge.past < 2 ^ 64 → Rest old → Rest new
   rest_step step old new does few (inl loose) = inl (step_kept IsLoose loose_claim d step old new does loose)
   rest_step step old new does few (inr (a, never)) =
       let later = later_too d step old new does in
@@ -161,7 +160,7 @@ module _ (known : Known) (d : Direction) (local : Local) (Inv : (ℕ → Deeds) 
   abbrev StoodAt : Joint → Type 0
   StoodAt j = Stood Two d local Inv k Rest so_rests j
 
-  ends_so : (j : Joint) → StoodAt j → EndsWell j.course
+  ends_so : (j : Joint) → StoodAt j → EndsWell j.judge
   ends_so j (deeds, goes g) = inl g.never
   ends_so j (deeds, ended s) = inl s.never
   ends_so j (deeds, rested (inl loose)) = inr loose
@@ -172,23 +171,23 @@ module _ (known : Known) (d : Direction) (local : Local) (Inv : (ℕ → Deeds) 
       (how : ((packet : List ℕ) × (packets ≡ packet ∷ []) × IsUnread (units_of packet))
       ⊎ ((packets ≡ []) × AllByRecursion IsNoPacket steps)) (j end : Joint)
       (along : LaterAlong d (spoilt d at cause_is packets j) steps end)
-      (within : IsWithout Two end.course) where
+      (within : IsWithout Two end.judge) where
     abbrev bad : Joint
     bad = spoilt d at cause_is packets j
 
-    on_alone : (ends : Bool) → (ends ≡ true → AllByRecursion IsNoPacket steps) → GoesWithout ends bad → NeverToBlame d bad.course →
-        EndsWell end.course
+    on_alone : (ends : Bool) → (ends ≡ true → AllByRecursion IsNoPacket steps) → GoesWithout ends bad → NeverToBlame d bad.judge →
+        EndsWell end.judge
     on_alone ends none a never =
         inl (later_alone known d local Inv k has_begun ends steps bad end along none within.few a never)
 
-    done_so : IsDone d bad.course → EndsWell end.course
+    done_so : IsDone d bad.judge → EndsWell end.judge
     done_so h = inl (later_kept (IsDone d) (done_claim d) d steps bad end along h).never
 
-    unread_by : (deeds : ℕ → Deeds) → Judging deeds j → NeverToBlame d bad.course → AfterUnread d bad.course →
-        (x : Option Class) → class_for (way_of (other d)) j.course.traffic.course ≡ x → EndsWell end.course
+    unread_by : (deeds : ℕ → Deeds) → Judging deeds j → NeverToBlame d bad.judge → AfterUnread d bad.judge →
+        (x : Option Class) → class_for (way_of (other d)) j.judge.traffic.course ≡ x → EndsWell end.judge
     unread_by deeds g never (all_over o) x is = done_so (record { over = o; never = never })
     unread_by deeds g never (is_alone_then a) (Some Zero) is =
-        let refuses_so = unread_is d at cause_is j.course g.judged (g.sure.agrees Zero) in
+        let refuses_so = unread_is d at cause_is j.judge g.judged (g.sure.agrees Zero) in
         elim how [
           | inl (packet, one, unreadable) ↦ on_alone false (λ no. absurd (let n : false ≡ true = no in cc))
               (search (arith, packet_begins_alone)) never
@@ -197,25 +196,26 @@ module _ (known : Known) (d : Direction) (local : Local) (Inv : (ℕ → Deeds) 
     unread_by deeds g never (is_alone_then a) None is = grind (arith, not_both, own_stopped, unread_ends)
     unread_by deeds g never (is_alone_then a) (Some Two) is = grind (arith, not_both, own_stopped, unread_ends)
 
-    after_bad : StoodAt j → EndsWell end.course
+    after_bad : StoodAt j → EndsWell end.judge
     after_bad (deeds, goes g) =
-        unread_by deeds g (never_unread d (other d) at cause_is j.course g.never)
-        (unread_alone d at cause_is j.course g.judged (g.sure.agrees Zero)) (class_for (way_of (other d)) j.course.traffic.course) refl
-    after_bad (deeds, ended s) = done_so ((done_claim d).bad (other d) at cause_is j.course s)
-    after_bad (deeds, rested (inl loose)) = grind (arith, later_kept, loose_claim)
+        unread_by deeds g (never_unread d (other d) at cause_is j.judge g.never)
+        (unread_alone d at cause_is j.judge g.judged (g.sure.agrees Zero)) (class_for (way_of (other d)) j.judge.traffic.course) refl
+    after_bad (deeds, ended s) = done_so ((done_claim d).bad (other d) at cause_is j.judge s)
+    after_bad (deeds, rested (inl loose)) =
+        inr (later_kept IsLoose loose_claim d steps bad end along (loose_claim.bad (other d) at cause_is j.judge loose))
     after_bad (deeds, rested (inr (a, never))) =
         on_alone false (λ no. absurd (let n : false ≡ true = no in cc))
         (spoilt_alone known d local Inv k has_begun at cause_is packets none_in j a)
-        (never_unread d (other d) at cause_is j.course never)
+        (never_unread d (other d) at cause_is j.judge never)
 
   pub ends_well : (h : Holding) (capture : Capture) → IsFresh (calls_from d) local h → ComesByDoing d (calls_from d) capture h →
       IsWithout Two (comes_to capture).course → EndsWell (comes_to capture).course
   ends_well h capture fresh comes within = by comes.on
     where
-      last : IsWithout Two comes.last.course × StoodAt comes.last
+      last : IsWithout Two comes.last.judge × StoodAt comes.last
       last = at_last Two d local Inv k Rest so_rests h capture fresh comes within
 
-      by : ((comes_to capture).course ≡ comes.last.course) ⊎ GoesOn d capture comes.last → EndsWell (comes_to capture).course
+      by : ((comes_to capture).course ≡ comes.last.judge) ⊎ GoesOn d capture comes.last → EndsWell (comes_to capture).course
       by (inl is) = subst EndsWell (sym is) (ends_so comes.last last.1)
       by (inr g) = subst EndsWell (sym g.all)
           (after_bad g.at g.cause g.packets g.none g.steps g.how comes.last g.end g.along (subst (IsWithout Two) g.all within) last.1)

@@ -3,8 +3,7 @@
 use Rattle.osi_blameless.proofs.Vocabulary.{arith, slice_get, ◌≡◌, refl, ap, ℕ, zero, suc, Bool, List, [], ◌∷◌, ◌++◌, length, map, set}
 use Rattle.osi_blameless.proofs.Vocabulary.{Option, Some, None, Meaning, Value, offset_of, Direction, All, Octets, Joined, Sessions, adds}
 use Rattle.osi_blameless.proofs.Vocabulary.{all_begin, asked, changed, count, placed, taken, taken_at, number_at, number_of, AreJudgedOf}
-use Rattle.osi_blameless.proofs.Vocabulary.{IsJudgedOf, SessionsOf}
-use Rattle.std.specs.Option.{option_map}
+use Rattle.osi_blameless.proofs.Vocabulary.{IsJudgedOf, SessionsOf, option_map}
 use Rattle.osi_rules.specs.declared.findings.Meaning.TheVariants as meaning
 use Rattle.osi_judge.specs.Connections.{meant, packet_begins}
 

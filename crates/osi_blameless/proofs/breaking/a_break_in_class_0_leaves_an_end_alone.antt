@@ -5,10 +5,9 @@ use Rattle.osi_blameless.proofs.Vocabulary.{[], ◌∷◌, ◌++◌, length, Som
 use Rattle.osi_blameless.proofs.Vocabulary.{IsOctets, units_of, Value, data0, TpduFault, Two, Zero, Local, other, Direction, is_applied}
 use Rattle.osi_blameless.proofs.Vocabulary.{class_for, takes, side_zero, Deeds, AreHard, IsHard, Known, Cause, unit_passes, units_pass}
 use Rattle.osi_blameless.proofs.Vocabulary.{unread, way_of, Joint, Step, begins_other, begins_own, passes_other, passes_own, turns}
-use Rattle.osi_blameless.proofs.Vocabulary.{stops_last, calls_from, IsNoPacket, IsUnread, LaterAlong, LaterSteps, spoilt}
+use Rattle.osi_blameless.proofs.Vocabulary.{stops_last, calls_from, IsNoPacket, IsUnread, LaterAlong, LaterSteps, spoilt, units_in}
 use Rattle.osi_rules.specs.declared.courses.Course.{Course as Judging}
 use Rattle.osi_rules.specs.declared.findings.Reach.TheVariants as reach
-use Rattle.osi_blameless.specs.transport.Pieces.{units_in}
 use Rattle.osi_blameless.specs.transport.Wholes as wholes
 use Rattle.osi_judge.specs.Courses.{Course as Passed}
 use Rattle.osi_blameless.proofs.keeping.a_break_ends_no_judging_or_all.{reach_so, refuses}
@@ -17,7 +16,7 @@ use Rattle.osi_blameless.proofs.keeping.in_class_0_one_side_alone_is_judged.{IsA
 use Rattle.osi_blameless.proofs.keeping.later_steps_are_events.{later_followed, spoilt_followed}
 use Rattle.osi_blameless.proofs.keeping.steps_are_events.{IsFollowed}
 use Rattle.osi_blameless.proofs.steps.all_is_judged_or_nothing.{IsJudged}
-use Rattle.osi_blameless.proofs.keeping.what_is_halted_stays_halted.{unread_same}
+use Rattle.osi_blameless.proofs.steps.what_is_halted_stays_halted.{unread_same}
 use Rattle.osi_blameless.proofs.steps.what_passes_keeps_a_claim.{units_kept}
 use Rattle.osi_blameless.proofs.keeping.what_is_judged_beside_a_halted_side.{IsBeside, beside_break, beside_unread}
 use Rattle.osi_blameless.proofs.breaking.a_dt_that_is_too_long_stays_so.{IsTooLong, breaks_too_long}
@@ -29,7 +28,7 @@ use Rattle.osi_blameless.proofs.breaking.an_end_goes_on_as_if_no_break_had_come.
 use Rattle.osi_blameless.proofs.breaking.an_end_of_class_0_has_begun_what_a_judge_has_joined.{HasBegun}
 use Rattle.osi_blameless.proofs.breaking.an_end_of_class_0_has_its_connection_open.{MayBeFollowed}
 use Rattle.osi_blameless.proofs.standing.each_step_leaves_class_0_one_connection.{Sure, sure_claim}
-use Rattle.osi_blameless.proofs.blaming.no_more_tsdus_than_moments_have_passed.{AreFew, few_claim}
+use Rattle.osi_blameless.proofs.breaking.no_more_tsdus_than_moments_have_passed.{AreFew, few_claim}
 use Rattle.osi_blameless.proofs.in_class_2.what_is_asked_of_what_holds_at_each_step.{ArePassed, Keeps, firm_so, goes_so, long_claim}
 use Rattle.osi_blameless.proofs.in_class_2.what_is_asked_of_what_holds_at_each_step.{knows_zero, units_join}
 use Rattle.osi_blameless.proofs.small_facts_that_many_lemmas_use.{zero_two}
@@ -76,27 +75,27 @@ module _ (known : Known) (d : Direction) (local : Local)
   -- ---- a unit with which the judging of the other side ends
 
   module _ (deeds : ℕ → Deeds) (at : ℕ) (octets : List ℕ) (front back : List Value) (v : Value) (old : Joint) (g : Judged deeds old)
-      (all : IsOctets octets) (read : units_of octets ≡ Ok (front ++ v ∷ back)) (taken : ArePassed Two d at front old.course)
-      (judged : IsJudged (units_pass (other d) at front old.course))
-      (never : NeverToBlame d (units_pass (other d) at front old.course))
-      (unapplied : is_applied (takes (way_of (other d)) v (units_pass (other d) at front old.course).traffic).told.finding ≡ false)
-      (side : (takes (way_of (other d)) v (units_pass (other d) at front old.course).traffic).told.reach ≡ reach.Side)
-      (alone : IsAlone d (unit_passes (other d) at v (units_pass (other d) at front old.course)))
+      (all : IsOctets octets) (read : units_of octets ≡ Ok (front ++ v ∷ back)) (taken : ArePassed Two d at front old.judge)
+      (judged : IsJudged (units_pass (other d) at front old.judge))
+      (never : NeverToBlame d (units_pass (other d) at front old.judge))
+      (unapplied : is_applied (takes (way_of (other d)) v (units_pass (other d) at front old.judge).traffic).told.finding ≡ false)
+      (side : (takes (way_of (other d)) v (units_pass (other d) at front old.judge).traffic).told.reach ≡ reach.Side)
+      (alone : IsAlone d (unit_passes (other d) at v (units_pass (other d) at front old.judge)))
       (kind : Kind v) where
     abbrev c : Passed
-    c = units_pass (other d) at front old.course
+    c = units_pass (other d) at front old.judge
 
     abbrev after_it : Passed
-    after_it = units_pass (other d) at (front ++ v ∷ back) old.course
+    after_it = units_pass (other d) at (front ++ v ∷ back) old.judge
 
     abbrev new : Joint
-    new = record old { course = after_it; coming = old.coming ++ octets ∷ [] }
+    new = record old { judge = after_it; coming = old.coming ++ octets ∷ [] }
 
     zero : class_for (way_of (other d)) c.traffic.course ≡ Some Zero
     zero = grind (arith, side_zero, reach_so)
 
     sure : Sure c
-    sure = units_kept Sure sure_claim (other d) at front old.course g.sure
+    sure = units_kept Sure sure_claim (other d) at front old.judge g.sure
 
     long_so : (end : Bool) (user : List ℕ) → v ≡ data0 end user → IsTooLong d user c.traffic
     long_so end user is = grind (arith, breaks_too_long, sure, firm_so, selects, goes_so)
@@ -117,10 +116,10 @@ module _ (known : Known) (d : Direction) (local : Local)
     -- what there is without it: what passed before, and of its packet the units before it
     record Before (w : Joint) : Type 0 where
       goes : Judged deeds w
-      holding : w.holding ≡ old.holding
+      end : w.end ≡ old.end
       put : w.put ≡ old.put
       begun : w.begun ≡ old.begun
-      course : w.course ≡ c
+      judge : w.judge ≡ c
       extra : List (List ℕ)
       coming : w.coming ≡ old.coming ++ extra
       followed : AllByRecursion MayBeFollowed (units_in extra)
@@ -133,7 +132,7 @@ module _ (known : Known) (d : Direction) (local : Local)
           few = (few_claim (other d)).passes (other d) at v c (grind (arith, units_kept, few_claim));
         }) in
         let all_join : units_pass (other d) at back (unit_passes (other d) at v c) ≡ after_it =
-        sym (units_join (other d) at front (v ∷ back) old.course) in
+        sym (units_join (other d) at front (v ∷ back) old.judge) in
         record {
           deeds = deeds;
           without = w;
@@ -141,12 +140,12 @@ module _ (known : Known) (d : Direction) (local : Local)
             goes = b.goes;
             put = ap packets b.put;
             begun = b.begun;
-            beside = subst (λ (x : Passed). IsBeside d x w.course) all_join (subst (IsBeside d _) (sym b.course) s.beside);
+            beside = subst (λ (x : Passed). IsBeside d x w.judge) all_join (subst (IsBeside d _) (sym b.judge) s.beside);
             alone = subst (IsAlone d) all_join s.alone;
             followed = f;
             few = subst (AreFew (other d)) all_join s.few;
-            how = waits_for refl (sym b.holding) old.coming b.extra b.coming b.followed octets [] refl
-                (subst (λ (x : Passed). IsHardFor d x octets) (sym b.course) hard_packet);
+            how = waits_for refl (sym b.end) old.coming b.extra b.coming b.followed octets [] refl
+                (subst (λ (x : Passed). IsHardFor d x octets) (sym b.judge) hard_packet);
           };
         }
 
@@ -158,14 +157,14 @@ module _ (known : Known) (d : Direction) (local : Local)
         by (u ∷ xs) some =
             let l = leads_off u xs v back octets all (read ∙ ap (λ (f : List Value). Ok (f ++ v ∷ back)) some) in
             let front_read : units_of l.packet ≡ Ok front = leads_read (u ∷ xs) l ∙ ap (λ (f : List Value). Ok f) (sym some) in
-            let w : Joint = record old { course = c; coming = old.coming ++ l.packet ∷ [] } in
+            let w : Joint = record old { judge = c; coming = old.coming ++ l.packet ∷ [] } in
             begins_alone f w (record {
               goes = other_goes Two d local Inv k deeds at l.packet front old w (l.octets, front_read, refl) g taken
                   (zero_two c.traffic.course.class (knows_zero (other d) c sure zero)) judged never;
-              holding = refl;
+              end = refl;
               put = refl;
               begun = refl;
-              course = refl;
+              judge = refl;
               extra = l.packet ∷ [];
               coming = refl;
               followed = grind (arith, append-nil);
@@ -174,9 +173,9 @@ module _ (known : Known) (d : Direction) (local : Local)
   -- ---- what can't be read
 
   module _ (deeds : ℕ → Deeds) (at : ℕ) (cause : Cause) (packets : List (List ℕ)) (none : units_in packets ≡ []) (old : Joint)
-      (g : Judged deeds old) (zero : class_for (way_of (other d)) old.course.traffic.course ≡ Some Zero)
-      (is : unread (other d) at cause old.course ≡ refuses (other d) at cause old.course)
-      (alone : IsAlone d (unread (other d) at cause old.course)) where
+      (g : Judged deeds old) (zero : class_for (way_of (other d)) old.judge.traffic.course ≡ Some Zero)
+      (is : unread (other d) at cause old.judge ≡ refuses (other d) at cause old.judge)
+      (alone : IsAlone d (unread (other d) at cause old.judge)) where
     abbrev bad : Joint
     bad = spoilt d at cause packets old
 
@@ -188,10 +187,10 @@ module _ (known : Known) (d : Direction) (local : Local)
         goes = g;
         put = refl;
         begun = refl;
-        beside = beside_unread d at cause old.course zero is;
+        beside = beside_unread d at cause old.judge zero is;
         alone = alone;
         followed = spoilt_followed d (wholes.begin (calls_from d) local) at cause packets none old g.followed;
-        few = (few_claim (other d)).bad (other d) at cause old.course g.few;
+        few = (few_claim (other d)).bad (other d) at cause old.judge g.few;
         how = how;
       };
     }
@@ -215,7 +214,7 @@ module _ (known : Known) (d : Direction) (local : Local)
   pub spoilt_alone : (at : ℕ) (cause : Cause) (packets : List (List ℕ)) → units_in packets ≡ [] → (old : Joint) → AsWithout false old →
       AsWithout false (spoilt d at cause packets old)
   spoilt_alone at cause packets none old a =
-      let same = unread_same (other d) at cause old.course a.is.alone.halted in
+      let same = unread_same (other d) at cause old.judge a.is.alone.halted in
       record {
         deeds = a.deeds;
         without = a.without;
@@ -223,7 +222,7 @@ module _ (known : Known) (d : Direction) (local : Local)
           goes = a.is.goes;
           put = a.is.put;
           begun = a.is.begun;
-          beside = subst (λ (c : Passed). IsBeside d c a.without.course) (sym same) a.is.beside;
+          beside = subst (λ (c : Passed). IsBeside d c a.without.judge) (sym same) a.is.beside;
           alone = subst (IsAlone d) (sym same) a.is.alone;
           followed = spoilt_followed d first at cause packets none old a.is.followed;
           few = subst (AreFew (other d)) (sym same) a.is.few;
@@ -240,7 +239,7 @@ module _ (known : Known) (d : Direction) (local : Local)
       by (none_comes spent same is) = absurd (let no : false ≡ true = spent in cc)
 
   pub later_step : (ends : Bool) (step : Step) (old new : Joint) → LaterSteps d step old new → (ends ≡ true → IsNoPacket step) →
-      length old.course.past < 2 ^ 64 → AsWithout ends old → AsWithout ends new
+      length old.judge.past < 2 ^ 64 → AsWithout ends old → AsWithout ends new
   later_step ends (turns turn) old new t none short a = search (arith, turn_alone)
   later_step ends begins_own old new step none short a = search (arith, own_begins_alone)
   later_step ends begins_other old new step none short a = search (arith, other_begins_alone)
@@ -252,25 +251,25 @@ module _ (known : Known) (d : Direction) (local : Local)
 
   -- nobody of the end is to blame
   pub never_alone : (ends : Bool) (step : Step) (old new : Joint) → LaterSteps d step old new → AsWithout ends old → AsWithout ends new →
-      NeverToBlame d old.course → NeverToBlame d new.course
+      NeverToBlame d old.judge → NeverToBlame d new.judge
   never_alone ends (turns turn) old new t a now never = subst (NeverToBlame d) (sym t.course) never
   never_alone ends begins_own old new step a now never =
-      subst (λ (j : Joint). NeverToBlame d j.course) (sym step.2) (never_begins d d old.course never)
+      subst (λ (j : Joint). NeverToBlame d j.judge) (sym step.2) (never_begins d d old.judge never)
   never_alone ends begins_other old new step a now never =
-      subst (λ (j : Joint). NeverToBlame d j.course) (sym step) (never_begins d (other d) old.course never)
+      subst (λ (j : Joint). NeverToBlame d j.judge) (sym step) (never_begins d (other d) old.judge never)
   never_alone ends (passes_own at v) old new step a now never =
-      subst (λ (j : Joint). NeverToBlame d j.course) (sym step.4) (never_unit d d at v old.course never
-      (subst (λ (j : Joint). NoneIsToBlame d j.course.sessions) step.4
+      subst (λ (j : Joint). NeverToBlame d j.judge) (sym step.2.2) (never_unit d d at v old.judge never
+      (subst (λ (j : Joint). NoneIsToBlame d j.judge.sessions) step.2.2
       (none_alone known d local Inv k has_begun ends new now)))
   never_alone ends (passes_other at packet units) old new step a now never =
-      subst (λ (j : Joint). NeverToBlame d j.course) (sym step.2) (units_alone d at units old.course a.is.alone never)
+      subst (λ (j : Joint). NeverToBlame d j.judge) (sym step.2) (units_alone d at units old.judge a.is.alone never)
 
   pub later_alone : (ends : Bool) (steps : List Step) (old new : Joint) → LaterAlong d old steps new →
-      (ends ≡ true → AllByRecursion IsNoPacket steps) → length new.course.past < 2 ^ 64 → AsWithout ends old →
-      NeverToBlame d old.course → NeverToBlame d new.course
-  later_alone ends [] old new is none short a never = subst (λ (j : Joint). NeverToBlame d j.course) (sym is) never
+      (ends ≡ true → AllByRecursion IsNoPacket steps) → length new.judge.past < 2 ^ 64 → AsWithout ends old →
+      NeverToBlame d old.judge → NeverToBlame d new.judge
+  later_alone ends [] old new is none short a never = subst (λ (j : Joint). NeverToBlame d j.judge) (sym is) never
   later_alone ends (step ∷ steps) old new (mid, one, more) none short a never =
-      let longer = later_kept (λ c. length old.course.past ≤ length c.past) (long_claim (length old.course.past)) d (step ∷ steps) old new
+      let longer = later_kept (λ c. length old.judge.past ≤ length c.past) (long_claim (length old.judge.past)) d (step ∷ steps) old new
       (mid, one, more) (omega arith) in
       let now = later_step ends step old mid one (λ yes. (none yes).0) (omega (arith, longer, short)) a in
       later_alone ends steps mid new more (λ yes. (none yes).1) short now (never_alone ends step old mid one a now never)

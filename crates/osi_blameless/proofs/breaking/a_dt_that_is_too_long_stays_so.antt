@@ -2,17 +2,18 @@
 -- For a TSDU of the other side that becomes too long.
 use Rattle.osi_blameless.proofs.Vocabulary.{arith, ◌≡◌, ◌∙◌, refl, sym, ap, subst, ℕ, zero, suc, ◌+◌, ◌<◌, Bool, false, List, [], ◌∷◌}
 use Rattle.osi_blameless.proofs.Vocabulary.{map, length, nat_le, Some, eqb-true, leb-false, slice_get, Value, data0, longest_tsdu}
-use Rattle.osi_blameless.proofs.Vocabulary.{Zero, other, Direction, Right, Connection, Broke, Kept, Reach, is_applied, first_failed}
-use Rattle.osi_blameless.proofs.Vocabulary.{begins, own, State, class_for, connection_after, is_stopped, takes, unlike, IsFirm}
+use Rattle.osi_blameless.proofs.Vocabulary.{Zero, other, Direction, Right, Connection, Broke, Kept, is_applied, first_failed}
+use Rattle.osi_blameless.proofs.Vocabulary.{begins, own, State, class_for, is_stopped, takes, unlike, IsFirm}
 use Rattle.osi_blameless.proofs.Vocabulary.{after_change, Course, unit_passes, way_of}
 use Rattle.osi_rules.specs.declared.findings.Rule.TheVariants as rule
 use Rattle.osi_rules.specs.Traffic as traffic
 use Rattle.osi_blameless.proofs.small_facts_that_many_lemmas_use.{same_item, same_one}
-use Rattle.osi_blameless.proofs.standing.a_dt_of_class_0_has_one_place.{IsOnly, dt_takes, open_not_refused}
-use Rattle.osi_blameless.proofs.standing.all_connections_stand.{other_after}
+use Rattle.osi_blameless.proofs.standing.a_dt_of_class_0_has_one_place.{IsOnly, dt_takes}
+use Rattle.osi_blameless.proofs.transport.requests.one_request_waits.{open_not_refused}
 use Rattle.osi_blameless.proofs.shown.connections_have_the_same_places.{unit_knows}
 use Rattle.osi_blameless.proofs.standing.each_step_leaves_class_0_one_connection.{IsSure, Sure, is_zero}
 use Rattle.osi_blameless.proofs.in_class_0.what_the_stage_of_a_whole_end_says.{IsDt0}
+use Rattle.osi_blameless.proofs.coming.the_dr_of_the_other_side_is_in_flight.{theirs_after as other_begun}
 
 -- ---- the one connection
 
@@ -63,10 +64,6 @@ pub begins_too_long : (d e : Direction) (user : List ℕ) (s : State) → IsOnly
 begins_too_long d e user s o long q = grind (arith, connection_of, same_item, eqb-true, begun_own, open_not_refused, unlike)
 
 -- ---- a DT of the end passes
-
-other_begun : (d : Direction) (v : Value) (b : Bool) (r : Reach) (c : Connection) →
-    own (way_of (other d)) (connection_after (way_of d) v b r c) ≡ own (way_of (other d)) c
-other_begun d v b r c = grind (arith, other_after)
 
 own_long : (d : Direction) (end : Bool) (mine user : List ℕ) (s : State) → IsSure s → IsFirm s.course → s.course.class ≡ Some Zero →
     is_stopped (way_of d) s.course ≡ false → (takes (way_of d) (data0 end mine) s).told.finding ≡ Kept → IsTooLong d user s →

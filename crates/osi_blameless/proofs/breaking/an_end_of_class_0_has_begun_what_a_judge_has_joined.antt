@@ -1,12 +1,10 @@
 -- An end of class 0 to which no DT is in flight has begun of a TSDU what a judge has joined of it.
 -- For a TSDU of the other side that becomes too long.
-use Rattle.osi_blameless.proofs.Vocabulary.{arith, ◌≡◌, ◌∙◌, inl, inr, refl, ap, subst, ℕ, ◌<◌, List, [], Some, eq-eqb}
-use Rattle.osi_blameless.proofs.Vocabulary.{slice_get, AllByRecursion, Standing, Part, Two, Zero, Local, RiseFrom, linked, other}
-use Rattle.osi_blameless.proofs.Vocabulary.{Direction, Left, Right, has_given, IsFirm, Deeds, IsZeroAt, IsSane, amid}
-use Rattle.osi_blameless.proofs.Vocabulary.{stage_at, stage_is, Joined, spoken, begun_octets, Joint, State, is_open, own, way_of, true, sym}
+use Rattle.osi_blameless.proofs.Vocabulary.{arith, ◌≡◌, ◌∙◌, inl, inr, refl, ap, subst, ℕ, ◌<◌, List, [], Some, eq-eqb, slice_get}
+use Rattle.osi_blameless.proofs.Vocabulary.{AllByRecursion, Standing, Part, Two, Zero, Local, RiseFrom, linked, other, Direction, Left}
+use Rattle.osi_blameless.proofs.Vocabulary.{Right, has_given, IsFirm, Deeds, IsZeroAt, IsSane, amid, stage_at, stage_is, Joined, spoken}
+use Rattle.osi_blameless.proofs.Vocabulary.{begun_octets, Joint, State, is_open, own, way_of, true, sym, units_in}
 use Rattle.osi_carrier.specs.State.{State as Carrier}
-use Rattle.osi_blameless.specs.transport.Pieces.{units_in}
-use Rattle.osi_blameless.specs.ends.Courses as honest
 use Rattle.osi_blameless.proofs.small_facts_that_many_lemmas_use.{none_some}
 use Rattle.osi_blameless.proofs.standing.a_dt_of_class_0_has_one_place.{IsOnly}
 use Rattle.osi_blameless.proofs.breaking.an_end_of_class_0_has_its_connection_open.{MayBeFollowed}
@@ -14,17 +12,16 @@ use Rattle.osi_blameless.proofs.in_class_0.an_end_stands_in_class_0.{IsGone, kno
 use Rattle.osi_blameless.proofs.in_class_0.what_an_end_keeps_until_class_2.{StandsUntilTwo, none_selected}
 use Rattle.osi_blameless.proofs.in_class_2.what_is_asked_of_what_holds_at_each_step.{HaveCourses}
 use Rattle.osi_blameless.proofs.putting.nothing_is_done_before_a_cr_passes.{is_under_way, may_take}
-use Rattle.osi_blameless.proofs.small_facts_that_many_lemmas_use.{same_units}
 use Rattle.osi_blameless.proofs.breaking.what_a_link_has_begun_is_left_over.{joined_is_begun, none_in_flight}
-use Rattle.osi_blameless.proofs.coming.what_is_in_flight_to_an_end.{known_of}
+use Rattle.osi_blameless.proofs.standing.what_is_in_flight_to_an_end.{known_of}
 
 -- If class 0 is selected, and class 2 is not, what a judge has joined of the unfinished TSDU of the other side is what the link has
 -- begun.
 abbrev pub HasBegun : (d : Direction) → ((ℕ → Deeds) → Joint → Type 0) → Type 0
-HasBegun d Inv = (deeds : ℕ → Deeds) (j : Joint) → Inv deeds j → HaveCourses d deeds j → IsSane j.holding →
-    IsFirm j.course.traffic.course → j.course.traffic.course.class ≡ Some Zero → (j.course.traffic.course.class ≡ Some Two → ⊥) →
-    AllByRecursion MayBeFollowed (units_in j.coming) → (r peer : ℕ) (link : Standing) → IsZeroAt r peer link j.holding.end.carrier →
-    (o : IsOnly j.course.traffic) (x : Joined) → slice_get j.course.sessions.live o.place ≡ Some x →
+HasBegun d Inv = (deeds : ℕ → Deeds) (j : Joint) → Inv deeds j → HaveCourses d deeds j → IsSane j.end →
+    IsFirm j.judge.traffic.course → j.judge.traffic.course.class ≡ Some Zero → (j.judge.traffic.course.class ≡ Some Two → ⊥) →
+    AllByRecursion MayBeFollowed (units_in j.coming) → (r peer : ℕ) (link : Standing) → IsZeroAt r peer link j.end.end.carrier →
+    (o : IsOnly j.judge.traffic) (x : Joined) → slice_get j.judge.sessions.live o.place ≡ Some x →
     begun_octets (spoken (other d) x).begun ≡ link.ends.joining.begun
 
 -- ---- the connection of the end
@@ -41,21 +38,21 @@ module _ (r peer : ℕ) (link : Standing) (c : Carrier) (z : IsZeroAt r peer lin
   is_some rise = (subst (RiseFrom 0) z.live rise).0
 
   none_later : (coming : List (List ℕ)) → AllByRecursion MayBeFollowed (units_in coming) → (q : ℕ) (later : List Part) → q ≡ r →
-      known_of (may_take c) (honest.units_in coming) q later → later ≡ []
+      known_of (may_take c) (units_in coming) q later → later ≡ []
   none_later coming all q later same sure =
       sure (ap (λ (n : ℕ). may_take c n) same ∙ ap is_under_way is_amid)
-      ∙ none_in_flight q (honest.units_in coming) (subst (AllByRecursion MayBeFollowed) (same_units coming) all)
+      ∙ none_in_flight q (units_in coming) all
 
 pub begun_until_two : (d : Direction) (local : Local) → HasBegun d (StandsUntilTwo d local)
 begun_until_two d local deeds j (inl before) courses sane firm class not all r peer link at o x here =
-    none_some j.course.traffic.course.class Zero (none_selected d local deeds j before) class
+    none_some j.judge.traffic.course.class Zero (none_selected d local deeds j before) class
 begun_until_two d local deeds j (inr h) courses sane firm class not all r peer link at o x here =
-    let end = j.holding.end.carrier in
+    let end = j.end.end.carrier in
     let z = h.zero in
     let same : r ≡ h.r = h.amid_is r peer (is_some r peer link end at sane.between.sound.orderly.rise) (is_amid r peer link end at) in
-    let there : o.place ≡ z.one.place = place_of_one d h.r (IsGone end) j.course.traffic j.course.sessions o z.one in
-    joined_is_begun d deeds (known_in end (honest.units_in j.coming)) j.put j.begun j.course.traffic j.course.sessions
-    j.holding.end z.all courses r peer link at o.place o.connection x o.there here
+    let there : o.place ≡ z.one.place = place_of_one d h.r (IsGone end) j.judge.traffic j.judge.sessions o z.one in
+    joined_is_begun d deeds (known_in end (units_in j.coming)) j.put j.begun j.judge.traffic j.judge.sessions
+    j.end.end z.all courses r peer link at o.place o.connection x o.there here
     (z.all.judged firm.firm o.place o.connection o.there) (own_open d o)
-    (z.one.mine x (ap (slice_get j.course.sessions.live) (sym there) ∙ here) ∙ ap (λ (n : ℕ). Some n) (sym same))
+    (z.one.mine x (ap (slice_get j.judge.sessions.live) (sym there) ∙ here) ∙ ap (λ (n : ℕ). Some n) (sym same))
     (λ q later is sure. none_later r peer link end at j.coming all q later is sure.1)

@@ -3,13 +3,12 @@
 use Rattle.osi_blameless.proofs.Vocabulary.{ap, is_some, List, None, Some, subst, sym, true, ℕ, ◌++◌, ◌∙◌, ◌∷◌, ◌≡◌, AllByRecursion}
 use Rattle.osi_blameless.proofs.Vocabulary.{confirm, Connect, Value, Standing, Zero, Local, Carrier, Traffic as State, Connection, Left}
 use Rattle.osi_blameless.proofs.Vocabulary.{Right, Direction, answered, known, quiet, refused, IsInZero, calm_judge, Whole, Joint, IsFirm}
-use Rattle.osi_blameless.proofs.Vocabulary.{arith, may_be_followed, ended, waits, IsZeroAt, calls_from, Disconnects}
-use Rattle.osi_blameless.specs.transport.Pieces.{units_in}
+use Rattle.osi_blameless.proofs.Vocabulary.{arith, may_be_followed, ended, waits, IsZeroAt, calls_from, Disconnects, units_in}
 use Rattle.osi_blameless.specs.transport.Wholes as wholes
 use Rattle.osi_blameless.proofs.transport.requests.how_requests_go_on.{asks, zero}
 use Rattle.osi_blameless.proofs.keeping.a_carrier_does_events.{none_of}
 use Rattle.osi_blameless.proofs.small_facts_that_many_lemmas_use.{none_some, over_none, zero_two}
-use Rattle.osi_blameless.proofs.keeping.steps_are_events.{IsFollowed}
+use Rattle.osi_blameless.proofs.keeping.steps_are_events.{whole_of, IsFollowed}
 use Rattle.osi_blameless.proofs.in_class_0.what_the_stage_of_a_whole_end_says.{StageOf, stage_of}
 use Rattle.osi_blameless.proofs.putting.what_a_turn_puts_goes_to_its_peer.{one_of}
 
@@ -55,12 +54,12 @@ module _ (local : Local) (w : Whole) (c : Carrier) (still : w.end.ended ≡ None
 -- ---- at a judge
 
 module _ (local : Local) where
-  pub end_opens : (d : Direction) (j : Joint) → IsFollowed d (wholes.begin (calls_from d) local) j → IsFirm j.course.traffic.course →
-      j.course.traffic.course.class ≡ Some Zero → AllByRecursion MayBeFollowed (units_in j.coming) → j.holding.end.carrier.ended ≡ None →
-      IsOpenIn j.holding.end.carrier
+  pub end_opens : (d : Direction) (j : Joint) → IsFollowed d (wholes.begin (calls_from d) local) j → IsFirm j.judge.traffic.course →
+      j.judge.traffic.course.class ≡ Some Zero → AllByRecursion MayBeFollowed (units_in j.coming) → j.end.end.carrier.ended ≡ None →
+      IsOpenIn j.end.end.carrier
   end_opens d j f firm class all lasts =
-      let still = none_of f.whole.end.ended (sym f.like.over ∙ ap is_some lasts) in
+      let still = none_of f.end.ended (sym f.like.over ∙ ap is_some lasts) in
       let same = f.like.lasts still in
-      opens_by local f.whole j.holding.end.carrier still lasts (ap (λ (c : Carrier). c.class) same)
-      (ap (λ (c : Carrier). c.live) same) (ap (λ (t : State). t.course.class) f.judge ∙ class) d (stage_of d local j f firm)
+      opens_by local (whole_of f) j.end.end.carrier still lasts (ap (λ (c : Carrier). c.class) same)
+      (ap (λ (c : Carrier). c.live) same) class d (stage_of d local j f firm)
       (subst (AllByRecursion MayBeFollowed) (sym (f.coming lasts)) all)

@@ -15,7 +15,7 @@ use Rattle.osi_blameless.proofs.small_facts_that_many_lemmas_use.{over_none}
 use Rattle.osi_blameless.proofs.shown.a_session_that_is_shown_is_not_to_blame.{tsdus_more}
 use Rattle.osi_blameless.proofs.standing.all_connections_stand.{AllStand}
 use Rattle.osi_blameless.proofs.breaking.an_end_of_class_0_has_its_connection_open.{MayBeFollowed}
-use Rattle.osi_blameless.proofs.coming.what_is_in_flight_to_an_end.{in_flight, in_flight_more}
+use Rattle.osi_blameless.proofs.standing.what_is_in_flight_to_an_end.{in_flight, in_flight_more}
 use Rattle.osi_blameless.proofs.standing.what_stands_of_a_connection.{Known, Stands, is_for, lives, past, unnamed}
 
 -- ---- a link

@@ -11,7 +11,7 @@ use Rattle.osi_blameless.proofs.small_facts_that_many_lemmas_use.{amid_not, over
 use Rattle.osi_blameless.proofs.putting.nothing_is_done_before_a_cr_passes.{IsNoZero, dcs_none}
 use Rattle.osi_blameless.proofs.coming.what_an_end_takes_at_each_stage.{AreCalm, AreReady, EndsEarly, dcs_before, dcs_first, opens_next}
 use Rattle.osi_blameless.proofs.coming.what_an_end_takes_at_each_stage.{opens_not}
-use Rattle.osi_blameless.proofs.coming.what_is_left_for_an_end.{has_dr}
+use Rattle.osi_blameless.proofs.standing.what_is_left_for_an_end.{has_dr}
 use Rattle.osi_blameless.proofs.standing.what_stands_of_a_connection.{is_for, waiting_for}
 
 -- ---- what comes for a connection

@@ -5,9 +5,9 @@ use Rattle.osi_blameless.proofs.Vocabulary.{[], ap, arith, Bool, false, inl, inr
 use Rattle.osi_blameless.proofs.Vocabulary.{true, ℕ, ◌++◌, ◌∙◌, ◌∷◌, ◌≡◌, ◌⊎◌, eq-eqb, append-nil, slice_get, acknowledge, confirm, Connect}
 use Rattle.osi_blameless.proofs.Vocabulary.{data0, data2, disconnect, disconnected, error, request, Value, is_applied, begins, is_closing}
 use Rattle.osi_blameless.proofs.Vocabulary.{is_silent, own, asked_by, connection_after, found_on, half_after, meaning_if, meant}
-use Rattle.osi_blameless.proofs.Vocabulary.{Traffic as State, takes, Connection, Reach, Half, Phase, other, Direction, Right, all_begin}
+use Rattle.osi_blameless.proofs.Vocabulary.{Traffic as State, takes, Connection, Reach, Half, other, Direction, Right, all_begin}
 use Rattle.osi_blameless.proofs.Vocabulary.{asked, Joined, reference_of, Sessions, taken, way_of, All, after_add, after_change, after_map}
-use Rattle.osi_blameless.proofs.Vocabulary.{slice_get_within, HaveSamePlaces, IsOneOf, named_by}
+use Rattle.osi_blameless.proofs.Vocabulary.{slice_get_within, HaveSamePlaces, IsOneOf}
 use Rattle.osi_rules.specs.Traffic as traffic
 use Rattle.osi_rules.specs.declared.directions.Direction.TheVariants as way
 use Rattle.osi_judge.specs.Connections.{none, packet_begins}
@@ -19,8 +19,9 @@ use Rattle.osi_blameless.proofs.putting.references_of_an_end_are_distinct.{named
 use Rattle.osi_blameless.proofs.shown.what_a_judge_shows_goes_on.{named_added}
 use Rattle.osi_blameless.proofs.standing.what_a_unit_does_at_its_place.{Does, asks_again, asks_more, nowhere, somewhere, unit_does}
 use Rattle.osi_blameless.proofs.standing.what_holds_of_a_lost_connection.{was_judged}
-use Rattle.osi_blameless.proofs.coming.what_is_left_for_an_end.{dr_last, dr_more, has_dr}
+use Rattle.osi_blameless.proofs.standing.what_is_left_for_an_end.{dr_last, dr_more, has_dr}
 use Rattle.osi_blameless.proofs.standing.what_stands_of_a_connection.{named_begun, open_begun}
+use Rattle.osi_blameless.proofs.shown.connections_have_the_same_places.{none_given as unnamed_so}
 
 -- a connection to which this end gave a reference, and for which a DR is in flight if the end has it open
 pub record IsShutAt (d : Direction) (is_live : ℕ → Bool) (coming : List Value) (j : Joined) : Type 0 where
@@ -58,7 +59,7 @@ grown : (d : Direction) (is_live : ℕ → Bool) (coming more : List Value) (j k
 grown d is_live coming more j k same h = grind (arith, dr_more)
 
 -- the half of the other side, after a unit of the end
-theirs_after : (d : Direction) (v : Value) (b : Bool) (r : Reach) (c : Connection) →
+pub theirs_after : (d : Direction) (v : Value) (b : Bool) (r : Reach) (c : Connection) →
     own (way_of (other d)) (connection_after (way_of d) v b r c) ≡ own (way_of (other d)) c
 theirs_after d v b r c = grind (arith, other_after)
 
@@ -70,9 +71,6 @@ none_after d v r c = grind (arith, other_after)
 cc_silent : (s : State) (n : ℕ) (x : Connect) (c : Connection) → is_applied (found_on way.Right s c (confirm n x)) ≡ true →
     is_silent c.right.phase ≡ true
 cc_silent s n x c h = grind arith
-
-unnamed_so : (p : Phase) (r : ℕ) → is_silent p ≡ true → named_by p r ≡ None
-unnamed_so p r h = grind arith
 
 none_some : {A : Type 0} (r : ℕ) (o : Option ℕ) → o ≡ None → o ≡ Some r → A
 none_some r o e h = absurd (let both : None ≡ Some r = sym e ∙ h in cc)

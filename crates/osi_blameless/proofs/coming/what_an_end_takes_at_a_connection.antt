@@ -1,17 +1,14 @@
 -- What an end takes in a turn at a connection is the first of what is in flight to it: all that is for it from the time at which it opens.
 -- For all connections of an end and a judge.
-use Rattle.osi_blameless.proofs.Vocabulary.{[], List, refl, Some, ℕ, ◌++◌, ◌∙◌, ◌∷◌, ◌≡◌, append-nil, units_more, TakesAll, all_units}
+use Rattle.osi_blameless.proofs.Vocabulary.{[], List, Some, ℕ, ◌++◌, ◌∙◌, ◌∷◌, ◌≡◌, append-nil, units_more, TakesAll, all_units}
 use Rattle.osi_blameless.proofs.Vocabulary.{Marked, units_at, arith, AreApart}
 use Rattle.osi_blameless.proofs.putting.what_a_turn_puts_waits.{Agree, marks_wait}
 use Rattle.osi_blameless.proofs.standing.what_stands_of_a_connection.{waiting_for}
+pub use Rattle.osi_blameless.proofs.putting.nothing_is_done_before_a_cr_passes.{apart_none}
 
 takes_agree : (r : ℕ) (units : List Marked) → TakesAll r units → Agree r (Some r) units
 takes_agree r [] h = tt
 takes_agree r (m ∷ units) h = (h.0 ∙ (grind arith), takes_agree r units h.1)
-
-pub apart_none : (r : ℕ) (units : List Marked) → AreApart r units → units_at r units ≡ []
-apart_none r [] h = refl
-apart_none r (m ∷ units) h = grind (arith, apart_none r units h.1)
 
 -- what the link took is what is for the connection, of all that was used while it was open
 pub during_taken : (r : ℕ) (took before during after : List Marked) → took ≡ before ++ (during ++ after) → AreApart r before →

@@ -11,7 +11,7 @@ use Rattle.osi_blameless.proofs.small_facts_that_many_lemmas_use.{all_left}
 use Rattle.osi_blameless.proofs.putting.a_turn_does_what_its_deeds_say.{turn_uses}
 use Rattle.osi_blameless.proofs.putting.nothing_is_done_before_a_cr_passes.{is_under_way, may_take}
 use Rattle.osi_blameless.proofs.coming.what_an_end_takes_at_a_connection.{apart_none, during_taken}
-use Rattle.osi_blameless.proofs.coming.what_is_in_flight_to_an_end.{in_flight, in_flight_more, known_of, parts_taken, takes_none}
+use Rattle.osi_blameless.proofs.standing.what_is_in_flight_to_an_end.{in_flight, in_flight_more, known_of, parts_taken, takes_none}
 use Rattle.osi_blameless.proofs.standing.what_stands_of_a_connection.{Takes, is_for, waiting_for}
 
 -- ---- before it opens
@@ -155,27 +155,27 @@ over_past r c reason over live = never (stage_at r c) (stage_over r c (ap is_som
 
 -- What is left over of a connection is so as long as it may take more; and what is known of that before a turn is known after it.
 module _ (is_caller : Bool) (turn : Turn) (old new : Joint) (t : TakesTurn turn old new) (deeds : ℕ → Deeds)
-    (on : Continues is_caller deeds old.holding turn new.holding) (r : ℕ) (some : 0 < r) (Left : List Value → List Part → Type 0)
+    (on : Continues is_caller deeds old.end turn new.end) (r : ℕ) (some : 0 < r) (Left : List Value → List Part → Type 0)
     (IsClean : List Value → Type 0) (flight : IsFlight is_caller r Left IsClean)
-    (life : Life is_caller r (stage_at r old.holding.end.carrier) on.took on.put (stage_at r new.holding.end.carrier))
-    (ready : stage_at r old.holding.end.carrier ≡ early →
-    AreReady is_caller r IsClean (stage_at r new.holding.end.carrier) on.took) where
+    (life : Life is_caller r (stage_at r old.end.end.carrier) on.took on.put (stage_at r new.end.end.carrier))
+    (ready : stage_at r old.end.end.carrier ≡ early →
+    AreReady is_caller r IsClean (stage_at r new.end.end.carrier) on.took) where
   abbrev IsLive : Type 0
-  IsLive = may_take new.holding.end.carrier r ≡ true
+  IsLive = may_take new.end.end.carrier r ≡ true
 
   takes_with : (later : List Part) (coming : List Value) →
-      (may_take old.holding.end.carrier r ≡ true → Left (all_units on.took ++ coming) later) →
+      (may_take old.end.end.carrier r ≡ true → Left (all_units on.took ++ coming) later) →
       Takes (on.more r) later (λ (l : List Part). IsLive → Left coming l)
   takes_with later coming left =
-      life_takes is_caller r (none_mark r some) Left IsClean flight on.took on.put (stage_at r new.holding.end.carrier)
-      (may_take new.holding.end.carrier) refl (on.more r) later coming (on.taken r some) (stage_at r old.holding.end.carrier) life ready
+      life_takes is_caller r (none_mark r some) Left IsClean flight on.took on.put (stage_at r new.end.end.carrier)
+      (may_take new.end.end.carrier) refl (on.more r) later coming (on.taken r some) (stage_at r old.end.end.carrier) life ready
       left
 
-  pub turn_takes_by : (later : List Part) → (may_take old.holding.end.carrier r ≡ true → Left (units_in old.coming) later) →
+  pub turn_takes_by : (later : List Part) → (may_take old.end.end.carrier r ≡ true → Left (units_in old.coming) later) →
       Takes (on.more r) later (λ (l : List Part). IsLive → Left (units_in new.coming) l)
-  turn_takes_by later sure = by old.holding.end.carrier.ended refl
+  turn_takes_by later sure = by old.end.end.carrier.ended refl
     where
-      by : (o : Option EndReason) → old.holding.end.carrier.ended ≡ o →
+      by : (o : Option EndReason) → old.end.end.carrier.ended ≡ o →
           Takes (on.more r) later (λ (l : List Part). IsLive → Left (units_in new.coming) l)
       by None lasts =
           let s = turn_uses turn old new t is_caller deeds on lasts in
@@ -183,13 +183,13 @@ module _ (is_caller : Bool) (turn : Turn) (old new : Joint) (t : TakesTurn turn 
           (grind (arith, over_past))
           (takes_with later (s.left ++ units_in new.coming) (λ live. subst (λ (l : List Value). Left l later) s.coming (sure live)))
       by (Some reason) over =
-          takes_with later (units_in new.coming) (λ live. over_past r old.holding.end.carrier reason over live)
+          takes_with later (units_in new.coming) (λ live. over_past r old.end.end.carrier reason over live)
 
   -- and if it may take more, all that the end used is clean
   pub turn_clean : IsLive → IsClean (all_units on.took)
   turn_clean live =
-      life_clean is_caller r (none_mark r some) Left IsClean flight on.took on.put (stage_at r new.holding.end.carrier)
-      (stage_at r old.holding.end.carrier) life ready (λ gone. never (stage_at r new.holding.end.carrier) gone live)
+      life_clean is_caller r (none_mark r some) Left IsClean flight on.took on.put (stage_at r new.end.end.carrier)
+      (stage_at r old.end.end.carrier) life ready (λ gone. never (stage_at r new.end.end.carrier) gone live)
 
 -- ---- all that is in flight
 
@@ -203,11 +203,11 @@ exact is_caller r = record {
 }
 
 pub turn_takes : (is_caller : Bool) (turn : Turn) (old new : Joint) (t : TakesTurn turn old new) (deeds : ℕ → Deeds)
-    (on : Continues is_caller deeds old.holding turn new.holding) (r : ℕ) → 0 < r →
-    Life is_caller r (stage_at r old.holding.end.carrier) on.took on.put (stage_at r new.holding.end.carrier) →
-    (stage_at r old.holding.end.carrier ≡ early → AreCalm is_caller r (stage_at r new.holding.end.carrier) on.took) → (later : List Part) →
-    known_of (may_take old.holding.end.carrier) (units_in old.coming) r later →
-    Takes (on.more r) later (known_of (may_take new.holding.end.carrier) (units_in new.coming) r)
+    (on : Continues is_caller deeds old.end turn new.end) (r : ℕ) → 0 < r →
+    Life is_caller r (stage_at r old.end.end.carrier) on.took on.put (stage_at r new.end.end.carrier) →
+    (stage_at r old.end.end.carrier ≡ early → AreCalm is_caller r (stage_at r new.end.end.carrier) on.took) → (later : List Part) →
+    known_of (may_take old.end.end.carrier) (units_in old.coming) r later →
+    Takes (on.more r) later (known_of (may_take new.end.end.carrier) (units_in new.coming) r)
 turn_takes is_caller turn old new t deeds on r some life calm later sure = search (arith, turn_takes_by, in_flight, exact is_caller r)
 
 -- ---- the CC of a calling end

@@ -132,8 +132,8 @@ pub use Rattle.osi_blameless.specs.ends.Arriving.{Answers, AreApart, GivesTo, Li
 pub use Rattle.osi_blameless.specs.ends.Arriving.Begins.{is_shut}
 pub use Rattle.osi_blameless.specs.ends.Courses.{AreCalls, Continues, ContinuesAlong, Course, Deeds, Gone, IsFreshLink, IsNew, IsOpen}
 pub use Rattle.osi_blameless.specs.ends.Courses.{IsShut}
-pub use Rattle.osi_blameless.specs.ends.Courses.{SoFar, Speaks, all_did, no_deeds, said_in, taken_in, then_did, units_given, units_in}
-pub use Rattle.osi_blameless.specs.ends.Courses.{units_read}
+pub use Rattle.osi_blameless.specs.ends.Courses.{SoFar, Speaks, all_did, no_deeds, said_in, taken_in, then_did, units_given}
+pub use Rattle.osi_blameless.specs.Packets.{units_by, units_in}
 pub use Rattle.osi_blameless.specs.ends.Courses.{units_taken}
 pub use Rattle.osi_blameless.specs.ends.Courses.Course.{awaited, is_gone, is_open, unknown}
 pub use Rattle.osi_blameless.specs.ends.Courses.Gone.{closed, never, over}

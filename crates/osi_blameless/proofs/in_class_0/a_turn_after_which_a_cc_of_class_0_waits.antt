@@ -9,7 +9,7 @@ use Rattle.osi_blameless.proofs.Vocabulary.{Joint, TakesTurn, parts_of, HaveSame
 use Rattle.std.proofs.lemmas.List.Concat.{flat_map-append}
 use Rattle.osi_carrier.specs.State.{State as Carrier}
 use Rattle.osi_judge.specs.Courses.{Course as Passed}
-use Rattle.osi_blameless.proofs.keeping.steps_are_events.{IsFollowed}
+use Rattle.osi_blameless.proofs.keeping.steps_are_events.{whole_of, IsFollowed}
 use Rattle.osi_blameless.proofs.small_facts_that_many_lemmas_use.{none_some, all_front, early_lasts}
 use Rattle.osi_blameless.proofs.putting.a_called_end_answers_with_class_2_or_selects_class_0.{answers_or_selects}
 use Rattle.osi_blameless.proofs.putting.a_turn_does_what_its_deeds_say.{turn_uses}
@@ -23,10 +23,11 @@ use Rattle.osi_blameless.proofs.in_class_0.what_a_turn_puts_at_the_connections_t
 use Rattle.osi_blameless.proofs.putting.what_a_turn_puts_goes_to_its_peer.{all_back, all_so, one_of}
 use Rattle.osi_blameless.proofs.putting.what_a_turn_puts_waits.{marks_wait}
 use Rattle.osi_blameless.proofs.coming.what_an_end_takes_at_each_stage.{AreCalm, turn_takes}
-use Rattle.osi_blameless.proofs.coming.what_is_in_flight_to_an_end.{parts_taken}
+use Rattle.osi_blameless.proofs.standing.what_is_in_flight_to_an_end.{parts_taken}
 use Rattle.osi_blameless.proofs.standing.what_stands_of_a_connection.{is_for, waiting_for}
 use Rattle.osi_blameless.proofs.in_class_0.what_the_stage_of_a_whole_end_says.{IsDt0, all_data}
 use Rattle.osi_blameless.proofs.steps.what_the_turns_among_steps_do.{TurnDoes}
+use Rattle.osi_blameless.proofs.transport.small_facts_that_many_lemmas_use.{no_list}
 
 -- ---- small facts
 
@@ -40,9 +41,6 @@ none_first : (xs ys : List Part) → [] ≡ xs ++ ys → xs ≡ []
 none_first [] ys e = refl
 none_first (x ∷ xs) ys e = absurd (cc)
 
-no_list : (v : Value) (vs : List Value) → v ∷ vs ≡ [] → ⊥
-no_list v vs e = cc
-
 same_later : (u v : Value) (us vs : List Value) → u ∷ us ≡ v ∷ vs → us ≡ vs
 same_later u v us vs e = cc
 
@@ -54,19 +52,19 @@ none_taken a b before now = grind (arith, parts_taken, taken_more, flat_map-appe
 
 module _ (local : Local) (j : Joint) (f : IsFollowed Right (first local) j) (n : ℕ) (x : Connect) (rest : List Value)
     (put : j.put ≡ confirm n x ∷ rest) where
-  pub dts_after : Selecting local f.whole → AllByRecursion IsDt0 rest
+  pub dts_after : Selecting local (whole_of f) → AllByRecursion IsDt0 rest
   dts_after z =
       let limit = unit_octets z.size - 3 in
-      subst (AllByRecursion IsDt0) (same_later _ _ z.more rest (sym z.put ∙ f.put ∙ put))
-      (all_data limit 0 z.more (zero_puts limit f.whole.end 0 z.more z.end))
+      subst (AllByRecursion IsDt0) (same_later _ _ z.more rest (sym z.put ∙ put))
+      (all_data limit 0 z.more (zero_puts limit f.end 0 z.more z.end))
 
-  selects : IsFirm j.course.traffic.course → j.course.traffic.course.class ≡ None →
-      HaveSamePlaces j.course.traffic.connections j.course.sessions.live → (x.class ≡ 2 → ⊥) → Selecting local f.whole
+  selects : IsFirm j.judge.traffic.course → j.judge.traffic.course.class ≡ None →
+      HaveSamePlaces j.judge.traffic.connections j.judge.sessions.live → (x.class ≡ 2 → ⊥) → Selecting local (whole_of f)
   selects sure class places not =
       by (answers_or_selects local j f
       (grind (arith, none_some)) places)
     where
-      by : AllByRecursion AnswersTwo j.put ⊎ Selecting local f.whole → Selecting local f.whole
+      by : AllByRecursion AnswersTwo j.put ⊎ Selecting local (whole_of f) → Selecting local (whole_of f)
       by (inl two) = absurd (not (subst (AllByRecursion AnswersTwo) put two).0)
       by (inr z) = z
 
@@ -75,10 +73,10 @@ module _ (local : Local) (j : Joint) (f : IsFollowed Right (first local) j) (n :
 module _ (local : Local) (turn : Turn) (old new : Joint) (t : TakesTurn turn old new) (deeds : ℕ → Deeds)
     (does : TurnDoes false deeds turn old new t) where
   abbrev end : Carrier
-  end = old.holding.end.carrier
+  end = old.end.end.carrier
 
   abbrev then_end : Carrier
-  then_end = new.holding.end.carrier
+  then_end = new.end.end.carrier
 
   abbrev coming : List Value
   coming = units_in old.coming
@@ -113,7 +111,8 @@ module _ (local : Local) (turn : Turn) (old new : Joint) (t : TakesTurn turn old
         let marks = all_marked false turn old new t deeds does x.source is_x in
         let now = does.on.own x.source positive
         ∙ marks_wait x.source (Some n) does.on.put (agree_one x.source (Some n) positive refl does.on.put marks does.on.by_links links) in
-        (λ i. waits i ++ now i) ∙ sym (picked_join (is_for (Some n)) old.put (all_units does.on.put)) ∙ ap (waiting_for (Some n)) (sym turn_put)
+        (λ i. waits i ++ now i) ∙ sym (picked_join (is_for (Some n)) old.put (all_units does.on.put)) ∙ ap (waiting_for (Some n))
+        (sym turn_put)
 
     -- nothing is for it among what comes
     calm : (q : ℕ) → stage_at q end ≡ early → AreCalm false q (stage_at q then_end) does.on.took
@@ -151,7 +150,7 @@ module _ (local : Local) (turn : Turn) (old new : Joint) (t : TakesTurn turn old
 
   -- ---- the CC was put before
 
-  module _ (sure : IsFirm old.course.traffic.course) (h : StandsAnswering local deeds old) where
+  module _ (sure : IsFirm old.judge.traffic.course) (h : StandsAnswering local deeds old) where
     g : GoesOn Right (first local) h.ahead.bound new
     g = turns_ahead Right (first local) turn old new t h.ahead
 

@@ -1,9 +1,8 @@
 -- Until a calling end gets a CC, a turn of it leaves all its connections standing at a judge: none is open in it, so it puts nothing there,
 -- and takes nothing. For the session of the connection of an end in class 0.
-use Rattle.osi_blameless.proofs.Vocabulary.{◌≡◌, ◌∙◌, sym, ap, subst, ℕ, ◌<◌, true, List, [], ◌∷◌, Option, Some, arith, ◌⊎◌}
-use Rattle.osi_blameless.proofs.Vocabulary.{nat_lt, AllByRecursion, Value, confirm, Local, Left, Right, reference_of}
-use Rattle.osi_blameless.proofs.Vocabulary.{Deeds, then_did, units_in, Marked, all_units, is_of_link, Turn}
-use Rattle.osi_blameless.proofs.Vocabulary.{early, stage_at, all_units_more, Joint, TakesTurn}
+use Rattle.osi_blameless.proofs.Vocabulary.{◌≡◌, ◌∙◌, sym, ap, subst, ℕ, ◌<◌, true, List, [], ◌∷◌, Option, Some, arith, ◌⊎◌, nat_lt}
+use Rattle.osi_blameless.proofs.Vocabulary.{AllByRecursion, Value, confirm, Local, Left, Right, reference_of, Deeds, then_did, units_in}
+use Rattle.osi_blameless.proofs.Vocabulary.{Marked, all_units, is_of_link, Turn, early, stage_at, all_units_more, Joint, TakesTurn}
 use Rattle.osi_carrier.specs.State.{State as Carrier}
 use Rattle.osi_blameless.specs.transport.Wholes as wholes
 use Rattle.osi_blameless.proofs.small_facts_that_many_lemmas_use.{all_front, early_lasts, none_first}
@@ -31,10 +30,10 @@ quiet_no_cc r (v ∷ vs) h = ((λ x is. absurd (subst IsQuiet is h.0)), quiet_no
 module _ (local : Local) (turn : Turn) (old new : Joint) (t : TakesTurn turn old new) (deeds : ℕ → Deeds)
     (does : TurnDoes true deeds turn old new t) (h : StandsUnanswered local deeds old) where
   abbrev end : Carrier
-  end = old.holding.end.carrier
+  end = old.end.end.carrier
 
   abbrev then_end : Carrier
-  then_end = new.holding.end.carrier
+  then_end = new.end.end.carrier
 
   abbrev coming : List Value
   coming = units_in old.coming
@@ -66,12 +65,14 @@ module _ (local : Local) (turn : Turn) (old new : Joint) (t : TakesTurn turn old
       let u = turn_uses turn old new t true deeds does.on (early_lasts r end may) in
       grind (arith, quiet_turn, stage_at r then_end, waiting_for (Some r), quiet_none r coming h.none.quiet)
 
-  turns : Turns Left does.on.more (known_in end coming) (known_in then_end (units_in new.coming)) t.units old.course.traffic old.course.sessions
+  turns : Turns Left does.on.more (known_in end coming)
+      (known_in then_end (units_in new.coming)) t.units old.judge.traffic old.judge.sessions
   turns = record {
     puts = λ i c j r there here mine live.
         let some : 0 < r = (h.ahead.below.live i j r here mine).0 in
         let o = reference_of Right j in
-        does.on.own r some ∙ marks_wait r o does.on.put (agree_none r o some does.on.put marks does.on.by_links) ∙ ap (waiting_for o) (sym does.units);
+        does.on.own r some ∙ marks_wait r o does.on.put (agree_none r o some does.on.put marks does.on.by_links) ∙ ap (waiting_for o)
+        (sym does.units);
     takes = λ r one later known.
         let x = turn_takes true turn old new t deeds does.on r known.0 (does.life r known.0) (calm r) later known.1 in
         record { rest = x.rest; first = x.first; sure = (known.0, x.sure) };

@@ -1,12 +1,11 @@
 -- Once class 0 is selected, a turn of an end leaves all its connections standing at a judge: what it puts is for its one connection, and
 -- what it takes there is the first of what is in flight. And no session of it is to blame then. For the session of the connection of an end
 -- in class 0.
-use Rattle.osi_blameless.proofs.Vocabulary.{◌≡◌, ◌∙◌, refl, sym, ap, subst, ℕ, ◌<◌, Bool, true, false, List, ◌∷◌, ◌++◌, Option, Some}
-use Rattle.osi_blameless.proofs.Vocabulary.{inl, inr, ◌⊎◌, ◌==◌, slice_get, AllByRecursion, eqb-true, Connect, Value, confirm, Local}
-use Rattle.osi_blameless.proofs.Vocabulary.{Direction, Left, Right, other, Connection, is_open, own, State, Whole, unlike, IsFirm}
-use Rattle.osi_blameless.proofs.Vocabulary.{Deeds, then_did, units_in, Marked, all_units, Turn, early, past}
-use Rattle.osi_blameless.proofs.Vocabulary.{stage_at, all_units_more, Joined, reference_of, Joint, TakesTurn, IsOneOf, calls_from, way_of}
-use Rattle.osi_blameless.proofs.Vocabulary.{is_of_link, Time}
+use Rattle.osi_blameless.proofs.Vocabulary.{◌≡◌, ◌∙◌, refl, sym, ap, subst, ℕ, ◌<◌, Bool, true, false, List, ◌∷◌, ◌++◌, Option, Some, inl}
+use Rattle.osi_blameless.proofs.Vocabulary.{inr, ◌⊎◌, ◌==◌, slice_get, AllByRecursion, eqb-true, Connect, Value, confirm, Local, Direction}
+use Rattle.osi_blameless.proofs.Vocabulary.{Left, Right, other, Connection, is_open, own, State, unlike, IsFirm, Deeds, then_did, units_in}
+use Rattle.osi_blameless.proofs.Vocabulary.{Marked, all_units, Turn, early, past, stage_at, all_units_more, Joined, reference_of, Joint}
+use Rattle.osi_blameless.proofs.Vocabulary.{TakesTurn, IsOneOf, calls_from, way_of, is_of_link, Time}
 use Rattle.osi_carrier.specs.State.{State as Carrier}
 use Rattle.osi_blameless.specs.transport.Wholes as wholes
 use Rattle.osi_judge.specs.Courses.{Course as Passed}
@@ -31,6 +30,7 @@ use Rattle.osi_blameless.proofs.coming.what_an_end_takes_at_each_stage.{AreCalm,
 use Rattle.osi_blameless.proofs.standing.what_stands_of_a_connection.{waiting_for}
 use Rattle.osi_blameless.proofs.in_class_0.what_the_stage_of_a_whole_end_says.{AwaitsCc, IsDt0, stage_of, zero_awaits, zero_put}
 use Rattle.osi_blameless.proofs.steps.what_the_turns_among_steps_do.{TurnDoes}
+use Rattle.osi_blameless.proofs.keeping.steps_are_events.{whole_of}
 
 -- nothing is for the connection before it opens
 calm_of : (d : Direction) (r : ℕ) (s : Time) (took : List Marked) (had others : List Value) → AwaitsCc d had →
@@ -41,15 +41,16 @@ calm_of Right r s took had others none order awaits = absurd none
 -- ---- a turn
 
 module _ (d : Direction) (local : Local) (turn : Turn) (old new : Joint) (t : TakesTurn turn old new)
-    (deeds : ℕ → Deeds) (does : TurnDoes (calls_from d) deeds turn old new t) (sure : IsFirm old.course.traffic.course) (h : StandsInZero d local deeds old) where
+    (deeds : ℕ → Deeds) (does : TurnDoes (calls_from d) deeds turn old new t) (sure : IsFirm old.judge.traffic.course)
+    (h : StandsInZero d local deeds old) where
   abbrev s : State
-  s = old.course.traffic
+  s = old.judge.traffic
 
   abbrev end : Carrier
-  end = old.holding.end.carrier
+  end = old.end.end.carrier
 
   abbrev then_end : Carrier
-  then_end = new.holding.end.carrier
+  then_end = new.end.end.carrier
 
   abbrev coming : List Value
   coming = units_in old.coming
@@ -57,20 +58,17 @@ module _ (d : Direction) (local : Local) (turn : Turn) (old new : Joint) (t : Ta
   abbrev then_coming : List Value
   then_coming = units_in new.coming
 
-  abbrev z : AllInZero d deeds h.r end old.put old.begun coming old.course
+  abbrev z : AllInZero d deeds h.r end old.put old.begun coming old.judge
   z = h.zero
 
   -- the whole end goes on
   g : GoesOn d (wholes.begin (calls_from d) local) h.ahead.bound new
   g = turns_ahead d (wholes.begin (calls_from d) local) turn old new t h.ahead
 
-  abbrev whole : Whole
-  whole = g.ahead.followed.whole
-
-  then_firm : IsFirm new.course.traffic.course
+  then_firm : IsFirm new.judge.traffic.course
   then_firm = subst (λ (c : Passed). IsFirm c.traffic.course) (sym t.course) sure
 
-  class_then : new.course.traffic.course.class ≡ old.course.traffic.course.class
+  class_then : new.judge.traffic.course.class ≡ old.judge.traffic.course.class
   class_then = ap (λ (c : Passed). c.traffic.course.class) t.course
 
   then_within : IsWithin g.ahead.bound h.r
@@ -79,8 +77,7 @@ module _ (d : Direction) (local : Local) (turn : Turn) (old new : Joint) (t : Ta
   -- all that it puts is DTs
   dts : AllByRecursion IsDt0 (all_units does.on.put)
   dts =
-      let all = zero_put d local whole (ap (λ (x : State). x.course.class) g.ahead.followed.judge ∙ class_then ∙ z.class)
-      (stage_of d local new g.ahead.followed then_firm) in
+      let all = zero_put d local (whole_of g.ahead.followed) (class_then ∙ z.class) (stage_of d local new g.ahead.followed then_firm) in
       turn_puts d (wholes.begin (calls_from d) local) turn old new t (all_units does.on.put) does.units g.ahead.followed IsDt0 all
 
   -- what holds of all that had come holds of a CC that was taken
@@ -106,25 +103,25 @@ module _ (d : Direction) (local : Local) (turn : Turn) (old new : Joint) (t : Ta
   only = (is_zero Right s z.sure sure.firm sure.right z.class).only
 
   only_is : only.place ≡ z.one.place
-  only_is = place_of_one d h.r (IsGone end) s old.course.sessions only z.one
+  only_is = place_of_one d h.r (IsGone end) s old.judge.sessions only z.one
 
   -- what was put at a connection, if the marks agree
   puts_so : (r : ℕ) (o : Option ℕ) → 0 < r → Agree r o does.on.put → (does.on.more r).put ≡ waiting_for o t.units
   puts_so r o some agree = does.on.own r some ∙ marks_wait r o does.on.put agree ∙ ap (waiting_for o) (sym does.units)
 
   puts_zero : (i : ℕ) (c : Connection) (j : Joined) (r : ℕ) → slice_get s.connections i ≡ Some c →
-      slice_get old.course.sessions.live i ≡ Some j → reference_of d j ≡ Some r → is_open (own (way_of d) c).phase ≡ true →
+      slice_get old.judge.sessions.live i ≡ Some j → reference_of d j ≡ Some r → is_open (own (way_of d) c).phase ≡ true →
       (does.on.more r).put ≡ waiting_for (reference_of (other d) j) t.units
   puts_zero i c j r there here mine live = by (i == only.place) refl
     where
       one : IsOneOf c j
-      one = one_at s.connections old.course.sessions.live i c j z.all.places there here
+      one = one_at s.connections old.judge.sessions.live i c j z.all.places there here
 
       by : (x : Bool) → (i == only.place) ≡ x → (does.on.more r).put ≡ waiting_for (reference_of (other d) j) t.units
       by true e =
           let same : i ≡ only.place = eqb-true i only.place e in
           let is : c ≡ only.connection = same_one c only.connection (sym there ∙ ap (slice_get s.connections) same ∙ only.there) in
-          let mine_too = z.one.mine j (ap (slice_get old.course.sessions.live) (sym (same ∙ only_is)) ∙ here) in
+          let mine_too = z.one.mine j (ap (slice_get old.judge.sessions.live) (sym (same ∙ only_is)) ∙ here) in
           let is_it : h.r ≡ r = same_one h.r r (sym mine_too ∙ mine) in
           let some : 0 < r = subst (λ (n : ℕ). 0 < n) is_it h.within.0 in
           puts_so r (reference_of (other d) j) some
@@ -152,13 +149,13 @@ module _ (d : Direction) (local : Local) (turn : Turn) (old new : Joint) (t : Ta
       (zero_awaits d local new g.ahead h.r then_firm (class_then ∙ z.class) then_within still))
 
   -- every other one is gone
-  one_or_gone : (q : ℕ) → IsOfOne d q s old.course.sessions → (q ≡ h.r) ⊎ (stage_at q end ≡ past)
+  one_or_gone : (q : ℕ) → IsOfOne d q s old.judge.sessions → (q ≡ h.r) ⊎ (stage_at q end ≡ past)
   one_or_gone q (of_done i j here named) = inr (z.one.done i j q here named).1
   one_or_gone q (of_live i c j there here judged named) = by (i == z.one.place) refl
     where
       by : (x : Bool) → (i == z.one.place) ≡ x → (q ≡ h.r) ⊎ (stage_at q end ≡ past)
       by true e =
-          let mine = z.one.mine j (ap (slice_get old.course.sessions.live) (sym (eqb-true i z.one.place e)) ∙ here) in
+          let mine = z.one.mine j (ap (slice_get old.judge.sessions.live) (sym (eqb-true i z.one.place e)) ∙ here) in
           inl (same_one q h.r (sym named ∙ mine))
       by false e = inr (z.one.others i j q (unlike i z.one.place e) here named).1
 
@@ -169,7 +166,7 @@ module _ (d : Direction) (local : Local) (turn : Turn) (old new : Joint) (t : Ta
       (calm (ap (λ (n : ℕ). stage_at n end) (sym is) ∙ may))
   calm_by q (inr gone) may = past_not (stage_at q end) may gone
 
-  turns : Turns d does.on.more (known_in end coming) (known_in then_end then_coming) t.units s old.course.sessions
+  turns : Turns d does.on.more (known_in end coming) (known_in then_end then_coming) t.units s old.judge.sessions
   turns = record {
     puts = puts_zero;
     takes = λ q one later known.
@@ -181,14 +178,14 @@ module _ (d : Direction) (local : Local) (turn : Turn) (old new : Joint) (t : Ta
   abbrev then_deeds : ℕ → Deeds
   then_deeds = λ r. then_did (deeds r) (does.on.more r)
 
-  then_zero : AllInZero d then_deeds h.r then_end new.put new.begun then_coming new.course
+  then_zero : AllInZero d then_deeds h.r then_end new.put new.begun then_coming new.judge
   then_zero = record {
     sure = subst Sure (sym t.course) z.sure;
     class = class_then ∙ z.class;
     all = (step_turns d deeds (known_in end coming) turn does.on.more (known_in then_end then_coming) old new t h.some turns
         (record { all = z.all })).all;
     one = subst (λ (c : Passed). HasOne d h.r (IsGone then_end) c.traffic c.sessions) (sym t.course)
-        (still_gone d h.r (IsGone end) (IsGone then_end) s old.course.sessions
+        (still_gone d h.r (IsGone end) (IsGone then_end) s old.judge.sessions
         (λ q gone. (
           gone.0,
           still_past (calls_from d) q (stage_at q end) (stage_at q then_end) does.on.took does.on.put gone.1 (does.life q gone.0),

@@ -88,11 +88,11 @@ module _ (local : Local) where
     pub none : StandInNone Right deeds j
     pub waits : (deeds x.source).put ≡ waiting_for (Some n) j.put
     pub unheard : parts_in (deeds x.source).calls ≡ []
-    pub amid_is : (q peer : ℕ) → 0 < q → stage_at q j.holding.end.carrier ≡ amid peer → q ≡ x.source
+    pub amid_is : (q peer : ℕ) → 0 < q → stage_at q j.end.end.carrier ≡ amid peer → q ≡ x.source
 
   module _ (deeds : ℕ → Deeds) where
     -- the end goes on as it is, and puts nothing
-    answering_on : (old new : Joint) (h : StandsAnswering deeds old) → GoesOn Right first h.ahead.bound new → new.holding ≡ old.holding →
+    answering_on : (old new : Joint) (h : StandsAnswering deeds old) → GoesOn Right first h.ahead.bound new → new.end ≡ old.end →
         new.put ≡ old.put → StandInNone Right deeds new → StandsAnswering deeds new
     answering_on old new h g same put none = record {
       ahead = g.ahead;
@@ -109,10 +109,10 @@ module _ (local : Local) where
     }
 
     pub answering_own_begins : (old new : Joint) → Steps Right begins_own old new → HaveCourses Right deeds old →
-        ((i : ℕ) (j : Joined) → slice_get old.course.sessions.live i ≡ Some j → length (heard (spoken Left j)) < 2 ^ 64) →
+        ((i : ℕ) (j : Joined) → slice_get old.judge.sessions.live i ≡ Some j → length (heard (spoken Left j)) < 2 ^ 64) →
         StandsAnswering deeds old → StandsAnswering deeds new
     answering_own_begins old new (some, none, is) courses few h =
-        let mid : Joint = record old { begun = true; course = packet_begins Right old.course } in
+        let mid : Joint = record old { begun = true; judge = packet_begins Right old.judge } in
         subst (StandsAnswering deeds) (sym is) (answering_on old mid h
         (begins_own_ahead Right first old mid (some, none, refl) h.ahead) refl refl
         (none_own_begins Right deeds old h.none none courses few))
@@ -120,27 +120,27 @@ module _ (local : Local) where
     pub answering_other_begins : (old new : Joint) → Steps Right begins_other old new → StandsAnswering deeds old →
         StandsAnswering deeds new
     answering_other_begins old new is h =
-        let mid : Joint = record old { course = packet_begins Left old.course } in
+        let mid : Joint = record old { judge = packet_begins Left old.judge } in
         subst (StandsAnswering deeds) (sym is) (answering_on old mid h
         (begins_other_ahead Right first old mid refl h.ahead) refl refl
         (none_other_begins Right deeds old h.none))
 
     pub answering_other_passes : (at : ℕ) (packet : List ℕ) (units : List Value) (old new : Joint) →
-        Steps Right (passes_other at packet units) old new → ArePassed Two Right at units old.course → StandsAnswering deeds old →
+        Steps Right (passes_other at packet units) old new → ArePassed Two Right at units old.judge → StandsAnswering deeds old →
         StandsAnswering deeds new
     answering_other_passes at packet units old new (octets, read, is) passed h =
-        let mid : Joint = record old { course = units_pass Left at units old.course; coming = old.coming ++ packet ∷ [] } in
+        let mid : Joint = record old { judge = units_pass Left at units old.judge; coming = old.coming ++ packet ∷ [] } in
         let all = units_more old.coming packet units read in
-        let end = old.holding.end.carrier in
+        let end = old.end.end.carrier in
         let b = h.ahead.bound in
         subst (StandsAnswering deeds) (sym is) (answering_on old mid h
         (passes_other_ahead Right first at packet units old mid (octets, read, refl) h.ahead
         (other_up Right first at b packet units old mid (octets, read, refl) h.none.all.places
-        (none_named Right b at units old.course passed)
+        (none_named Right b at units old.judge passed)
         h.ahead.below))
         refl refl
-        (subst (λ (l : List Value). AllInNone Right deeds end old.put old.begun l mid.course) all
-        (units_unselected deeds end old.put old.begun at units (units_in old.coming) old.course passed h.none)))
+        (subst (λ (l : List Value). AllInNone Right deeds end old.put old.begun l mid.judge) all
+        (units_unselected deeds end old.put old.begun at units (units_in old.coming) old.judge passed h.none)))
 
     -- ---- the CC passes
 
@@ -152,23 +152,23 @@ module _ (local : Local) where
       x = h.x
 
       abbrev c : Passed
-      c = old.course
+      c = old.judge
 
       abbrev cc_is : Value
       cc_is = confirm n x
 
       abbrev end : Carrier
-      end = old.holding.end.carrier
+      end = old.end.end.carrier
 
       abbrev coming : List Value
       coming = units_in old.coming
 
       module _ (step : Steps Right (passes_own at cc_is) old new) (right : IsRight Right cc_is c) where
         abbrev mid : Joint
-        mid = record old { put = new.put; begun = false; course = units_pass Right at (cc_is ∷ []) c }
+        mid = record old { put = new.put; begun = false; judge = units_pass Right at (cc_is ∷ []) c }
 
         mid_step : Steps Right (passes_own at cc_is) old mid
-        mid_step = (step.0, step.1, step.2, step.3, refl)
+        mid_step = (step.0, step.1, (step.2.0, step.2.1, refl))
 
         effect : HasEffect c.traffic (class_of x) (takes way.Right cc_is c.traffic)
         effect = has_effect n x c.traffic right.goes h.none.class right.firm h.none.all.judged (grind (arith, mild_of))
@@ -179,12 +179,12 @@ module _ (local : Local) where
               let (k, there) = there_too c.traffic.connections c.sessions.live p j h.none.all.places here in
               let named = joined_named Right cc_is c n p k j h.none.all.places refl place there
               (h.none.all.judged right.firm p k there) here in
-              h.waits ∙ ap (waiting_for (Some n)) step.2 ∙ ap (λ (o : Option ℕ). waiting_for o new.put) (sym named),
+              h.waits ∙ ap (waiting_for (Some n)) step.2.0 ∙ ap (λ (o : Option ℕ). waiting_for o new.put) (sym named),
           h.unheard,
           (h.positive, λ live. sym (ap parts_of (quiet_none x.source coming h.none.quiet))),
         )
 
-        one : HasOne Right x.source (IsGone end) mid.course.traffic mid.course.sessions
+        one : HasOne Right x.source (IsGone end) mid.judge.traffic mid.judge.sessions
         one =
             cc_answers n x at c h.none.all.places right.goes h.none.class right.firm h.none.all.judged (grind (arith, mild_of)) (IsGone end)
             h.none.new
@@ -210,9 +210,9 @@ module _ (local : Local) where
             }
 
     pub answering_own_passes : (at : ℕ) (unit : Value) (old new : Joint) → Steps Right (passes_own at unit) old new →
-        IsRight Right unit old.course → StandsAnswering deeds old → StandsInZero Right local deeds new
+        IsRight Right unit old.judge → StandsAnswering deeds old → StandsInZero Right local deeds new
     answering_own_passes at unit old new step right h =
-        let same : confirm h.n h.x ≡ unit = first_is (confirm h.n h.x) unit h.rest new.put (sym h.put ∙ step.2) in
+        let same : confirm h.n h.x ≡ unit = first_is (confirm h.n h.x) unit h.rest new.put (sym h.put ∙ step.2.0) in
         let first_step = subst (λ (v : Value). Steps Right (passes_own at v) old new) (sym same) step in
-        let first_right = subst (λ (v : Value). IsRight Right v old.course) (sym same) right in
-        subst (StandsInZero Right local deeds) (sym first_step.4) (cc_passes at old new h first_step first_right)
+        let first_right = subst (λ (v : Value). IsRight Right v old.judge) (sym same) right in
+        subst (StandsInZero Right local deeds) (sym first_step.2.2) (cc_passes at old new h first_step first_right)

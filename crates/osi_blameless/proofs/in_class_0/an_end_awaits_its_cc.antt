@@ -43,6 +43,8 @@ use Rattle.osi_blameless.proofs.standing.what_stands_of_a_connection.{waiting_fo
 use Rattle.osi_blameless.proofs.in_class_0.what_the_stage_of_a_whole_end_says.{AwaitsAnswer, PassesOwn, adding, asking, awaits, cc_comes}
 use Rattle.osi_blameless.proofs.in_class_0.what_the_stage_of_a_whole_end_says.{gone, one_early}
 use Rattle.osi_blameless.proofs.in_class_0.what_the_stage_of_a_whole_end_says.{own_unit, runs_staged}
+use Rattle.osi_blameless.proofs.keeping.steps_are_events.{whole_of}
+use Rattle.osi_blameless.proofs.putting.a_whole_end_runs_along.{IsBehind, next_behind, with_unit}
 
 -- ---- small facts
 
@@ -60,12 +62,8 @@ pub undone_higher : (b n : ℕ) (deeds : ℕ → Deeds) (c : Carrier) → b ≤ 
 undone_higher b n deeds c up u r less = u r (omega (arith, up, less))
 
 -- a whole end with this judge and an end like this one, which has put these units
-pub record IsWith (local : Local) (end : Carrier) (put : List Value) (c : Course) : Type 0 where
-  pub whole : Whole
-  pub holds : Holds local whole
-  pub judge : whole.judge ≡ c.traffic
-  pub like : IsLike whole.end end
-  pub same : whole.put ≡ put
+abbrev pub IsWith : Local → Carrier → List Value → Course → Type 0
+IsWith local end put c = IsBehind (λ w. Holds local w × IsLike w.end end) put c
 
 -- ---- a unit of the other side
 
@@ -165,7 +163,7 @@ module _ (local : Local) (deeds : ℕ → Deeds) (end : Carrier) (put : List Val
 
     came : (w.whole.put ≡ []) × AwaitsAnswer local w.whole
     came =
-        cc_comes local w.whole n x (w.holds.stage (ap (λ (s : State). s.course.left_stopped) w.judge ∙ k.firm.left))
+        cc_comes local w.whole n x (w.holds.0.stage (ap (λ (s : State). s.course.left_stopped) w.judge ∙ k.firm.left))
         (ap (λ (s : State). s.course.class) w.judge ∙ h.class)
         (ap (λ (s : State). (takes way.Right v s).state.course.left_stopped) w.judge ∙ then_left)
 
@@ -177,7 +175,7 @@ module _ (local : Local) (deeds : ℕ → Deeds) (end : Carrier) (put : List Val
         AwaitsAnswer local w.whole → stage_at q end ≡ past
     past_by q lasts up some apart whole_lasts (gone over) = over_none w.whole.end.ended over whole_lasts
     past_by q lasts up some apart whole_lasts (awaits r p o cs strays is judge waits) =
-        let same = w.like.lasts whole_lasts in
+        let same = w.holds.1.lasts whole_lasts in
         let right = tolerable Left v c k in
         let mine : n ≡ r =
         awaits_this n x at c h.all.places right.goes h.class right.firm h.all.judged right.mild r p o cs strays
@@ -193,7 +191,7 @@ module _ (local : Local) (deeds : ℕ → Deeds) (end : Carrier) (put : List Val
           by (Some reason) over = stage_over q end (ap is_some over)
           by None lasts =
               past_by q lasts (let low = within.1 in let high = given lasts in omega (arith, low, high)) within.0 apart
-              (none_of w.whole.end.ended (sym w.like.over ∙ ap is_some lasts)) came.1
+              (none_of w.whole.end.ended (sym w.holds.1.over ∙ ap is_some lasts)) came.1
 
       cc_zero : Comes b (coming ++ v ∷ []) (after v c)
       cc_zero =
@@ -234,15 +232,8 @@ module _ (local : Local) (deeds : ℕ → Deeds) (end : Carrier) (put : List Val
 
     next_with : (v : Value) (c : Course) → HasFieldsInRange v → IsWith local end put c → IsWith local end put (after v c)
     next_with v c ranges w =
-        let next : Whole =
-        record w.whole { judge = (takes way.Right v w.whole.judge).state; coming = w.whole.coming ++ v ∷ [] } in
-        record {
-          whole = next;
-          holds = holds_next local (wholes.passes_other v) w.whole next (ranges, refl) w.holds;
-          judge = ap (λ (s : State). (takes way.Right v s).state) w.judge ∙ sym (unit_knows Right at v c);
-          like = w.like;
-          same = w.same;
-        }
+        next_behind (λ x. Holds local x × IsLike x.end end) put at v c
+        (λ x (h, like). (holds_next local (wholes.passes_other v) x (with_unit v x) (ranges, refl) h, like)) w
 
     -- the units of a packet
     pub units_come : (vs coming : List Value) (c : Course) → AllByRecursion HasFieldsInRange vs → ArePassed Two Left at vs c →
@@ -274,25 +265,31 @@ module _ (local : Local) where
   pub record StandsUnanswered (deeds : ℕ → Deeds) (j : Joint) : Type 0 where
     pub ahead : IsAhead Left first j
     pub none : StandInNone Left deeds j
-    pub undone : AreUndone ahead.bound deeds j.holding.end.carrier
-    pub shut : (q peer : ℕ) → 0 < q → stage_at q j.holding.end.carrier ≡ amid peer → ⊥
+    pub undone : AreUndone ahead.bound deeds j.end.end.carrier
+    pub shut : (q peer : ℕ) → 0 < q → stage_at q j.end.end.carrier ≡ amid peer → ⊥
     pub some : j.begun ≡ true → j.put ≢ []
 
   -- the references of CRs that have passed were given
-  were_given : (j : Joint) (a : IsAhead Left first j) → j.holding.end.carrier.ended ≡ None → a.bound ≤ j.holding.end.carrier.given
+  were_given : (j : Joint) (a : IsAhead Left first j) → j.end.end.carrier.ended ≡ None → a.bound ≤ j.end.end.carrier.given
   were_given j a lasts = grind (arith, none_of)
 
   -- the first of the units of a packet come
   pub unanswered_comes : (deeds : ℕ → Deeds) (at : ℕ) (octets : List ℕ) (front back : List Value) (j : Joint) → IsOctets octets →
-      units_of octets ≡ Ok (front ++ back) → ArePassed Two Left at front j.course →
-      ((units_pass Right at front j.course).traffic.course.class ≡ Some Two → ⊥) → (h : StandsUnanswered deeds j) →
-      Comes local deeds j.holding.end.carrier j.put j.begun at h.ahead.bound (units_in j.coming ++ front)
-      (units_pass Right at front j.course)
+      units_of octets ≡ Ok (front ++ back) → ArePassed Two Left at front j.judge →
+      ((units_pass Right at front j.judge).traffic.course.class ≡ Some Two → ⊥) → (h : StandsUnanswered deeds j) →
+      Comes local deeds j.end.end.carrier j.put j.begun at h.ahead.bound (units_in j.coming ++ front)
+      (units_pass Right at front j.judge)
   unanswered_comes deeds at octets front back j all read passed not h =
-      units_come local deeds j.holding.end.carrier j.put j.begun at h.ahead.bound (were_given j h.ahead) front (units_in j.coming) j.course
+      units_come local deeds j.end.end.carrier j.put j.begun at h.ahead.bound (were_given j h.ahead) front (units_in j.coming) j.judge
       (all_front HasFieldsInRange front back
       (ranges_of (front ++ back) (units_fit (front ++ back) octets (units_found octets (front ++ back) all read)))) passed not
-      (search (arith, runs_staged)) h.ahead.below h.none
+      (record {
+        whole = whole_of h.ahead.followed;
+        holds = (runs_staged local j h.ahead.followed, h.ahead.followed.like);
+        judge = refl;
+        same = refl;
+      })
+      h.ahead.below h.none
 
   -- ---- at the beginning
 
@@ -313,47 +310,47 @@ module _ (local : Local) where
     Stands j = StandsUnanswered deeds j
 
     -- the end goes on as it is
-    unanswered_on : (old new : Joint) (h : Stands old) → GoesOn Left first h.ahead.bound new → new.holding ≡ old.holding →
+    unanswered_on : (old new : Joint) (h : Stands old) → GoesOn Left first h.ahead.bound new → new.end ≡ old.end →
         StandInNone Left deeds new → (new.begun ≡ true → new.put ≢ []) → Stands new
     unanswered_on old new h g same none some = record {
       ahead = g.ahead;
       none = none;
-      undone = undone_higher h.ahead.bound g.ahead.bound deeds new.holding.end.carrier g.rises
+      undone = undone_higher h.ahead.bound g.ahead.bound deeds new.end.end.carrier g.rises
           (subst (λ (x : Holding). AreUndone h.ahead.bound deeds x.end.carrier) (sym same) h.undone);
       shut = subst (λ (x : Holding). (q peer : ℕ) → 0 < q → stage_at q x.end.carrier ≡ amid peer → ⊥) (sym same) h.shut;
       some = some;
     }
 
     pub unanswered_own_begins : (old new : Joint) → Steps Left begins_own old new → HaveCourses Left deeds old →
-        ((i : ℕ) (j : Joined) → slice_get old.course.sessions.live i ≡ Some j → length (heard (spoken Right j)) < 2 ^ 64) →
+        ((i : ℕ) (j : Joined) → slice_get old.judge.sessions.live i ≡ Some j → length (heard (spoken Right j)) < 2 ^ 64) →
         Stands old → Stands new
     unanswered_own_begins old new (some, none, is) courses few h =
-        let mid : Joint = record old { begun = true; course = packet_begins Left old.course } in
+        let mid : Joint = record old { begun = true; judge = packet_begins Left old.judge } in
         subst Stands (sym is) (unanswered_on old mid h (begins_own_ahead Left first old mid (some, none, refl) h.ahead) refl
         (none_own_begins Left deeds old h.none none courses few) (λ begun. some))
 
     pub unanswered_other_begins : (old new : Joint) → Steps Left begins_other old new → Stands old → Stands new
     unanswered_other_begins old new is h =
-        let mid : Joint = record old { course = packet_begins Right old.course } in
+        let mid : Joint = record old { judge = packet_begins Right old.judge } in
         subst Stands (sym is) (unanswered_on old mid h (begins_other_ahead Left first old mid refl h.ahead) refl
         (none_other_begins Left deeds old h.none) h.some)
 
     -- ---- a packet of the other side passes
 
     pub unanswered_other_passes : (at : ℕ) (packet : List ℕ) (units : List Value) (old new : Joint) →
-        Steps Left (passes_other at packet units) old new → ArePassed Two Left at units old.course →
-        (new.course.traffic.course.class ≡ Some Two → ⊥) → Stands old → Stands new ⊎ StandsInZero Left local deeds new
+        Steps Left (passes_other at packet units) old new → ArePassed Two Left at units old.judge →
+        (new.judge.traffic.course.class ≡ Some Two → ⊥) → Stands old → Stands new ⊎ StandsInZero Left local deeds new
     unanswered_other_passes at packet units old new (octets, read, is) passed not h =
         subst (λ (j : Joint). Stands j ⊎ StandsInZero Left local deeds j) (sym is)
-        (by (subst (λ (l : List Value). Comes local deeds end old.put old.begun at b l mid.course) all
+        (by (subst (λ (l : List Value). Comes local deeds end old.put old.begun at b l mid.judge) all
         (unanswered_comes deeds at packet units [] old octets (read ∙ ap (λ (l : List Value). Ok l) (sym (append-nil units))) passed
-        (λ two. not (ap (λ (j : Joint). j.course.traffic.course.class) is ∙ two)) h)))
+        (λ two. not (ap (λ (j : Joint). j.judge.traffic.course.class) is ∙ two)) h)))
       where
         mid : Joint
-        mid = record old { course = units_pass Right at units old.course; coming = old.coming ++ packet ∷ [] }
+        mid = record old { judge = units_pass Right at units old.judge; coming = old.coming ++ packet ∷ [] }
 
         end : Carrier
-        end = old.holding.end.carrier
+        end = old.end.end.carrier
 
         b : ℕ
         b = h.ahead.bound
@@ -365,10 +362,10 @@ module _ (local : Local) where
         g =
             passes_other_ahead Left first at packet units old mid (octets, read, refl) h.ahead
             (other_up Left first at b packet units old mid (octets, read, refl) h.none.all.places
-            (none_named Left b at units old.course passed)
+            (none_named Left b at units old.judge passed)
             h.ahead.below)
 
-        by : Comes local deeds end old.put old.begun at b (units_in mid.coming) mid.course → Stands mid ⊎ StandsInZero Left local deeds mid
+        by : Comes local deeds end old.put old.begun at b (units_in mid.coming) mid.judge → Stands mid ⊎ StandsInZero Left local deeds mid
         by (none_yet none) = inl (unanswered_on old mid h g refl none h.some)
         by (then_zero r within z) = inr (record {
           ahead = g.ahead;
@@ -382,16 +379,16 @@ module _ (local : Local) where
     -- ---- a CR passes
 
     abbrev own_passed : (at : ℕ) → Value → Joint → List Value → Joint
-    own_passed at unit old put = record old { put = put; begun = false; course = units_pass Left at (unit ∷ []) old.course }
+    own_passed at unit old put = record old { put = put; begun = false; judge = units_pass Left at (unit ∷ []) old.judge }
 
     own_cr : (at : ℕ) (x : Connect) (old : Joint) (put : List Value) →
-        Steps Left (passes_own at (request x)) old (own_passed at (request x) old put) → IsRight Left (request x) old.course → Stands old →
+        Steps Left (passes_own at (request x)) old (own_passed at (request x) old put) → IsRight Left (request x) old.judge → Stands old →
         Stands (own_passed at (request x) old put)
     own_cr at x old put step right h =
         let v = request x in
         let mid = own_passed at v old put in
         let n = x.source in
-        let end = old.holding.end.carrier in
+        let end = old.end.end.carrier in
         let coming = units_in old.coming in
         let places = h.none.all.places in
         let k = passes_highest Left first at v n refl old mid step places h.ahead in
@@ -399,20 +396,20 @@ module _ (local : Local) where
         let up : h.ahead.bound ≤ k.ahead.bound = (let less = k.higher in let same = k.bound in omega (arith, less, same)) in
         let none_for = quiet_none n coming h.none.quiet in
         let ready =
-        cr_ready h.ahead.bound deeds end x coming put old.course.traffic old.course.sessions k.higher h.undone (λ lasts. none_for) in
+        cr_ready h.ahead.bound deeds end x coming put old.judge.traffic old.judge.sessions k.higher h.undone (λ lasts. none_for) in
         record {
           ahead = k.ahead;
           none = record {
-            sure = sure_claim.passes Left at v old.course h.none.sure;
-            class = ap (λ (s : State). s.course.class) (unit_knows Left at v old.course) ∙ left_class v old.course.traffic ∙ h.none.class;
+            sure = sure_claim.passes Left at v old.judge h.none.sure;
+            class = ap (λ (s : State). s.course.class) (unit_knows Left at v old.judge) ∙ left_class v old.judge.traffic ∙ h.none.class;
             all = (any_passes_own Left deeds (known_in end coming) at v old mid step h.none.sure right
                 (λ not. (ready.0, ready.1, (some, λ live. sym (ap parts_of none_for)))) (record { all = h.none.all })).all;
             quiet = h.none.quiet;
-            new = subst (AreDistinct Left) (sym (unit_joins Left at v old.course))
-                (unit_distinct Left Left at v old.course.traffic old.course.sessions places h.none.new
+            new = subst (AreDistinct Left) (sym (unit_joins Left at v old.judge))
+                (unit_distinct Left Left at v old.judge.traffic old.judge.sessions places h.none.new
                 (gives_new Left first at v old mid step h.ahead)
                 (λ i j here.
-                all_room Left deeds (known_in end coming) old.put old.begun old.course.traffic old.course.sessions h.none.all i j here));
+                all_room Left deeds (known_in end coming) old.put old.begun old.judge.traffic old.judge.sessions h.none.all i j here));
           };
           undone = undone_higher h.ahead.bound k.ahead.bound deeds end up h.undone;
           shut = h.shut;
@@ -420,25 +417,21 @@ module _ (local : Local) where
         }
 
     -- a unit of the end is a CR
-    by_kind : (at : ℕ) (v : Value) (old : Joint) (put : List Value) (w : Whole) → w.judge ≡ old.course.traffic → PassesOwn w v →
-        Steps Left (passes_own at v) old (own_passed at v old put) → IsRight Left v old.course → Stands old →
+    by_kind : (at : ℕ) (v : Value) (old : Joint) (put : List Value) (w : Whole) → w.judge ≡ old.judge.traffic → PassesOwn w v →
+        Steps Left (passes_own at v) old (own_passed at v old put) → IsRight Left v old.judge → Stands old →
         Stands (own_passed at v old put)
     by_kind at v old put w judge (asking x is class) step right h =
         subst (λ (u : Value). Stands (own_passed at u old put)) (sym is)
         (own_cr at x old put (subst (λ (u : Value). Steps Left (passes_own at u) old (own_passed at u old put)) is step)
-        (subst (λ (u : Value). IsRight Left u old.course) is right) h)
+        (subst (λ (u : Value). IsRight Left u old.judge) is right) h)
     by_kind at v old put w judge (adding last user is class seen) step right h =
-        none_some old.course.traffic.course.class Zero h.none.class (ap (λ (s : State). s.course.class) (sym judge) ∙ class)
+        none_some old.judge.traffic.course.class Zero h.none.class (ap (λ (s : State). s.course.class) (sym judge) ∙ class)
 
-    pub unanswered_own_passes : (at : ℕ) (v : Value) (old new : Joint) → Steps Left (passes_own at v) old new → IsRight Left v old.course →
+    pub unanswered_own_passes : (at : ℕ) (v : Value) (old new : Joint) → Steps Left (passes_own at v) old new → IsRight Left v old.judge →
         Stands old → Stands new
-    unanswered_own_passes at v old new (read, octets, put, begun, is) right h =
+    unanswered_own_passes at v old new (read, octets, (put, begun, is)) right h =
         let mid = own_passed at v old new.put in
         let f = h.ahead.followed in
-        let s : f.whole.put ≡ v ∷ new.put = f.put ∙ put in
-        let zero_not : f.whole.judge.course.class ≡ Some Two → ⊥ =
-        λ two. none_some old.course.traffic.course.class Two h.none.class (ap (λ (t : State). t.course.class) (sym f.judge) ∙ two) in
-        let kind = own_unit local f.whole v new.put
-        ((runs_staged local old f).stage (ap (λ (t : State). t.course.left_stopped) f.judge ∙ right.goes)) s
-        (f.begun ∙ begun) zero_not in
-        subst Stands (sym is) (by_kind at v old new.put f.whole f.judge kind (read, octets, put, begun, refl) right h)
+        let kind = own_unit local (whole_of f) v new.put ((runs_staged local old f).stage right.goes) put begun
+        (λ two. none_some old.judge.traffic.course.class Two h.none.class two) in
+        subst Stands (sym is) (by_kind at v old new.put (whole_of f) refl kind (read, octets, (put, begun, refl)) right h)

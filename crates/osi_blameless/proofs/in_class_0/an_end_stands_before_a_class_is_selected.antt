@@ -32,7 +32,7 @@ pub record AllInNone (d : Direction) (deeds : ℕ → Deeds) (end : Carrier) (pu
 
 -- at a step
 abbrev pub StandInNone : Direction → (ℕ → Deeds) → Joint → Type 0
-StandInNone d deeds j = AllInNone d deeds j.holding.end.carrier j.put j.begun (units_in j.coming) j.course
+StandInNone d deeds j = AllInNone d deeds j.end.end.carrier j.put j.begun (units_in j.coming) j.judge
 
 -- ---- a packet begins
 
@@ -42,40 +42,40 @@ new_begins Right e c class h = uncalled_claim.begins e c (λ none. h) (class_beg
 
 module _ (d : Direction) (deeds : ℕ → Deeds) (j : Joint) (h : StandInNone d deeds j) where
   abbrev known : ℕ → List (Bool × List ℕ) → Type 0
-  known = known_in j.holding.end.carrier (units_in j.coming)
+  known = known_in j.end.end.carrier (units_in j.coming)
 
   pub none_own_begins : j.begun ≡ false → HaveCourses d deeds j →
-      ((i : ℕ) (k : Joined) → slice_get j.course.sessions.live i ≡ Some k → length (heard (spoken (other d) k)) < 2 ^ 64) →
-      StandInNone d deeds (record j { begun = true; course = packet_begins d j.course })
+      ((i : ℕ) (k : Joined) → slice_get j.judge.sessions.live i ≡ Some k → length (heard (spoken (other d) k)) < 2 ^ 64) →
+      StandInNone d deeds (record j { begun = true; judge = packet_begins d j.judge })
   none_own_begins none courses few = record {
-    sure = sure_claim.begins d j.course h.sure;
-    class = class_begun d j.course ∙ h.class;
-    all = all_begin_own d deeds known j.put j.holding.end j.course.traffic j.course.sessions courses few
-        (subst (λ (b : Bool). AllStand d deeds known j.put b j.course.traffic j.course.sessions) none h.all);
+    sure = sure_claim.begins d j.judge h.sure;
+    class = class_begun d j.judge ∙ h.class;
+    all = all_begin_own d deeds known j.put j.end.end j.judge.traffic j.judge.sessions courses few
+        (subst (λ (b : Bool). AllStand d deeds known j.put b j.judge.traffic j.judge.sessions) none h.all);
     quiet = h.quiet;
-    new = new_begins d d j.course h.class h.new;
+    new = new_begins d d j.judge h.class h.new;
   }
 
-  pub none_other_begins : StandInNone d deeds (record j { course = packet_begins (other d) j.course })
+  pub none_other_begins : StandInNone d deeds (record j { judge = packet_begins (other d) j.judge })
   none_other_begins = record {
-    sure = sure_claim.begins (other d) j.course h.sure;
-    class = class_begun (other d) j.course ∙ h.class;
-    all = all_begin_other d deeds known j.put j.begun j.course.traffic j.course.sessions h.all;
+    sure = sure_claim.begins (other d) j.judge h.sure;
+    class = class_begun (other d) j.judge ∙ h.class;
+    all = all_begin_other d deeds known j.put j.begun j.judge.traffic j.judge.sessions h.all;
     quiet = h.quiet;
-    new = new_begins d (other d) j.course h.class h.new;
+    new = new_begins d (other d) j.judge h.class h.new;
   }
 
 -- ---- a turn
 
 pub none_turns : (d : Direction) (turn : Turn) (old new : Joint) (t : TakesTurn turn old new) (deeds more : ℕ → Deeds) →
-    Turns d more (known_in old.holding.end.carrier (units_in old.coming)) (known_in new.holding.end.carrier (units_in new.coming)) t.units
-    old.course.traffic old.course.sessions → (old.begun ≡ true → old.put ≢ []) → StandInNone d deeds old →
+    Turns d more (known_in old.end.end.carrier (units_in old.coming)) (known_in new.end.end.carrier (units_in new.coming)) t.units
+    old.judge.traffic old.judge.sessions → (old.begun ≡ true → old.put ≢ []) → StandInNone d deeds old →
     StandInNone d (λ r. then_did (deeds r) (more r)) new
 none_turns d turn old new t deeds more turns some h = record {
   sure = subst Sure (sym t.course) h.sure;
   class = ap (λ (c : Course). c.traffic.course.class) t.course ∙ h.class;
-  all = (step_turns d deeds (known_in old.holding.end.carrier (units_in old.coming)) turn more
-      (known_in new.holding.end.carrier (units_in new.coming)) old new t some turns (record { all = h.all })).all;
+  all = (step_turns d deeds (known_in old.end.end.carrier (units_in old.coming)) turn more
+      (known_in new.end.end.carrier (units_in new.coming)) old new t some turns (record { all = h.all })).all;
   quiet = all_back IsQuiet (units_in t.used) (units_in new.coming)
       (subst (AllByRecursion IsQuiet) (turn_leaves turn old new t) h.quiet);
   new = subst (λ (c : Course). AreNew d c.sessions) (sym t.course) h.new;

@@ -4,7 +4,7 @@
 use Rattle.osi_blameless.proofs.Vocabulary.{◌≡◌, ◌≢◌, ◌∙◌, refl, sym, ap, subst, ℕ, ◌^◌, ◌<◌, ◌≤◌, Bool, true, false, List, [], ◌∷◌, ◌++◌}
 use Rattle.osi_blameless.proofs.Vocabulary.{length, Option, Some, None, arith, slice_get, append-nil, append_assoc, AllByRecursion}
 use Rattle.osi_blameless.proofs.Vocabulary.{Connect, Value, acknowledge, confirm, data0, data2, disconnect, disconnected, error}
-use Rattle.osi_blameless.proofs.Vocabulary.{request, is_over, list_all, not, unlike, eqb-true, ◌==◌, is_refused, differ, unit_parts, Part}
+use Rattle.osi_blameless.proofs.Vocabulary.{request, is_over, list_all, unlike, eqb-true, ◌==◌, is_refused, differ, unit_parts, Part}
 use Rattle.osi_blameless.proofs.Vocabulary.{Class, Two, Zero, Local, Direction, Left, Right, other, State, class_for, takes}
 use Rattle.osi_blameless.proofs.Vocabulary.{zero_stays, Deeds, units_in, past, stage_at, Joined, Sessions, spoken}
 use Rattle.osi_blameless.proofs.Vocabulary.{Course, packet_begins, unit_passes, units_pass, heard, way_of, Joint, Steps}
@@ -21,7 +21,7 @@ use Rattle.osi_blameless.proofs.standing.a_dt_of_class_0_leaves_all_standing as 
 use Rattle.osi_blameless.proofs.standing.a_dt_of_class_0_leaves_all_standing.{GrowsThere, IsHeardZero, IsZero, told_there}
 use Rattle.osi_blameless.proofs.putting.a_turn_does_what_its_deeds_say.{units_more}
 use Rattle.osi_blameless.proofs.standing.all_connections_stand.{AllStand, all_begin_other, all_begin_own}
-use Rattle.osi_blameless.proofs.standing.class_0_has_one_connection.{all_so}
+use Rattle.osi_blameless.proofs.transport.requests.one_request_waits.{all_so}
 use Rattle.osi_blameless.proofs.in_class_0.class_0_keeps_its_one_place.{HasOne, IsStill, one_begins, one_stays, zero_still}
 use Rattle.osi_blameless.proofs.shown.connections_have_the_same_places.{unit_knows}
 use Rattle.osi_blameless.proofs.putting.each_reference_of_an_end_is_new.{GoesOn, IsAhead, IsUpTo, IsWithin, begins_other_ahead}
@@ -32,11 +32,12 @@ use Rattle.osi_blameless.proofs.standing.steps_of_either_class_leave_all_standin
 use Rattle.osi_blameless.proofs.in_class_0.units_of_class_0_come_after_its_cc.{InOrder, IsCcFor, IsLater, IsQuiet, order_more}
 use Rattle.osi_blameless.proofs.in_class_2.what_is_asked_of_what_holds_at_each_step.{ArePassed, HaveCourses, IsTakenEarly}
 use Rattle.osi_blameless.proofs.in_class_2.what_is_asked_of_what_holds_at_each_step.{early as tolerable}
-use Rattle.osi_blameless.proofs.coming.what_is_in_flight_to_an_end.{flight_same, known_of}
+use Rattle.osi_blameless.proofs.standing.what_is_in_flight_to_an_end.{flight_same, known_of}
 use Rattle.osi_blameless.proofs.standing.what_passes_leaves_all_standing as in_two
 use Rattle.osi_blameless.proofs.standing.what_passes_leaves_all_standing.{IsHeardFirm, cc_broke, goes_on}
 use Rattle.osi_blameless.proofs.standing.what_stands_of_a_connection.{Known}
 use Rattle.osi_blameless.proofs.in_class_0.what_the_stage_of_a_whole_end_says.{IsDt0, own_is_dt}
+use Rattle.osi_blameless.proofs.transport.names.a_reference_names_one_connection.{not_true}
 
 -- ---- what holds
 
@@ -63,8 +64,8 @@ pub record StandsInZero (d : Direction) (local : Local) (deeds : ℕ → Deeds) 
   pub ahead : IsAhead d (wholes.begin (calls_from d) local) j
   pub r : ℕ
   pub within : IsWithin ahead.bound r
-  pub zero : AllInZero d deeds r j.holding.end.carrier j.put j.begun (units_in j.coming) j.course
-  pub amid_is : (q peer : ℕ) → 0 < q → stage_at q j.holding.end.carrier ≡ amid peer → q ≡ r
+  pub zero : AllInZero d deeds r j.end.end.carrier j.put j.begun (units_in j.coming) j.judge
+  pub amid_is : (q peer : ℕ) → 0 < q → stage_at q j.end.end.carrier ≡ amid peer → q ≡ r
   pub some : j.begun ≡ true → j.put ≢ []
 
 -- ---- small facts
@@ -87,9 +88,6 @@ place_of_one d r gone s t o one = by (o.place == one.place) refl
 pub class_begun : (e : Direction) (c : Course) → (packet_begins e c).traffic.course.class ≡ c.traffic.course.class
 class_begun Left c = refl
 class_begun Right c = refl
-
-not_true : (b : Bool) → not b ≡ true → b ≡ false
-not_true b h = grind arith
 
 -- no unit of the other side gives a reference of the end
 unnamed_so : (d : Direction) (b : ℕ) (v : Value) (c : Course) → IsTakenEarly d v c → IsUpTo d b v
@@ -291,24 +289,24 @@ knows_own d v c sure class dt right = by (class_for (way_of d) c.traffic.course)
     by None is = grind (arith, right)
 
 own_zero : (d : Direction) (deeds : ℕ → Deeds) (r : ℕ) (at : ℕ) (v : Value) (old new : Joint) → Steps d (passes_own at v) old new →
-    IsDt0 v → IsRight d v old.course → AllInZero d deeds r old.holding.end.carrier old.put old.begun (units_in old.coming) old.course →
-    AllInZero d deeds r new.holding.end.carrier new.put new.begun (units_in new.coming) new.course
-own_zero d deeds r at v old new (read, octets, put, begun, is) dt right h =
-    let mid : Joint = record old { put = new.put; begun = false; course = units_pass d at (v ∷ []) old.course } in
-    let end = old.holding.end.carrier in
+    IsDt0 v → IsRight d v old.judge → AllInZero d deeds r old.end.end.carrier old.put old.begun (units_in old.coming) old.judge →
+    AllInZero d deeds r new.end.end.carrier new.put new.begun (units_in new.coming) new.judge
+own_zero d deeds r at v old new (read, octets, (put, begun, is)) dt right h =
+    let mid : Joint = record old { put = new.put; begun = false; judge = units_pass d at (v ∷ []) old.judge } in
+    let end = old.end.end.carrier in
     let known = known_in end (units_in old.coming) in
-    subst (λ (j : Joint). AllInZero d deeds r j.holding.end.carrier j.put j.begun (units_in j.coming) j.course) (sym is) (record {
-      sure = sure_claim.passes d at v old.course h.sure;
-      class = ap (λ (s : State). s.course.class) (unit_knows d at v old.course)
-          ∙ zero_stays (passing (way_of d) v) old.course.traffic h.class;
-      all = (any_passes_own d deeds known at v old mid (read, octets, put, begun, refl) h.sure right
-          (λ not. absurd (not (knows_own d v old.course h.sure h.class dt right))) (record { all = h.all })).all;
-      one = one_stays d d r (IsGone end) at v old.course h.one h.all.places (dt_still v dt);
+    subst (λ (j : Joint). AllInZero d deeds r j.end.end.carrier j.put j.begun (units_in j.coming) j.judge) (sym is) (record {
+      sure = sure_claim.passes d at v old.judge h.sure;
+      class = ap (λ (s : State). s.course.class) (unit_knows d at v old.judge)
+          ∙ zero_stays (passing (way_of d) v) old.judge.traffic h.class;
+      all = (any_passes_own d deeds known at v old mid (read, octets, (put, begun, refl)) h.sure right
+          (λ not. absurd (not (knows_own d v old.judge h.sure h.class dt right))) (record { all = h.all })).all;
+      one = one_stays d d r (IsGone end) at v old.judge h.one h.all.places (dt_still v dt);
       ccs = h.ccs;
       order = h.order;
     })
   where
-    dt_still : (u : Value) → IsDt0 u → IsStill d u old.course.traffic
+    dt_still : (u : Value) → IsDt0 u → IsStill d u old.judge.traffic
     dt_still u k = grind arith
 
 -- ---- each step but a turn
@@ -324,8 +322,8 @@ module _ (d : Direction) (local : Local) (deeds : ℕ → Deeds) where
   Stands j = StandsInZero d local deeds j
 
   -- what an end of the same connections has ahead of it
-  stands_on : (old new : Joint) (h : Stands old) → GoesOn d first h.ahead.bound new → new.holding ≡ old.holding →
-      AllInZero d deeds h.r new.holding.end.carrier new.put new.begun (units_in new.coming) new.course →
+  stands_on : (old new : Joint) (h : Stands old) → GoesOn d first h.ahead.bound new → new.end ≡ old.end →
+      AllInZero d deeds h.r new.end.end.carrier new.put new.begun (units_in new.coming) new.judge →
       (new.begun ≡ true → new.put ≢ []) → Stands new
   stands_on old new h g same zero some = record {
     ahead = g.ahead;
@@ -337,58 +335,58 @@ module _ (d : Direction) (local : Local) (deeds : ℕ → Deeds) where
   }
 
   pub zero_own_begins : (old new : Joint) → Steps d begins_own old new → HaveCourses d deeds old →
-      ((i : ℕ) (j : Joined) → slice_get old.course.sessions.live i ≡ Some j → length (heard (spoken (other d) j)) < 2 ^ 64) →
+      ((i : ℕ) (j : Joined) → slice_get old.judge.sessions.live i ≡ Some j → length (heard (spoken (other d) j)) < 2 ^ 64) →
       Stands old → Stands new
   zero_own_begins old new (some, none, is) courses few h =
-      let mid : Joint = record old { begun = true; course = packet_begins d old.course } in
-      let known = known_in old.holding.end.carrier (units_in old.coming) in
+      let mid : Joint = record old { begun = true; judge = packet_begins d old.judge } in
+      let known = known_in old.end.end.carrier (units_in old.coming) in
       let z = h.zero in
       subst Stands (sym is) (stands_on old mid h (begins_own_ahead d first old mid (some, none, refl) h.ahead) refl (record {
-        sure = sure_claim.begins d old.course z.sure;
-        class = class_begun d old.course ∙ z.class;
-        all = all_begin_own d deeds known old.put old.holding.end old.course.traffic old.course.sessions courses few
-            (subst (λ (b : Bool). AllStand d deeds known old.put b old.course.traffic old.course.sessions) none z.all);
-        one = one_begins d d h.r (IsGone old.holding.end.carrier) old.course.traffic old.course.sessions z.one;
+        sure = sure_claim.begins d old.judge z.sure;
+        class = class_begun d old.judge ∙ z.class;
+        all = all_begin_own d deeds known old.put old.end.end old.judge.traffic old.judge.sessions courses few
+            (subst (λ (b : Bool). AllStand d deeds known old.put b old.judge.traffic old.judge.sessions) none z.all);
+        one = one_begins d d h.r (IsGone old.end.end.carrier) old.judge.traffic old.judge.sessions z.one;
         ccs = z.ccs;
         order = z.order;
       }) (λ begun. some))
 
   pub zero_other_begins : (old new : Joint) → Steps d begins_other old new → Stands old → Stands new
   zero_other_begins old new is h =
-      let mid : Joint = record old { course = packet_begins (other d) old.course } in
-      let known = known_in old.holding.end.carrier (units_in old.coming) in
+      let mid : Joint = record old { judge = packet_begins (other d) old.judge } in
+      let known = known_in old.end.end.carrier (units_in old.coming) in
       let z = h.zero in
       subst Stands (sym is) (stands_on old mid h (begins_other_ahead d first old mid refl h.ahead) refl (record {
-        sure = sure_claim.begins (other d) old.course z.sure;
-        class = class_begun (other d) old.course ∙ z.class;
-        all = all_begin_other d deeds known old.put old.begun old.course.traffic old.course.sessions z.all;
-        one = one_begins d (other d) h.r (IsGone old.holding.end.carrier) old.course.traffic old.course.sessions z.one;
+        sure = sure_claim.begins (other d) old.judge z.sure;
+        class = class_begun (other d) old.judge ∙ z.class;
+        all = all_begin_other d deeds known old.put old.begun old.judge.traffic old.judge.sessions z.all;
+        one = one_begins d (other d) h.r (IsGone old.end.end.carrier) old.judge.traffic old.judge.sessions z.one;
         ccs = z.ccs;
         order = z.order;
       }) h.some)
 
   -- a unit of the end is a DT
-  pub zero_own_passes : (at : ℕ) (v : Value) (old new : Joint) → Steps d (passes_own at v) old new → IsRight d v old.course →
-      IsFirm old.course.traffic.course → Stands old → Stands new
+  pub zero_own_passes : (at : ℕ) (v : Value) (old new : Joint) → Steps d (passes_own at v) old new → IsRight d v old.judge →
+      IsFirm old.judge.traffic.course → Stands old → Stands new
   zero_own_passes at v old new step right firm h =
       let dt : IsDt0 v = own_is_dt local d at v old new step h.ahead.followed firm h.zero.class in
       stands_on old new h (passes_own_ahead d first at v old new step h.zero.all.places h.ahead).on
-      (ap (λ (j : Joint). j.holding) step.4) (own_zero d deeds h.r at v old new step dt right h.zero)
-      (λ begun. absurd (cc (sym begun ∙ ap (λ (j : Joint). j.begun) step.4)))
+      (ap (λ (j : Joint). j.end) step.2.2) (own_zero d deeds h.r at v old new step dt right h.zero)
+      (λ begun. absurd (cc (sym begun ∙ ap (λ (j : Joint). j.begun) step.2.2)))
 
   pub zero_other_passes : (at : ℕ) (packet : List ℕ) (units : List Value) (old new : Joint) →
       Steps d (passes_other at packet units) old new →
-      ArePassed Two d at units old.course → Stands old → Stands new
+      ArePassed Two d at units old.judge → Stands old → Stands new
   zero_other_passes at packet units old new (octets, read, is) passed h =
-      let mid : Joint = record old { course = units_pass (other d) at units old.course; coming = old.coming ++ packet ∷ [] } in
+      let mid : Joint = record old { judge = units_pass (other d) at units old.judge; coming = old.coming ++ packet ∷ [] } in
       let b = h.ahead.bound in
       let all = units_more old.coming packet units read in
-      let end = old.holding.end.carrier in
+      let end = old.end.end.carrier in
       subst Stands (sym is) (stands_on old mid h
       (passes_other_ahead d first at packet units old mid (octets, read, refl) h.ahead
-      (other_up d first at b packet units old mid (octets, read, refl) h.zero.all.places (none_named d b at units old.course passed)
+      (other_up d first at b packet units old mid (octets, read, refl) h.zero.all.places (none_named d b at units old.judge passed)
       h.ahead.below))
       refl
-      (subst (λ (l : List Value). AllInZero d deeds h.r end old.put old.begun l mid.course) all
-      (units_zero d deeds h.r end old.put old.begun at units (units_in old.coming) old.course passed h.zero))
+      (subst (λ (l : List Value). AllInZero d deeds h.r end old.put old.begun l mid.judge) all
+      (units_zero d deeds h.r end old.put old.begun at units (units_in old.coming) old.judge passed h.zero))
       h.some)

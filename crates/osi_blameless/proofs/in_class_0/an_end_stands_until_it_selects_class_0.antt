@@ -36,6 +36,7 @@ use Rattle.osi_blameless.proofs.in_class_0.what_a_turn_puts_at_the_connections_t
 use Rattle.osi_blameless.proofs.putting.what_a_turn_puts_goes_to_its_peer.{all_back}
 use Rattle.osi_blameless.proofs.in_class_2.what_is_asked_of_what_holds_at_each_step.{ArePassed, HaveCourses, early}
 use Rattle.osi_blameless.proofs.standing.what_passes_leaves_all_standing.{firm_goes, firm_links, mild_stays}
+use Rattle.osi_blameless.proofs.keeping.steps_are_events.{whole_of}
 
 -- ---- small facts
 
@@ -93,58 +94,58 @@ module _ (local : Local) where
     -- ---- a packet begins
 
     pub unselected_own_begins : (old new : Joint) → Steps Right begins_own old new → HaveCourses Right deeds old →
-        ((i : ℕ) (j : Joined) → slice_get old.course.sessions.live i ≡ Some j → length (heard (spoken Left j)) < 2 ^ 64) →
+        ((i : ℕ) (j : Joined) → slice_get old.judge.sessions.live i ≡ Some j → length (heard (spoken Left j)) < 2 ^ 64) →
         Stands old → Stands new
     unselected_own_begins old new (some, none, is) courses few h =
-        let mid : Joint = record old { begun = true; course = packet_begins Right old.course } in
+        let mid : Joint = record old { begun = true; judge = packet_begins Right old.judge } in
         subst Stands (sym is) (record {
           stands = stands_own_begins Right local deeds old mid (some, none, refl) courses few h.stands;
-          sure = sure_claim.begins Right old.course h.sure;
+          sure = sure_claim.begins Right old.judge h.sure;
           class = h.class;
           quiet = h.quiet;
-          uncalled = uncalled_claim.begins Right old.course (λ now. h.uncalled) h.class;
+          uncalled = uncalled_claim.begins Right old.judge (λ now. h.uncalled) h.class;
           shut = h.shut;
         })
 
     pub unselected_other_begins : (old new : Joint) → Steps Right begins_other old new → Stands old → Stands new
     unselected_other_begins old new is h =
-        let mid : Joint = record old { course = packet_begins Left old.course } in
+        let mid : Joint = record old { judge = packet_begins Left old.judge } in
         subst Stands (sym is) (record {
           stands = stands_other_begins Right local deeds old mid refl h.stands;
-          sure = sure_claim.begins Left old.course h.sure;
+          sure = sure_claim.begins Left old.judge h.sure;
           class = h.class;
           quiet = h.quiet;
-          uncalled = uncalled_claim.begins Left old.course (λ now. h.uncalled) h.class;
+          uncalled = uncalled_claim.begins Left old.judge (λ now. h.uncalled) h.class;
           shut = h.shut;
         })
 
     -- ---- a unit of the end passes, and selects no class
 
     pub unselected_own_passes : (at : ℕ) (v : Value) (old new : Joint) → Steps Right (passes_own at v) old new →
-        IsRight Right v old.course →
-        IsFirm old.course.traffic.course → (new.course.traffic.course.class ≡ Some Two → ⊥) → Stands old → Stands new
-    unselected_own_passes at v old new (read, octets, put, begun, is) right firm not h =
-        let mid : Joint = record old { put = new.put; begun = false; course = units_pass Right at (v ∷ []) old.course } in
-        let plain : IsNoCc v = no_cc_passes at v old.course (subst (AllByRecursion AnswersTwo) put h.stands.own.holds.two).0 right
+        IsRight Right v old.judge →
+        IsFirm old.judge.traffic.course → (new.judge.traffic.course.class ≡ Some Two → ⊥) → Stands old → Stands new
+    unselected_own_passes at v old new (read, octets, (put, begun, is)) right firm not h =
+        let mid : Joint = record old { put = new.put; begun = false; judge = units_pass Right at (v ∷ []) old.judge } in
+        let plain : IsNoCc v = no_cc_passes at v old.judge (subst (AllByRecursion AnswersTwo) put h.stands.own.holds.two).0 right
         h.sure h.class
-        (λ two. not (ap (λ (j : Joint). j.course.traffic.course.class) is ∙ two)) in
-        let fine : IsProper Right v old.course = record {
+        (λ two. not (ap (λ (j : Joint). j.judge.traffic.course.class) is ∙ two)) in
+        let fine : IsProper Right v old.judge = record {
           goes = right.goes;
-          two = λ zero_is. none_some old.course.traffic.course.class Zero h.class zero_is;
+          two = λ zero_is. none_some old.judge.traffic.course.class Zero h.class zero_is;
           none = right.none;
-          links = firm_links Right v old.course.traffic right.firm h.sure.judged right.goes right.none;
+          links = firm_links Right v old.judge.traffic right.firm h.sure.judged right.goes right.none;
         } in
-        let class : mid.course.traffic.course.class ≡ None =
-        ap (λ (s : State). s.course.class) (unit_knows Right at v old.course) ∙ selects_none way.Right v old.course.traffic plain
+        let class : mid.judge.traffic.course.class ≡ None =
+        ap (λ (s : State). s.course.class) (unit_knows Right at v old.judge) ∙ selects_none way.Right v old.judge.traffic plain
         ∙ h.class in
         subst Stands (sym is) (record {
-          stands = stands_own_passes Right local tt deeds at v old mid (read, octets, put, begun, refl) fine
-              (going_on old.course.traffic.course
-              (record { sure = firm; two = λ zero_is. none_some old.course.traffic.course.class Zero h.class zero_is })) h.stands;
-          sure = sure_claim.passes Right at v old.course h.sure;
+          stands = stands_own_passes Right local tt deeds at v old mid (read, octets, (put, begun, refl)) fine
+              (going_on old.judge.traffic.course
+              (record { sure = firm; two = λ zero_is. none_some old.judge.traffic.course.class Zero h.class zero_is })) h.stands;
+          sure = sure_claim.passes Right at v old.judge h.sure;
           class = class;
           quiet = h.quiet;
-          uncalled = uncalled_claim.passes Right at v old.course (λ now. h.uncalled) class;
+          uncalled = uncalled_claim.passes Right at v old.judge (λ now. h.uncalled) class;
           shut = λ q peer some stage.
               let (n, has) = h.shut q peer some stage in (n, has_later n q v new.put plain (subst (HasCc n q) put has));
         })
@@ -152,15 +153,15 @@ module _ (local : Local) where
     -- ---- a packet of the other side passes
 
     pub unselected_other_passes : (at : ℕ) (packet : List ℕ) (units : List Value) (old new : Joint) →
-        Steps Right (passes_other at packet units) old new → ArePassed Two Right at units old.course → Stands old → Stands new
+        Steps Right (passes_other at packet units) old new → ArePassed Two Right at units old.judge → Stands old → Stands new
     unselected_other_passes at packet units old new (octets, read, is) passed h =
-        let mid : Joint = record old { course = units_pass Left at units old.course; coming = old.coming ++ packet ∷ [] } in
+        let mid : Joint = record old { judge = units_pass Left at units old.judge; coming = old.coming ++ packet ∷ [] } in
         let all = units_more old.coming packet units read in
-        let after = units_unselected deeds old.holding.end.carrier old.put old.begun at units (units_in old.coming) old.course passed
+        let after = units_unselected deeds old.end.end.carrier old.put old.begun at units (units_in old.coming) old.judge passed
         (unselected_so local deeds old h) in
         subst Stands (sym is) (record {
           stands = stands_other_passes Right local tt deeds at packet units old mid (octets, read, refl)
-              (fine_of at units old.course h.class passed) h.stands;
+              (fine_of at units old.judge h.class passed) h.stands;
           sure = after.sure;
           class = after.class;
           quiet = subst (AllByRecursion IsQuiet) all after.quiet;
@@ -171,7 +172,7 @@ module _ (local : Local) where
   -- ---- a turn
 
   module _ (turn : Turn) (old new : Joint) (t : TakesTurn turn old new) (deeds : ℕ → Deeds) (does : TurnDoes false deeds turn old new t)
-      (firm : IsFirm old.course.traffic.course) (h : StandsUnselected local deeds old) where
+      (firm : IsFirm old.judge.traffic.course) (h : StandsUnselected local deeds old) where
     abbrev put : List Marked
     put = does.on.put
 
@@ -181,10 +182,10 @@ module _ (local : Local) where
     turn_put : new.put ≡ old.put ++ all_units put
     turn_put = t.put ∙ ap (λ (l : List Value). old.put ++ l) does.units
 
-    clear : IsClear old.course.traffic.course
-    clear = record { sure = firm; two = λ zero_is. none_some old.course.traffic.course.class Zero h.class zero_is }
+    clear : IsClear old.judge.traffic.course
+    clear = record { sure = firm; two = λ zero_is. none_some old.judge.traffic.course.class Zero h.class zero_is }
 
-    has_cc : (q : ℕ) → 0 < q → WasOpen false q (stage_at q old.holding.end.carrier) does.on.took put → (n : ℕ) × HasCc n q new.put
+    has_cc : (q : ℕ) → 0 < q → WasOpen false q (stage_at q old.end.end.carrier) does.on.took put → (n : ℕ) × HasCc n q new.put
     has_cc q some (open_before m is) =
         let (n, has) = h.shut q m some is in
         (n, subst (HasCc n q) (sym turn_put) (has_front n q old.put (all_units put) has))
@@ -196,7 +197,7 @@ module _ (local : Local) where
     none_turns : AllByRecursion AnswersTwo new.put → StandsUnselected local then_deeds new
     none_turns two = record {
       stands = answers_turn local turn old new t deeds does two
-          (going_on old.course.traffic.course clear) h.stands;
+          (going_on old.judge.traffic.course clear) h.stands;
       sure = subst Sure (sym t.course) h.sure;
       class = ap (λ (c : Passed). c.traffic.course.class) t.course ∙ h.class;
       quiet = all_back IsQuiet (units_in t.used) (units_in new.coming)
@@ -206,7 +207,7 @@ module _ (local : Local) where
     }
 
     turn_by : AllByRecursion AnswersTwo new.put
-        ⊎ Selecting local (turns_ahead Right (first local) turn old new t h.stands.own.ahead).ahead.followed.whole →
+        ⊎ Selecting local (whole_of (turns_ahead Right (first local) turn old new t h.stands.own.ahead).ahead.followed) →
         StandsUnselected local then_deeds new ⊎ StandsAnswering local then_deeds new
     turn_by (inl two) = inl (none_turns two)
     turn_by (inr z) = inr (turns_selecting local turn old new t deeds does firm h z)
@@ -214,5 +215,5 @@ module _ (local : Local) where
     pub unselected_turns : StandsUnselected local then_deeds new ⊎ StandsAnswering local then_deeds new
     unselected_turns =
         turn_by (answers_or_selects local new (turns_ahead Right (first local) turn old new t h.stands.own.ahead).ahead.followed
-        (subst (λ (c : Passed). IsOngoing c.traffic.course) (sym t.course) (going_on old.course.traffic.course clear))
+        (subst (λ (c : Passed). IsOngoing c.traffic.course) (sym t.course) (going_on old.judge.traffic.course clear))
         (subst Agree (sym t.course) h.stands.standing.all.places))

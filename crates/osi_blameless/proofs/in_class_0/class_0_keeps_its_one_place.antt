@@ -12,7 +12,7 @@ use Rattle.osi_judge.specs.Connections.{packet_begins}
 use Rattle.osi_judge.specs.Connections as joined
 use Rattle.osi_blameless.proofs.keeping.what_a_taker_passes_over.{IsMild}
 use Rattle.osi_blameless.proofs.standing.all_connections_stand.{map_of}
-use Rattle.osi_blameless.proofs.standing.class_0_has_one_connection.{set_other}
+use Rattle.osi_blameless.proofs.transport.requests.one_request_waits.{set_other}
 use Rattle.osi_blameless.proofs.shown.connections_have_the_same_places.{unit_joins, unit_knows}
 use Rattle.osi_blameless.proofs.standing.what_a_unit_does_at_its_place.{Does, asks_again, asks_more, nowhere, somewhere, unit_does}
 use Rattle.osi_blameless.proofs.small_facts_that_many_lemmas_use.{same_one}

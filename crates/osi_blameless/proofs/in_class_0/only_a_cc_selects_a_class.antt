@@ -1,10 +1,8 @@
 -- A unit that is no CC leaves the class that is selected on a byte connection, or that none is.
 -- For a called end that has selected no class yet.
-use Rattle.osi_blameless.proofs.Vocabulary.{Option, ℕ, ◌≡◌, Value, at_place, Outcome, routed, Traffic as State, takes, Way as Direction}
+use Rattle.osi_blameless.proofs.Vocabulary.{Option, ℕ, ◌≡◌, Value, at_place, routed, Traffic as State, takes, Way as Direction}
 use Rattle.osi_blameless.proofs.Vocabulary.{Route, reached_class, arith, IsNoCc}
-
-abbrev Keeps : State → Outcome → Type 0
-Keeps s o = o.state.course.class ≡ s.course.class
+use Rattle.osi_blameless.proofs.transport.requests.left_selects_no_class.{KeepsClass as Keeps}
 
 module _ (d : Direction) where
   place_keeps : (v : Value) (s : State) (o : Option ℕ) → IsNoCc v → Keeps s (at_place d v s o)

@@ -2,10 +2,10 @@
 -- connection is open. For the session of the connection of an end in class 0.
 use Rattle.osi_blameless.proofs.Vocabulary.{◌≡◌, ◌∙◌, refl, sym, ap, subst, ℕ, ◌<◌, Bool, true, false, List, [], ◌∷◌, ◌++◌, Some, None}
 use Rattle.osi_blameless.proofs.Vocabulary.{arith, AllByRecursion, Connect, Value, confirm, Zero, Local, acceptance, Right, State}
-use Rattle.osi_blameless.proofs.Vocabulary.{Selecting, IsClear, IsFirm, Deeds, then_did, units_in, all_units, Turn}
-use Rattle.osi_blameless.proofs.Vocabulary.{amid, stage_at, all_units_more, Sessions, Joint, TakesTurn, parts_of, going_on}
+use Rattle.osi_blameless.proofs.Vocabulary.{Selecting, IsClear, IsFirm, Deeds, then_did, units_in, all_units, Turn, amid, stage_at}
+use Rattle.osi_blameless.proofs.Vocabulary.{all_units_more, Sessions, Joint, TakesTurn, parts_of, going_on, inl}
 use Rattle.osi_carrier.specs.State.{State as Carrier}
-use Rattle.osi_blameless.proofs.keeping.steps_are_events.{IsFollowed}
+use Rattle.osi_blameless.proofs.keeping.steps_are_events.{whole_of, IsFollowed}
 use Rattle.osi_blameless.proofs.small_facts_that_many_lemmas_use.{none_some}
 use Rattle.osi_blameless.proofs.in_class_2.an_end_is_ready_for_each_cc_that_passes.{waits_above}
 use Rattle.osi_blameless.proofs.putting.a_whole_end_runs_along.{has_lines}
@@ -22,7 +22,7 @@ use Rattle.osi_blameless.proofs.in_class_0.units_of_class_0_come_after_its_cc.{I
 use Rattle.osi_blameless.proofs.putting.ccs_among_units.{AnswersTwo, HasCc}
 use Rattle.osi_blameless.proofs.in_class_0.what_a_turn_puts_at_the_connections_that_are_open.{WasOpen, open_before, puts_cc, takes_cc}
 use Rattle.osi_blameless.proofs.putting.what_a_turn_puts_goes_to_its_peer.{all_so, one_of}
-use Rattle.osi_blameless.proofs.coming.what_is_in_flight_to_an_end.{parts_taken}
+use Rattle.osi_blameless.proofs.standing.what_is_in_flight_to_an_end.{parts_taken}
 use Rattle.osi_blameless.proofs.standing.what_stands_of_a_connection.{Known, waiting_for}
 use Rattle.osi_blameless.proofs.in_class_0.what_the_stage_of_a_whole_end_says.{IsDt0}
 use Rattle.osi_blameless.proofs.steps.what_the_turns_among_steps_do.{TurnDoes}
@@ -38,18 +38,18 @@ module _ (deeds : ℕ → Deeds) (known then_known : Known) (put : List Value) (
 -- It has selected no class, or its CC of class 2 waits: each connection that it has open has a CC that waits.
 pub record StandsUnselected (local : Local) (deeds : ℕ → Deeds) (j : Joint) : Type 0 where
   pub stands : StandsInTwo Right local deeds j
-  pub sure : Sure j.course
-  pub class : j.course.traffic.course.class ≡ None
+  pub sure : Sure j.judge
+  pub class : j.judge.traffic.course.class ≡ None
   pub quiet : AllByRecursion IsQuiet (units_in j.coming)
-  pub uncalled : AreUncalled j.course.sessions
-  pub shut : (q peer : ℕ) → 0 < q → stage_at q j.holding.end.carrier ≡ amid peer → (n : ℕ) × HasCc n q j.put
+  pub uncalled : AreUncalled j.judge.sessions
+  pub shut : (q peer : ℕ) → 0 < q → stage_at q j.end.end.carrier ≡ amid peer → (n : ℕ) × HasCc n q j.put
 
 pub unselected_so : (local : Local) (deeds : ℕ → Deeds) (j : Joint) → StandsUnselected local deeds j →
     StandInNone Right deeds j
 unselected_so local deeds j h = record {
   sure = h.sure;
   class = h.class;
-  all = all_unnamed deeds (known_at j) (known_in j.holding.end.carrier (units_in j.coming)) j.put j.begun j.course.traffic j.course.sessions
+  all = all_unnamed deeds (known_at j) (known_in j.end.end.carrier (units_in j.coming)) j.put j.begun j.judge.traffic j.judge.sessions
       h.uncalled h.stands.standing.all;
   quiet = h.quiet;
   new = h.uncalled;
@@ -82,12 +82,12 @@ same_cc : (n m : ℕ) (x y : Connect) → confirm n x ≡ confirm m y → y.sour
 same_cc n m x y e = cc
 
 module _ (local : Local) (turn : Turn) (old new : Joint) (t : TakesTurn turn old new) (deeds : ℕ → Deeds)
-    (does : TurnDoes false deeds turn old new t) (sure : IsFirm old.course.traffic.course) (all : StandsUnselected local deeds old) where
+    (does : TurnDoes false deeds turn old new t) (sure : IsFirm old.judge.traffic.course) (all : StandsUnselected local deeds old) where
   abbrev h : StandsInTwo Right local deeds old
   h = all.stands
 
   abbrev end : Carrier
-  end = old.holding.end.carrier
+  end = old.end.end.carrier
 
   abbrev pub ahead : GoesOn Right (first local) h.own.ahead.bound new
   ahead = turns_ahead Right (first local) turn old new t h.own.ahead
@@ -95,15 +95,15 @@ module _ (local : Local) (turn : Turn) (old new : Joint) (t : TakesTurn turn old
   abbrev f : IsFollowed Right (first local) new
   f = ahead.ahead.followed
 
-  clear : IsClear old.course.traffic.course
-  clear = record { sure = sure; two = λ zero_is. none_some old.course.traffic.course.class Zero all.class zero_is }
+  clear : IsClear old.judge.traffic.course
+  clear = record { sure = sure; two = λ zero_is. none_some old.judge.traffic.course.class Zero all.class zero_is }
 
-  module _ (z : Selecting local f.whole) where
+  module _ (z : Selecting local (whole_of f)) where
     abbrev answer : Connect
     answer = acceptance Zero z.size z.x local z.r
 
     put_is : confirm z.x.source answer ∷ z.more ≡ new.put
-    put_is = sym z.put ∙ f.put
+    put_is = sym z.put
 
     starts : StartsWithCc answer.source new.put
     starts = record { n = z.x.source; x = answer; rest = z.more; is = sym put_is; source = refl; not_two = λ two. cc two }
@@ -120,7 +120,10 @@ module _ (local : Local) (turn : Turn) (old new : Joint) (t : TakesTurn turn old
     all_put = sym does.units ∙ ap (λ (l : List Value). l ++ t.units) (sym empty) ∙ sym t.put ∙ starts.is
 
     less : h.own.ahead.bound < x.source
-    less = search (arith, waits_above, first, starts)
+    less =
+        let above = waits_above local new ahead.ahead starts.n x.source
+        (subst (HasCc starts.n x.source) (sym starts.is) (inl (refl, refl))) in
+        let rises = ahead.rises in omega (arith, above, rises)
 
     dts : AllByRecursion IsDt0 starts.rest
     dts = dts_after local new f starts.n x starts.rest starts.is z
@@ -144,8 +147,8 @@ module _ (local : Local) (turn : Turn) (old new : Joint) (t : TakesTurn turn old
     some : old.begun ≡ true → old.put ≡ [] → ⊥
     some begun =
         let g = h.own.ahead.followed in
-        let lines = has_lines local old g (going_on old.course.traffic.course clear) h.own.holds.two in
-        λ none. lines.called.some (g.begun ∙ begun) (sym lines.called.put ∙ g.put ∙ none)
+        let lines = has_lines local old g (going_on old.judge.traffic.course clear) h.own.holds.two in
+        λ none. lines.called.some begun (sym lines.called.put ∙ none)
 
     pub turns_selecting : StandsAnswering local (λ r. then_did (deeds r) (does.on.more r)) new
     turns_selecting =

@@ -74,18 +74,19 @@ past_apart calls q s t took put e w = grind (arith, past_amid)
 module _ (calls : Bool) (turn : Turn) (old new : Joint) (t : TakesTurn turn old new) (deeds : ℕ → Deeds)
     (does : TurnDoes calls deeds turn old new t) where
   abbrev pub WasOpenThen : ℕ → Type 0
-  WasOpenThen q = WasOpen calls q (stage_at q old.holding.end.carrier) does.on.took does.on.put
+  WasOpenThen q = WasOpen calls q (stage_at q old.end.end.carrier) does.on.took does.on.put
 
-  pub then_open : (q peer : ℕ) → 0 < q → stage_at q new.holding.end.carrier ≡ amid peer → WasOpenThen q
+  pub then_open : (q peer : ℕ) → 0 < q → stage_at q new.end.end.carrier ≡ amid peer → WasOpenThen q
   then_open q peer some is =
-      open_so calls q peer (stage_at q old.holding.end.carrier) (stage_at q new.holding.end.carrier) does.on.took does.on.put (does.life q some) is
+      open_so calls q peer (stage_at q old.end.end.carrier) (stage_at q new.end.end.carrier) does.on.took does.on.put (does.life q some) is
 
   marked_apart : {A : Type 0} (front rest : List Marked) (m : Marked) → does.on.put ≡ front ++ m ∷ rest → AreApart m.0 does.on.put → A
   marked_apart front rest m is apart = grind (arith, differ, eq-eqb, one_of)
 
   put_open : (front rest : List Marked) (m : Marked) → does.on.put ≡ front ++ m ∷ rest → 0 < m.0 → WasOpenThen m.0
   put_open front rest m is some =
-      by (put_so calls m.0 (stage_at m.0 old.holding.end.carrier) (stage_at m.0 new.holding.end.carrier) does.on.took does.on.put (does.life m.0 some))
+      by (put_so calls m.0 (stage_at m.0 old.end.end.carrier) (stage_at m.0 new.end.end.carrier) does.on.took does.on.put
+      (does.life m.0 some))
     where
       by : AreApart m.0 does.on.put ⊎ WasOpenThen m.0 → WasOpenThen m.0
       by (inl apart) = marked_apart front rest m is apart

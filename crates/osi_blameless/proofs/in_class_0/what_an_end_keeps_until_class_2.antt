@@ -29,7 +29,7 @@ StandsBefore Left local deeds j = StandsUnanswered local deeds j
 StandsBefore Right local deeds j = StandsUnselected local deeds j ⊎ StandsAnswering local deeds j
 
 pub none_selected : (d : Direction) (local : Local) (deeds : ℕ → Deeds) (j : Joint) →
-    StandsBefore d local deeds j → j.course.traffic.course.class ≡ None
+    StandsBefore d local deeds j → j.judge.traffic.course.class ≡ None
 none_selected Left local deeds j h = h.none.class
 none_selected Right local deeds j (inl h) = h.class
 none_selected Right local deeds j (inr h) = h.none.class
@@ -43,10 +43,10 @@ module _ (local : Local) where
 
   -- what is known of the parts in flight, also after some more units
   abbrev known_at : Joint → Known
-  known_at j = known_in j.holding.end.carrier (units_in j.coming)
+  known_at j = known_in j.end.end.carrier (units_in j.coming)
 
   abbrev known_then : Joint → List Value → Known
-  known_then j front = known_in j.holding.end.carrier (units_in j.coming ++ front)
+  known_then j front = known_in j.end.end.carrier (units_in j.coming ++ front)
 
   zero_leads : (d : Direction) → Leads Two d local (StandsInZero d local) (Until d)
   zero_leads d = record {
@@ -60,7 +60,7 @@ module _ (local : Local) where
     stands = λ deeds j h. all_stand (known_at j) h.zero.all;
     stands_amid = λ deeds at octets front back old new step passed not h.
         all_stand (known_then old front)
-        (units_zero d deeds h.r old.holding.end.carrier old.put old.begun at front (units_in old.coming) old.course passed h.zero).all;
+        (units_zero d deeds h.r old.end.end.carrier old.put old.begun at front (units_in old.coming) old.judge passed h.zero).all;
   }
 
   unanswered_leads : Leads Two Left local (StandsUnanswered local) (Until Left)
@@ -75,8 +75,8 @@ module _ (local : Local) where
     stands = λ deeds j h. all_stand (known_at j) h.none.all;
     stands_amid = λ deeds at octets front back old new step passed not h.
         all_stand (known_then old front)
-        (comes_all local deeds old.holding.end.carrier old.put old.begun at h.ahead.bound (units_in old.coming ++ front)
-        (units_pass Right at front old.course) (unanswered_comes local deeds at octets front back old step.0 step.1 passed not h));
+        (comes_all local deeds old.end.end.carrier old.put old.begun at h.ahead.bound (units_in old.coming ++ front)
+        (units_pass Right at front old.judge) (unanswered_comes local deeds at octets front back old step.0 step.1 passed not h));
   }
 
   unselected_leads : Leads Two Right local (StandsUnselected local) (Until Right)
@@ -91,7 +91,7 @@ module _ (local : Local) where
     stands = λ deeds j h. all_stand (known_at j) (unselected_so local deeds j h).all;
     stands_amid = λ deeds at octets front back old new step passed not h.
         all_stand (known_then old front)
-        (units_unselected deeds old.holding.end.carrier old.put old.begun at front (units_in old.coming) old.course passed
+        (units_unselected deeds old.end.end.carrier old.put old.begun at front (units_in old.coming) old.judge passed
         (unselected_so local deeds old h)).all;
   }
 
@@ -107,7 +107,7 @@ module _ (local : Local) where
     stands = λ deeds j h. all_stand (known_at j) h.none.all;
     stands_amid = λ deeds at octets front back old new step passed not h.
         all_stand (known_then old front)
-        (units_unselected deeds old.holding.end.carrier old.put old.begun at front (units_in old.coming) old.course passed h.none).all;
+        (units_unselected deeds old.end.end.carrier old.put old.begun at front (units_in old.coming) old.judge passed h.none).all;
   }
 
   before_leads : (d : Direction) → Leads Two d local (StandsBefore d local) (Until d)

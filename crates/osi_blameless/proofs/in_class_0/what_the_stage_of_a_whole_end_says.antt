@@ -6,27 +6,25 @@ use Rattle.osi_blameless.proofs.Vocabulary.{eqb-true, AllByRecursion, confirm, C
 use Rattle.osi_blameless.proofs.Vocabulary.{has_given, Traffic as State, takes, Connection, Offer, early, past, stage_at, stage_is, IsOver}
 use Rattle.osi_blameless.proofs.Vocabulary.{one, answered, Calling, known, quiet, refused, begun_by, anyhow, zero_puts, PutsData}
 use Rattle.osi_blameless.proofs.Vocabulary.{calm_judge, done_takes, GoesOn, Waits, Whole, arith, ended, waits, Stage as CalledStage}
-use Rattle.osi_blameless.proofs.Vocabulary.{Direction, Left, Carrier, calls_from, IsFirm, Joint, Event, HappenAlong, Holds, holds_first}
-use Rattle.osi_blameless.proofs.Vocabulary.{holds_next, IsInZero, lines, selected, selecting, stage_there, ◌≤◌, ◌<◌, is_some}
-use Rattle.osi_blameless.proofs.Vocabulary.{units_in, Steps, passes_own, Disconnects}
+use Rattle.osi_blameless.proofs.Vocabulary.{Direction, Left, Carrier, calls_from, IsFirm, Joint, IsInZero}
+use Rattle.osi_blameless.proofs.Vocabulary.{lines, selected, selecting, stage_there, ◌≤◌, ◌<◌, is_some, units_in, Steps, passes_own}
+use Rattle.osi_blameless.proofs.Vocabulary.{Disconnects}
 use Rattle.osi_rules.specs.declared.directions.Direction.TheVariants.{Right}
-use Rattle.osi_rules.specs.declared.directions.Direction.TheVariants as way
 use Rattle.osi_side.specs.declared.directions.Direction.TheVariants as side
 use Rattle.osi_blameless.specs.transport.Wholes as wholes
 use Rattle.osi_blameless.proofs.transport.requests.how_requests_go_on.{Stage, asks, zero}
 use Rattle.osi_blameless.proofs.small_facts_that_many_lemmas_use.{early_lasts, given_so, none_some}
 use Rattle.osi_blameless.proofs.small_facts_that_many_lemmas_use as small
-use Rattle.osi_blameless.proofs.keeping.steps_are_events.{IsFollowed}
-use Rattle.osi_blameless.proofs.putting.a_whole_end_runs_along.{called_joined}
+use Rattle.osi_blameless.proofs.keeping.steps_are_events.{whole_of, IsFollowed}
+use Rattle.osi_blameless.proofs.putting.a_whole_end_runs_along.{joined_by_place}
 use Rattle.osi_blameless.proofs.putting.each_reference_of_an_end_is_new.{IsAhead, IsWithin}
-use Rattle.osi_blameless.proofs.small_facts_that_many_lemmas_use.{same_units}
 use Rattle.osi_blameless.proofs.keeping.a_carrier_does_events.{none_of}
 use Rattle.osi_blameless.proofs.in_class_0.units_of_class_0_come_after_its_cc.{HasCc}
+use Rattle.osi_blameless.proofs.transport.by_line.an_end_is_fair.{none_put as some_put}
+pub use Rattle.osi_blameless.proofs.keeping.what_is_judged_beside_a_halted_side.{IsDt0}
+pub use Rattle.osi_blameless.proofs.putting.a_whole_end_runs_along.{runs_staged}
 
 -- ---- small facts
-
-some_put : {A : Type 0} (v : Value) (rest put : List Value) → put ≡ v ∷ rest → put ≡ [] → A
-some_put v rest put e none = absurd (cc (sym e ∙ none))
 
 class_not : {A : Type 0} (k : Option Class) (a b : Class) → k ≡ Some a → k ≡ Some b → (a ≡ b → ⊥) → A
 class_not k a b h e apart = absurd (let same : a ≡ b = cc in apart same)
@@ -38,10 +36,6 @@ calm_class : (w : Whole) (cs : List Connection) (drs : Disconnects) → w.judge 
 calm_class w cs drs judge = ap (λ (t : State). t.course.class) judge
 
 -- ---- DTs of class 0
-
-abbrev pub IsDt0 : Value → Type 0
-IsDt0 (data0 end user) = Unit {0}
-IsDt0 _ = ⊥
 
 none_all : {units : List Value} → units ≡ [] → AllByRecursion IsDt0 units
 none_all e = subst (AllByRecursion IsDt0) (sym e) tt
@@ -133,10 +127,10 @@ open_or_over : (limit begun r : ℕ) (s : Carrier) (units : List Value) → IsIn
 open_or_over limit begun r s units h some up lasts may = grind (arith, stage_is, stage_there)
 
 module _ (local : Local) (w : Whole) (class : w.judge.course.class ≡ Some Zero) where
-  called_puts : CalledStage local w → AllByRecursion IsDt0 w.put
-  called_puts (lines h c named) = grind (arith, none_some, small.zero_two)
-  called_puts (selecting z) = none_some w.judge.course.class Zero z.class class
-  called_puts (selected z) =
+  dts_put_by_place : CalledStage local w → AllByRecursion IsDt0 w.put
+  dts_put_by_place (lines h c named) = grind (arith, none_some, small.zero_two)
+  dts_put_by_place (selecting z) = none_some w.judge.course.class Zero z.class class
+  dts_put_by_place (selected z) =
       all_data z.judge.limit z.judge.c.right.begun w.put (zero_puts z.judge.limit w.end z.judge.c.right.begun w.put z.goes)
 
   not_early : (r : ℕ) → 0 < r → r ≤ w.end.given → w.end.ended ≡ None → stage_at r w.end ≡ early → CalledStage local w → ⊥
@@ -150,35 +144,24 @@ abbrev pub StageOf : Direction → Local → Whole → Type 0
 StageOf side.Left local w = Stage local w
 StageOf side.Right local w = CalledStage local w
 
-staged_along : (local : Local) (events : List Event) (old new : Whole) → HappenAlong way.Left old events new → Holds local old →
-    Holds local new
-staged_along local [] old new e h = subst (Holds local) (sym e) h
-staged_along local (event ∷ events) old new (mid, first, more) h =
-    staged_along local events mid new more (holds_next local event old mid first h)
-
-pub runs_staged : (local : Local) (j : Joint) (f : IsFollowed side.Left (wholes.begin true local) j) → Holds local f.whole
-runs_staged local j f = staged_along local f.events (wholes.begin true local) f.whole f.along (holds_first local)
-
 -- as long as all is judged
 pub stage_of : (d : Direction) (local : Local) (j : Joint) (f : IsFollowed d (wholes.begin (calls_from d) local) j) →
-    IsFirm j.course.traffic.course → StageOf d local f.whole
-stage_of side.Left local j f firm = (runs_staged local j f).stage (ap (λ (s : State). s.course.left_stopped) f.judge ∙ firm.left)
-stage_of side.Right local j f firm = (called_joined local j f).stage (grind arith)
+    IsFirm j.judge.traffic.course → StageOf d local (whole_of f)
+stage_of side.Left local j f firm = (runs_staged local j f).stage firm.left
+stage_of side.Right local j f firm = (joined_by_place local j f).stage (grind arith)
 
 -- it has put DTs alone in class 0
 pub zero_put : (d : Direction) (local : Local) (w : Whole) → w.judge.course.class ≡ Some Zero → StageOf d local w →
     AllByRecursion IsDt0 w.put
 zero_put side.Left local w class h = dts_put local w h class
-zero_put side.Right local w class h = called_puts local w class h
+zero_put side.Right local w class h = dts_put_by_place local w class h
 
 -- so a unit of it that passes is one
 pub own_is_dt : (local : Local) (d : Direction) (at : ℕ) (v : Value) (old new : Joint) → Steps d (passes_own at v) old new →
-    IsFollowed d (wholes.begin (calls_from d) local) old → IsFirm old.course.traffic.course → old.course.traffic.course.class ≡ Some Zero →
+    IsFollowed d (wholes.begin (calls_from d) local) old → IsFirm old.judge.traffic.course → old.judge.traffic.course.class ≡ Some Zero →
     IsDt0 v
 own_is_dt local d at v old new step f firm class =
-    let s : f.whole.put ≡ v ∷ new.put = f.put ∙ step.2 in
-    (subst (AllByRecursion IsDt0) s
-    (zero_put d local f.whole (ap (λ (t : State). t.course.class) f.judge ∙ class) (stage_of d local old f firm))).0
+    (subst (AllByRecursion IsDt0) step.2.0 (zero_put d local (whole_of f) class (stage_of d local old f firm))).0
 
 -- The CC has come for a connection that may still open. A called end has none such: it opens the connection with its own CC.
 abbrev pub AwaitsCc : Direction → List Value → Type 0
@@ -191,17 +174,16 @@ awaits_by side.Left local w r class some given lasts may h = cc_waits local w r 
 awaits_by side.Right local w r class some given lasts may h = absurd (not_early local w class r some given lasts may h)
 
 pub zero_awaits : (d : Direction) (local : Local) (j : Joint) (a : IsAhead d (wholes.begin (calls_from d) local) j) (r : ℕ) →
-    IsFirm j.course.traffic.course → j.course.traffic.course.class ≡ Some Zero → IsWithin a.bound r →
-    stage_at r j.holding.end.carrier ≡ early → AwaitsCc d (units_in j.coming)
+    IsFirm j.judge.traffic.course → j.judge.traffic.course.class ≡ Some Zero → IsWithin a.bound r →
+    stage_at r j.end.end.carrier ≡ early → AwaitsCc d (units_in j.coming)
 zero_awaits d local j a r firm class within may =
     let f = a.followed in
-    let w = f.whole in
-    let end = j.holding.end.carrier in
+    let w = (whole_of f) in
+    let end = j.end.end.carrier in
     let lasts = early_lasts r end may in
     let whole_lasts = none_of w.end.ended (sym f.like.over ∙ ap is_some lasts) in
     let stage = stage_of d local j f firm in
-    let zero_is : w.judge.course.class ≡ Some Zero = ap (λ (s : State). s.course.class) f.judge ∙ class in
     let given : r ≤ w.end.given =
     (let low = a.above.given in let up = within.1 in omega (arith, low, up)) in
-    subst (AwaitsCc d) (f.coming lasts ∙ same_units j.coming)
-    (awaits_by d local w r zero_is within.0 given whole_lasts (ap (stage_at r) (f.like.lasts whole_lasts) ∙ may) stage)
+    subst (AwaitsCc d) (f.coming lasts)
+    (awaits_by d local w r class within.0 given whole_lasts (ap (stage_at r) (f.like.lasts whole_lasts) ∙ may) stage)

@@ -12,7 +12,7 @@ use Rattle.osi_rules.specs.declared.findings.Reach.TheVariants as reach
 use Rattle.osi_rules.specs.declared.findings.Rule.TheVariants as rule
 use Rattle.osi_blameless.proofs.keeping.a_break_ends_no_judging_or_all.{takes_reach}
 use Rattle.osi_blameless.proofs.shown.a_dt_that_is_no_break_is_right.{found_two}
-use Rattle.osi_blameless.proofs.standing.a_unit_after_a_dr_leaves_all_standing.{after_keeps}
+use Rattle.osi_blameless.proofs.coming.a_unit_after_a_dr_leaves_all_standing.{after_keeps}
 use Rattle.osi_blameless.proofs.shown.a_unit_is_joined_where_it_is_named.{joined_any}
 use Rattle.osi_blameless.proofs.standing.nobody_of_a_side_is_to_blame.{NoneIsToBlame}
 use Rattle.osi_blameless.proofs.standing.all_connections_stand.{AllStand, Loses, all_room}
@@ -22,9 +22,9 @@ use Rattle.osi_blameless.proofs.putting.references_of_an_end_are_distinct.{AreDi
 use Rattle.osi_blameless.proofs.standing.right_units_leave_all_standing.{dt, link_placed}
 use Rattle.osi_blameless.proofs.coming.the_dr_of_the_other_side_is_in_flight.{AreShut, HaveRoom, other_shut}
 use Rattle.osi_blameless.proofs.standing.what_a_unit_does_at_its_place.{Does, unit_does}
-use Rattle.osi_blameless.proofs.standing.what_has_no_effect_joins_nothing.{joins_none}
+use Rattle.osi_blameless.proofs.shown.what_has_no_effect_joins_nothing.{joins_none}
 use Rattle.osi_blameless.proofs.standing.what_holds_of_a_lost_connection.{now_so}
-use Rattle.osi_blameless.proofs.coming.what_is_left_for_an_end.{known_left, left_grows, left_same}
+use Rattle.osi_blameless.proofs.standing.what_is_left_for_an_end.{known_left, left_grows, left_same}
 use Rattle.osi_blameless.proofs.standing.what_passes_leaves_all_standing.{AllGoesOn, IsHeard, no_zero, other_stands}
 use Rattle.osi_blameless.proofs.standing.what_stands_of_a_connection.{waiting_for}
 

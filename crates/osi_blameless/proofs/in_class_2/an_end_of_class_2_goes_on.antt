@@ -39,7 +39,7 @@ IsInTwo Right b deeds end put coming = AnswersInTwo b deeds put coming
 -- with references up to this one at the judge
 pub record OwnInTwo (d : Direction) (local : Local) (deeds : ℕ → Deeds) (j : Joint) : Type 0 where
   pub ahead : IsAhead d (wholes.begin (calls_from d) local) j
-  pub holds : IsInTwo d ahead.bound deeds j.holding.end.carrier j.put (units_in j.coming)
+  pub holds : IsInTwo d ahead.bound deeds j.end.end.carrier j.put (units_in j.coming)
 
 -- ---- at the beginning
 
@@ -102,32 +102,32 @@ module _ (d : Direction) (local : Local) (deeds : ℕ → Deeds) where
 
   pub two_own_begins : (old new : Joint) → Steps d begins_own old new → Own old → Own new
   two_own_begins old new (some, none, is) h =
-      let mid : Joint = record old { begun = true; course = packet_begins d old.course } in
+      let mid : Joint = record old { begun = true; judge = packet_begins d old.judge } in
       let g = begins_own_ahead d first old mid (some, none, refl) h.ahead in
       subst Own (sym is) (record {
         ahead = g.ahead;
-        holds = in_higher d h.ahead.bound g.ahead.bound deeds old.holding.end.carrier old.put (units_in old.coming) g.rises h.holds;
+        holds = in_higher d h.ahead.bound g.ahead.bound deeds old.end.end.carrier old.put (units_in old.coming) g.rises h.holds;
       })
 
   pub two_other_begins : (old new : Joint) → Steps d begins_other old new → Own old → Own new
   two_other_begins old new is h =
-      let mid : Joint = record old { course = packet_begins (other d) old.course } in
+      let mid : Joint = record old { judge = packet_begins (other d) old.judge } in
       let g = begins_other_ahead d first old mid refl h.ahead in
       subst Own (sym is) (record {
         ahead = g.ahead;
-        holds = in_higher d h.ahead.bound g.ahead.bound deeds old.holding.end.carrier old.put (units_in old.coming) g.rises h.holds;
+        holds = in_higher d h.ahead.bound g.ahead.bound deeds old.end.end.carrier old.put (units_in old.coming) g.rises h.holds;
       })
 
   pub two_other_passes : (at : ℕ) (packet : List ℕ) (units : List Value) (old new : Joint) →
       Steps d (passes_other at packet units) old new →
-      (h : Own old) → MayCome d h.ahead.bound units → AreUpTo d h.ahead.bound new.course.sessions → Own new
+      (h : Own old) → MayCome d h.ahead.bound units → AreUpTo d h.ahead.bound new.judge.sessions → Own new
   two_other_passes at packet units old new (octets, read, is) h may up =
-      let mid : Joint = record old { course = units_pass (other d) at units old.course; coming = old.coming ++ packet ∷ [] } in
+      let mid : Joint = record old { judge = units_pass (other d) at units old.judge; coming = old.coming ++ packet ∷ [] } in
       let all = units_more old.coming packet units read in
       let b = h.ahead.bound in
-      let end = old.holding.end.carrier in
+      let end = old.end.end.carrier in
       let g = passes_other_ahead d first at packet units old mid (octets, read, refl) h.ahead
-      (subst (λ (j : Joint). AreUpTo d b j.course.sessions) is up) in
+      (subst (λ (j : Joint). AreUpTo d b j.judge.sessions) is up) in
       subst Own (sym is) (record {
         ahead = g.ahead;
         holds = in_higher d b g.ahead.bound deeds end old.put (units_in mid.coming) g.rises

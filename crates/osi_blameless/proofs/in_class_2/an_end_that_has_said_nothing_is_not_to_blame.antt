@@ -79,8 +79,8 @@ mute_begins d e t h = grind (arith, map_of, said_begun)
 -- for this reason it says nothing more
 pub record HasSaidNothing (d : Direction) (local : Local) (Why : Joint → Type 0) (deeds : ℕ → Deeds) (j : Joint) : Type 0 where
   pub followed : IsFollowed d (wholes.begin (calls_from d) local) j
-  pub places : Agree j.course
-  pub mute : IsMute d j.course.sessions
+  pub places : Agree j.judge
+  pub mute : IsMute d j.judge.sessions
   pub why : Why j
 
 -- As long as both sides are judged, and class 0 is not selected, no unit that passes of the end is a DT then; and this stays so.
@@ -89,39 +89,39 @@ pub record KeepsSilent (d : Direction) (local : Local) (Why : Joint → Type 0) 
   pub turns : (turn : Turn) (old new : Joint) (t : TakesTurn turn old new) (deeds : ℕ → Deeds) →
       TurnDoes (calls_from d) deeds turn old new t → Why old → Why new
   pub none_put : (deeds : ℕ → Deeds) (at : ℕ) (v : Value) (old new : Joint) → Steps d (passes_own at v) old new →
-      IsOngoing old.course.traffic.course → (new.course.traffic.course.class ≡ Some Zero → ⊥) → HasSaidNothing d local Why deeds old →
+      IsOngoing old.judge.traffic.course → (new.judge.traffic.course.class ≡ Some Zero → ⊥) → HasSaidNothing d local Why deeds old →
       (is_part v ≡ false) × Why new
 
 module _ (d : Direction) (local : Local) (Why : Joint → Type 0) (k : KeepsSilent d local Why) where
   abbrev Said : (ℕ → Deeds) → Joint → Type 0
   Said = HasSaidNothing d local Why
 
-  stays_mute : (deeds then_deeds : ℕ → Deeds) (step : Step) (old new : Joint) → Steps d step old new → Agree new.course →
-      IsMute d new.course.sessions → Why new → Said deeds old → Said then_deeds new
+  stays_mute : (deeds then_deeds : ℕ → Deeds) (step : Step) (old new : Joint) → Steps d step old new → Agree new.judge →
+      IsMute d new.judge.sessions → Why new → Said deeds old → Said then_deeds new
   stays_mute deeds then_deeds step old new does places mute why h = grind (arith, step_followed)
 
   pub mute_leads : Leads Zero d local Said Said
   mute_leads = record {
     own_begins = λ deeds old new step courses few h.
         stays_mute deeds deeds begins_own old new step
-        (subst (λ (j : Joint). Agree j.course) (sym step.2) (packet_agrees d old.course h.places))
-        (subst (λ (j : Joint). IsMute d j.course.sessions) (sym step.2) (mute_begins d d old.course.sessions h.mute))
+        (subst (λ (j : Joint). Agree j.judge) (sym step.2) (packet_agrees d old.judge h.places))
+        (subst (λ (j : Joint). IsMute d j.judge.sessions) (sym step.2) (mute_begins d d old.judge.sessions h.mute))
         (k.still old new (ap (λ (j : Joint). j.put) step.2) h.why) h;
     other_begins = λ deeds old new step h.
         stays_mute deeds deeds begins_other old new step
-        (subst (λ (j : Joint). Agree j.course) (sym step) (packet_agrees (other d) old.course h.places))
-        (subst (λ (j : Joint). IsMute d j.course.sessions) (sym step) (mute_begins d (other d) old.course.sessions h.mute))
+        (subst (λ (j : Joint). Agree j.judge) (sym step) (packet_agrees (other d) old.judge h.places))
+        (subst (λ (j : Joint). IsMute d j.judge.sessions) (sym step) (mute_begins d (other d) old.judge.sessions h.mute))
         (k.still old new (ap (λ (j : Joint). j.put) step) h.why) h;
     own_passes = λ deeds at v old new step fine clear not h.
         let (none, why) = k.none_put deeds at v old new step clear not h in
         stays_mute deeds deeds (passes_own at v) old new step
-        (subst (λ (j : Joint). Agree j.course) (sym step.4) (unit_agrees d at v old.course h.places))
-        (subst (λ (j : Joint). IsMute d j.course.sessions) (sym step.4)
-        (mute_unit d d at v old.course h.places (λ same. none) h.mute)) why h;
+        (subst (λ (j : Joint). Agree j.judge) (sym step.2.2) (unit_agrees d at v old.judge h.places))
+        (subst (λ (j : Joint). IsMute d j.judge.sessions) (sym step.2.2)
+        (mute_unit d d at v old.judge h.places (λ same. none) h.mute)) why h;
     other_passes = λ deeds at octets units old new step taken not h.
         stays_mute deeds deeds (passes_other at octets units) old new step
-        (subst (λ (j : Joint). Agree j.course) (sym step.2) (units_agree (other d) at units old.course h.places))
-        (subst (λ (j : Joint). IsMute d j.course.sessions) (sym step.2) (mute_units d at units old.course h.places h.mute))
+        (subst (λ (j : Joint). Agree j.judge) (sym step.2) (units_agree (other d) at units old.judge h.places))
+        (subst (λ (j : Joint). IsMute d j.judge.sessions) (sym step.2) (mute_units d at units old.judge h.places h.mute))
         (k.still old new (ap (λ (j : Joint). j.put) step.2) h.why) h;
     turn = λ turn old new t deeds does f g lasts h. record {
       followed = g;
@@ -130,5 +130,5 @@ module _ (d : Direction) (local : Local) (Why : Joint → Type 0) (k : KeepsSile
       why = k.turns turn old new t deeds does h.why;
     };
     stands = λ deeds j h. silent h.mute;
-    stands_amid = λ deeds at octets front back old new step taken not h. silent (mute_units d at front old.course h.places h.mute);
+    stands_amid = λ deeds at octets front back old new step taken not h. silent (mute_units d at front old.judge h.places h.mute);
   }

@@ -12,7 +12,7 @@ use Rattle.osi_judge.specs.Courses.{Course as Passed}
 use Rattle.osi_blameless.proofs.in_class_2.a_turn_of_an_end_of_class_2.{answers_turn, asks_turn}
 use Rattle.osi_blameless.proofs.standing.what_stands_of_a_connection.{Known}
 use Rattle.osi_blameless.proofs.putting.a_called_end_answers_with_class_2_or_selects_class_0.{answers_or_selects}
-use Rattle.osi_blameless.proofs.putting.a_whole_end_runs_along.{called_joined}
+use Rattle.osi_blameless.proofs.putting.a_whole_end_runs_along.{joined_by_place}
 use Rattle.osi_blameless.proofs.standing.all_connections_stand.{AllStand, there_too}
 use Rattle.osi_blameless.proofs.in_class_2.an_end_hears_what_breaks_no_rule.{AreFine}
 use Rattle.osi_blameless.proofs.in_class_2.an_end_stands_as_units_pass.{MayGetTwo, StandsInTwo, hears_front, known_at, stands_first}
@@ -21,18 +21,18 @@ use Rattle.osi_blameless.proofs.in_class_2.an_end_stands_as_units_pass.{stands_o
 use Rattle.osi_blameless.proofs.in_class_2.an_end_that_has_said_nothing_is_not_to_blame.{HasSaidNothing, KeepsSilent, mute_leads}
 use Rattle.osi_blameless.proofs.in_class_2.an_end_without_class_2_puts_no_dt.{puts_no_dt}
 use Rattle.osi_blameless.proofs.shown.connections_have_the_same_places.{Agree, unit_knows}
-use Rattle.osi_blameless.proofs.putting.each_unit_of_a_calling_end_has_a_home.{calling_marked}
+use Rattle.osi_blameless.proofs.putting.by_its_lines_each_unit_of_an_end_has_a_home.{units_marked}
 use Rattle.osi_blameless.proofs.in_class_2.no_connection_is_opened_before_a_class_is_selected.{AreUncalled, UncalledUntil, uncalled_claim}
 use Rattle.osi_blameless.proofs.standing.nobody_of_a_side_is_to_blame.{IsMute}
 use Rattle.osi_blameless.proofs.putting.nothing_is_done_before_a_cr_passes.{known_from, may_take}
 use Rattle.osi_blameless.proofs.standing.steps_of_either_class_leave_all_standing.{all_stand}
 use Rattle.osi_blameless.proofs.shown.a_session_that_is_shown_is_not_to_blame.{SessionLaws}
 use Rattle.osi_blameless.proofs.putting.ccs_among_units.{AnswersTwo, first_not_zero}
-use Rattle.osi_blameless.proofs.coming.what_has_come_before_a_cc.{AreQuiet, begin_quiet, begins_other_quiet, begins_own_quiet}
-use Rattle.osi_blameless.proofs.coming.what_has_come_before_a_cc.{passes_other_quiet, passes_own_quiet, turns_quiet}
+use Rattle.osi_blameless.proofs.in_class_2.what_has_come_before_a_cc.{AreQuiet, begin_quiet, begins_other_quiet, begins_own_quiet}
+use Rattle.osi_blameless.proofs.in_class_2.what_has_come_before_a_cc.{passes_other_quiet, passes_own_quiet, turns_quiet}
 use Rattle.osi_blameless.proofs.in_class_2.what_is_asked_of_what_holds_at_each_step.{ArePassed, Keeps, Leads, leads_either}
 use Rattle.osi_blameless.proofs.small_facts_that_many_lemmas_use.{all_front, none_some}
-use Rattle.osi_blameless.proofs.keeping.steps_are_events.{IsFollowed, begin_followed}
+use Rattle.osi_blameless.proofs.keeping.steps_are_events.{whole_of, IsFollowed, begin_followed}
 use Rattle.osi_blameless.proofs.steps.what_passes_keeps_a_claim.{step_kept}
 use Rattle.osi_blameless.proofs.steps.what_the_turns_among_steps_do.{TurnDoes}
 use Rattle.osi_blameless.proofs.in_class_2.what_is_asked_of_what_holds_at_each_step.{leads_more}
@@ -52,7 +52,7 @@ fine_of d at (v ∷ vs) c (one, more) = (
 -- none while no class is selected.
 abbrev Besides : Direction → Joint → Type 0
 Besides Left j = AreQuiet j
-Besides Right j = UncalledUntil j.course
+Besides Right j = UncalledUntil j.judge
 
 pub record StandsBeside (d : Direction) (local : Local) (deeds : ℕ → Deeds) (j : Joint) : Type 0 where
   pub two : MayGetTwo d local
@@ -75,7 +75,7 @@ besides_own_passes Right local deeds at v old new step h =
     step_kept UncalledUntil uncalled_claim Right (passes_own at v) old new step h.besides
 
 besides_other_passes : (d : Direction) (local : Local) (deeds : ℕ → Deeds) (at : ℕ) (octets : List ℕ) (units : List Value)
-    (old new : Joint) → Steps d (passes_other at octets units) old new → AreFine d at units old.course → StandsBeside d local deeds old →
+    (old new : Joint) → Steps d (passes_other at octets units) old new → AreFine d at units old.judge → StandsBeside d local deeds old →
     Besides d new
 besides_other_passes Left local deeds at octets units old new step fine h =
     passes_other_quiet local h.two deeds at octets units old new step h.stands.own fine h.besides
@@ -98,20 +98,18 @@ module _ (local : Local) where
 
   -- its CC would select class 0
   none_passes : {A : Type 0} (deeds : ℕ → Deeds) (at : ℕ) (v : Value) (old new : Joint) → Steps Right (passes_own at v) old new →
-      IsOngoing old.course.traffic.course → (new.course.traffic.course.class ≡ Some Zero → ⊥) → HasSelected deeds old → A
-  none_passes deeds at v old new (read, octets, put, begun, is) clear then_two h =
+      IsOngoing old.judge.traffic.course → (new.judge.traffic.course.class ≡ Some Zero → ⊥) → HasSelected deeds old → A
+  none_passes deeds at v old new (read, octets, (put, begun, is)) clear then_two h =
       absurd (by (answers_or_selects local old h.followed clear h.places))
     where
-      by : AllByRecursion AnswersTwo old.put ⊎ Selecting local h.followed.whole → ⊥
+      by : AllByRecursion AnswersTwo old.put ⊎ Selecting local (whole_of h.followed) → ⊥
       by (inl two) = h.why two
       by (inr z) =
           let f = h.followed in
-          let w = f.whole in
-          let j = called_joined local old f in
-          let s : f.whole.put ≡ v ∷ new.put = f.put ∙ put in
-          let firm = firm_unless_two w.judge.course j.two (λ two. none_some w.judge.course.class Two z.class two) in
-          let right = ap (λ (t : State). t.course.right_stopped) f.judge ∙ clear.sure.right in
-          let p = selecting_passes local w j.apart (j.judged firm) right v new.put (f.begun ∙ begun) s z in
+          let w = (whole_of f) in
+          let j = joined_by_place local old f in
+          let firm = firm_unless_two w.judge.course j.sound.two (λ two. none_some w.judge.course.class Two z.class two) in
+          let p = selecting_passes local w j.sound.apart (j.sound.judged firm) clear.sure.right v new.put begun put z in
           grind (arith, unit_knows)
 
   silent_so : (d : Direction) → KeepsSilent d local (Silent d local)
@@ -137,29 +135,29 @@ all_mute deeds known put b s t a firm uncalled = grind (arith, there_too)
 -- A called end may select class 0 in it.
 turn_beside : (d : Direction) (local : Local) (turn : Turn) (old new : Joint) (t : TakesTurn turn old new)
     (deeds : ℕ → Deeds) (does : TurnDoes (calls_from d) deeds turn old new t) → IsFollowed d (wholes.begin (calls_from d) local) old →
-    IsFollowed d (wholes.begin (calls_from d) local) new → IsOngoing old.course.traffic.course → StandsBeside d local deeds old →
+    IsFollowed d (wholes.begin (calls_from d) local) new → IsOngoing old.judge.traffic.course → StandsBeside d local deeds old →
     UnlessZero d local (λ r. then_did (deeds r) (does.on.more r)) new
 turn_beside Left local turn old new t deeds does f g clear h =
     inl (record {
       two = h.two;
       stands = asks_turn local h.two turn old new t deeds does
-          (calling_marked local h.two deeds turn old new t does f g clear h.stands.standing.all.places)
+          (units_marked local h.two deeds turn old new t does f g clear h.stands.standing.all.places)
           (λ r some may. (h.besides clear).before r (some, may)) (closed_so h.besides) clear h.stands;
       besides = turns_quiet turn old new t deeds does h.besides;
     })
   where
-    closed_so : AreQuiet old → (i : ℕ) (c : Connection) → slice_get old.course.traffic.connections i ≡ Some c →
-        is_closing c.right.phase ≡ true → 0 < c.left.reference → stage_at c.left.reference old.holding.end.carrier ≡ early →
-        Tracked old.course.traffic.connections c.left.reference
+    closed_so : AreQuiet old → (i : ℕ) (c : Connection) → slice_get old.judge.traffic.connections i ≡ Some c →
+        is_closing c.right.phase ≡ true → 0 < c.left.reference → stage_at c.left.reference old.end.end.carrier ≡ early →
+        Tracked old.judge.traffic.connections c.left.reference
     closed_so quiet i c there closing some may = let q = quiet clear in grind arith
 turn_beside Right local turn old new t deeds does f g clear h =
     by (answers_or_selects local new g (subst (λ (c : Passed). IsOngoing c.traffic.course) (sym t.course) clear)
     (subst Agree (sym t.course) h.stands.standing.all.places))
   where
-    uncalled : UncalledUntil new.course
+    uncalled : UncalledUntil new.judge
     uncalled = step_kept UncalledUntil uncalled_claim Right (turns turn) old new t h.besides
 
-    by : AllByRecursion AnswersTwo new.put ⊎ Selecting local g.whole →
+    by : AllByRecursion AnswersTwo new.put ⊎ Selecting local (whole_of g) →
         UnlessZero Right local (λ r. then_did (deeds r) (does.on.more r)) new
     by (inl two) = inl (record {
       two = tt;
@@ -167,19 +165,19 @@ turn_beside Right local turn old new t deeds does f g clear h =
       besides = uncalled;
     })
     by (inr z) =
-        let no_class : old.course.traffic.course.class ≡ None =
-        ap (λ (c : Passed). c.traffic.course.class) (sym t.course) ∙ ap (λ (s : State). s.course.class) (sym g.judge) ∙ z.class in
-        let firm : old.course.traffic.course.loose ≡ false =
-        ap (λ (c : Passed). c.traffic.course.loose) (sym t.course) ∙ ap (λ (s : State). s.course.loose) (sym g.judge)
-        ∙ firm_unless_two g.whole.judge.course (called_joined local new g).two
-        (λ two. none_some g.whole.judge.course.class Two z.class two) in
+        let no_class : old.judge.traffic.course.class ≡ None =
+        ap (λ (c : Passed). c.traffic.course.class) (sym t.course) ∙ z.class in
+        let firm : old.judge.traffic.course.loose ≡ false =
+        ap (λ (c : Passed). c.traffic.course.loose) (sym t.course)
+        ∙ firm_unless_two new.judge.traffic.course (joined_by_place local new g).sound.two
+        (λ two. none_some new.judge.traffic.course.class Two z.class two) in
         inr (record {
           followed = g;
           places = subst Agree (sym t.course) h.stands.standing.all.places;
           mute = subst (λ (c : Passed). IsMute Right c.sessions) (sym t.course)
-              (all_mute deeds (known_at old) old.put old.begun old.course.traffic old.course.sessions h.stands.standing.all firm
+              (all_mute deeds (known_at old) old.put old.begun old.judge.traffic old.judge.sessions h.stands.standing.all firm
               (h.besides no_class));
-          why = λ two. first_not_zero z.x.source (acceptance Zero z.size z.x local z.r) z.more new.put (sym z.put ∙ g.put) refl two;
+          why = λ two. first_not_zero z.x.source (acceptance Zero z.size z.x local z.r) z.more new.put (sym z.put) refl two;
         })
 
 -- ---- as it is asked for
@@ -203,7 +201,7 @@ module _ (local : Local) where
       besides = besides_own_passes d local deeds at v old new step h;
     });
     other_passes = λ deeds at octets units old new step taken not h.
-        let fine = fine_of d at units old.course taken in
+        let fine = fine_of d at units old.judge taken in
         inl (record {
           two = h.two;
           stands = stands_other_passes d local h.two deeds at octets units old new step fine h.stands;
@@ -212,8 +210,8 @@ module _ (local : Local) where
     turn = λ turn old new t deeds does f g clear h. turn_beside d local turn old new t deeds does f g clear h;
     stands = λ deeds j h. all_stand (known_at j) h.stands.standing.all;
     stands_amid = λ deeds at octets front back old new step taken not h.
-        all_stand (known_from (may_take old.holding.end.carrier) (units_in old.coming ++ front))
-        (hears_front d local h.two deeds at octets front back old step.0 step.1 (fine_of d at front old.course taken) h.stands).heard.stand;
+        all_stand (known_from (may_take old.end.end.carrier) (units_in old.coming ++ front))
+        (hears_front d local h.two deeds at octets front back old step.0 step.1 (fine_of d at front old.judge taken) h.stands).heard.stand;
   }
 
   begins_unless : (d : Direction) (h : Holding) → IsFresh (calls_from d) local h → UnlessZero d local (λ r. no_deeds) (begin h)

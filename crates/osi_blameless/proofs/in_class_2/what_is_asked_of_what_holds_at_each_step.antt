@@ -1,13 +1,12 @@
 -- What is asked of what holds of an end and a judge at each step, by which nobody of the end is to blame as long as one class is not
 -- selected: class 2, or class 0. And what units are while so much is judged. For the laws that no session of an end is to blame.
-use Rattle.osi_blameless.proofs.Vocabulary.{◌≡◌, ◌≢◌, ◌∙◌, ◌⊎◌, inl, inr, refl, sym, ap, subst, ℕ, ◌^◌, ◌<◌, ◌≤◌, Bool, false}
+use Rattle.osi_blameless.proofs.Vocabulary.{◌≡◌, ◌≢◌, ◌∙◌, ◌⊎◌, inl, inr, refl, sym, ap, ℕ, ◌^◌, ◌<◌, ◌≤◌, Bool, false}
 use Rattle.osi_blameless.proofs.Vocabulary.{if◌then◌else◌, List, [], ◌∷◌, ◌++◌, length, Some, is_some, arith, slice_get, length-append}
 use Rattle.osi_blameless.proofs.Vocabulary.{Value, Class, Two, Zero, Local, Capture, other, Direction, TooMany, class_for, is_stopped}
 use Rattle.osi_blameless.proofs.Vocabulary.{takes, packet, unit, IsFirm, IsOngoing, packet_begins, Holding, Deeds, no_deeds, then_did}
 use Rattle.osi_blameless.proofs.Vocabulary.{IsFresh, Turn, Cause, Joined, spoken, marked, marks_of, moved, unit_passes, units_pass, unread}
 use Rattle.osi_blameless.proofs.Vocabulary.{unread_mark, unread_moment, way_of, heard, after, Joint, Step, Steps, TakesTurn, begin}
 use Rattle.osi_blameless.proofs.Vocabulary.{begins_other, begins_own, passes_other, passes_own, calls_from}
-use Rattle.osi_rules.specs.Sides as sides
 use Rattle.osi_rules.specs.Traffic.{State as Traffic}
 use Rattle.osi_rules.specs.Traffic as traffic
 use Rattle.osi_rules.specs.declared.findings.Reach.TheVariants as reach
@@ -15,7 +14,7 @@ use Rattle.osi_blameless.specs.transport.Wholes as wholes
 use Rattle.osi_blameless.specs.ends.Courses.{Course}
 use Rattle.osi_judge.specs.Courses.{Course as Passed, fresh}
 use Rattle.osi_judge.specs.States as states
-use Rattle.osi_blameless.proofs.keeping.steps_are_events.{IsFollowed}
+use Rattle.osi_blameless.proofs.keeping.steps_are_events.{whole_of, IsFollowed}
 use Rattle.osi_blameless.proofs.keeping.no_unit_of_a_whole_end_is_a_break.{IsNoBreak, is_fair}
 use Rattle.osi_blameless.proofs.keeping.a_break_ends_no_judging_or_all.{IsGoing, begins_going, nothing_ends, nothing_goes}
 use Rattle.osi_blameless.proofs.steps.all_is_judged_or_nothing.{IsJudged}
@@ -33,7 +32,7 @@ use Rattle.osi_blameless.proofs.shown.a_session_that_is_shown_is_not_to_blame.{S
 
 -- the courses of all connections of an end
 abbrev pub HaveCourses : Direction → (ℕ → Deeds) → Joint → Type 0
-HaveCourses d deeds j = (r : ℕ) → Course (calls_from d) r (deeds r) j.holding.end
+HaveCourses d deeds j = (r : ℕ) → Course (calls_from d) r (deeds r) j.end.end
 
 -- Both sides are judged; and each connection too, if class 2 is not selected: only in class 2 a connection may lose its judgement.
 abbrev pub IsStillJudged : (barred : Class) → Passed → Type 0
@@ -81,24 +80,24 @@ ArePassed barred d at (v ∷ vs) c = IsPassed barred d v c × ArePassed barred d
 -- connections of the end stand or it has said nothing, also after each unit of a packet of the other side.
 pub record Leads (barred : Class) (d : Direction) (local : Local) (Inv Then : (ℕ → Deeds) → Joint → Type 0) : Type 1 where
   pub own_begins : (deeds : ℕ → Deeds) (old new : Joint) → Steps d begins_own old new → HaveCourses d deeds old →
-      ((i : ℕ) (j : Joined) → slice_get old.course.sessions.live i ≡ Some j → length (heard (spoken (other d) j)) < 2 ^ 64) →
+      ((i : ℕ) (j : Joined) → slice_get old.judge.sessions.live i ≡ Some j → length (heard (spoken (other d) j)) < 2 ^ 64) →
       Inv deeds old → Then deeds new
   pub other_begins : (deeds : ℕ → Deeds) (old new : Joint) → Steps d begins_other old new → Inv deeds old → Then deeds new
   pub own_passes : (deeds : ℕ → Deeds) (at : ℕ) (v : Value) (old new : Joint) → Steps d (passes_own at v) old new →
-      IsOwn barred d v old.course → Lasts barred old.course → (new.course.traffic.course.class ≡ Some barred → ⊥) → Inv deeds old →
+      IsOwn barred d v old.judge → Lasts barred old.judge → (new.judge.traffic.course.class ≡ Some barred → ⊥) → Inv deeds old →
       Then deeds new
   pub other_passes : (deeds : ℕ → Deeds) (at : ℕ) (octets : List ℕ) (units : List Value) (old new : Joint) →
-      Steps d (passes_other at octets units) old new → ArePassed barred d at units old.course →
-      (new.course.traffic.course.class ≡ Some barred → ⊥) → Inv deeds old → Then deeds new
+      Steps d (passes_other at octets units) old new → ArePassed barred d at units old.judge →
+      (new.judge.traffic.course.class ≡ Some barred → ⊥) → Inv deeds old → Then deeds new
   pub turn : (turn : Turn) (old new : Joint) (t : TakesTurn turn old new) (deeds : ℕ → Deeds)
       (does : TurnDoes (calls_from d) deeds turn old new t) → IsFollowed d (wholes.begin (calls_from d) local) old →
-      IsFollowed d (wholes.begin (calls_from d) local) new → Lasts barred old.course → Inv deeds old →
+      IsFollowed d (wholes.begin (calls_from d) local) new → Lasts barred old.judge → Inv deeds old →
       Then (λ r. then_did (deeds r) (does.on.more r)) new
-  pub stands : (deeds : ℕ → Deeds) (j : Joint) → Inv deeds j → StandsOrSilent d deeds j.put j.begun j.course
+  pub stands : (deeds : ℕ → Deeds) (j : Joint) → Inv deeds j → StandsOrSilent d deeds j.put j.begun j.judge
   pub stands_amid : (deeds : ℕ → Deeds) (at : ℕ) (octets : List ℕ) (front back : List Value) (old new : Joint) →
-      Steps d (passes_other at octets (front ++ back)) old new → ArePassed barred d at front old.course →
-      ((units_pass (other d) at front old.course).traffic.course.class ≡ Some barred → ⊥) → Inv deeds old →
-      StandsOrSilent d deeds old.put old.begun (units_pass (other d) at front old.course)
+      Steps d (passes_other at octets (front ++ back)) old new → ArePassed barred d at front old.judge →
+      ((units_pass (other d) at front old.judge).traffic.course.class ≡ Some barred → ⊥) → Inv deeds old →
+      StandsOrSilent d deeds old.put old.begun (units_pass (other d) at front old.judge)
 
 -- It holds at the beginning, and each step keeps it.
 pub record Keeps (barred : Class) (d : Direction) (local : Local) (Inv : (ℕ → Deeds) → Joint → Type 0) : Type 1 where
@@ -186,11 +185,11 @@ module _ (barred : Class) where
       IsWithout barred c
   without_before c new stays longer h = grind arith
 
-  pub step_without : (d : Direction) (step : Step) (old new : Joint) → Steps d step old new → IsWithout barred new.course →
-      IsWithout barred old.course
+  pub step_without : (d : Direction) (step : Step) (old new : Joint) → Steps d step old new → IsWithout barred new.judge →
+      IsWithout barred old.judge
   step_without d step old new does h =
-      without_before old.course new.course (step_kept IsSelected (class_claim barred) d step old new does)
-      (step_kept (λ c. length old.course.past ≤ length c.past) (long_claim (length old.course.past)) d step old new does (omega arith)) h
+      without_before old.judge new.judge (step_kept IsSelected (class_claim barred) d step old new does)
+      (step_kept (λ c. length old.judge.past ≤ length c.past) (long_claim (length old.judge.past)) d step old new does (omega arith)) h
 
   pub after_without : (capture : Capture) (s : states.State) → IsWithout barred (after capture s).course → IsWithout barred s.course
   after_without capture s h =
@@ -255,13 +254,10 @@ knows_zero e c sure is = grind arith
 
 -- it is no break: the end is fair
 pub own_mild : (d : Direction) (local : Local) (at : ℕ) (v : Value) (old new : Joint) → Steps d (passes_own at v) old new →
-    IsFollowed d (wholes.begin (calls_from d) local) old → IsGoing old.course →
-    IsNoBreak (takes (way_of d) v old.course.traffic).told.finding
-own_mild d local at v old new (read, octets, put, begun, is) f j =
-    let s : f.whole.put ≡ v ∷ new.put = f.put ∙ put in
-    subst (λ (t : Traffic). IsNoBreak (takes (way_of d) v t).told.finding) f.judge
-    (is_fair d local f.events f.whole v new.put f.along (f.begun ∙ begun) s
-    (ap (λ (t : Traffic). is_stopped (sides.other (way_of d)) t.course) f.judge ∙ (grind arith)))
+    IsFollowed d (wholes.begin (calls_from d) local) old → IsGoing old.judge →
+    IsNoBreak (takes (way_of d) v old.judge.traffic).told.finding
+own_mild d local at v old new (read, octets, (put, begun, is)) f j =
+    is_fair d local f.events (whole_of f) v new.put f.along begun put (grind arith)
 
 pub own_is : (barred : Class) (d : Direction) (v : Value) (c : Passed) → IsStillJudged barred c → Sure c →
     (c.traffic.course.class ≡ Some barred → ⊥) → IsNoBreak (takes (way_of d) v c.traffic).told.finding →

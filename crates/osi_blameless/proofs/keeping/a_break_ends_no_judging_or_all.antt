@@ -19,7 +19,7 @@ use Rattle.osi_judge.specs.Courses.{breaks}
 use Rattle.osi_blameless.proofs.keeping.no_unit_of_a_whole_end_is_a_break.{IsNoBreak}
 use Rattle.osi_blameless.proofs.steps.all_is_judged_or_nothing.{IsJudged, IsOver, unread_over}
 use Rattle.osi_blameless.proofs.steps.what_passes_keeps_a_claim.{IsClaim}
-use Rattle.osi_blameless.proofs.standing.class_0_is_known_once_it_is_selected.{IsKnownOnce}
+use Rattle.osi_blameless.proofs.keeping.class_0_is_known_once_it_is_selected.{IsKnownOnce}
 use Rattle.osi_blameless.proofs.shown.connections_have_the_same_places.{marked_leaves, marked_traffic, unit_knows}
 
 -- ---- how far a unit reaches

@@ -8,10 +8,11 @@ use Rattle.osi_blameless.proofs.Vocabulary.{Ended, NotCaller, put_by, put_for, E
 use Rattle.osi_blameless.proofs.Vocabulary.{react_over, outcome_over, unlinked_put, Makes, react}
 use Rattle.osi_carrier.specs.State.{Outcome, State}
 use Rattle.osi_rules.specs.declared.directions.Direction.{Direction}
-use Rattle.osi_blameless.specs.transport.Pieces.{units_in}
 use Rattle.osi_blameless.specs.ends.Doing as doing
 use Rattle.osi_blameless.proofs.keeping.what_waits_changes_nothing.{IsApart, bare, call_apart, done_alike, put_alike, together_alike}
 use Rattle.osi_blameless.proofs.keeping.what_waits_changes_nothing.{unit_apart}
+use Rattle.osi_blameless.proofs.transport.what_each_thing_keeps_all_of_them_keep.{along_join}
+pub use Rattle.osi_blameless.proofs.transport.small_facts_that_many_lemmas_use.{none_of}
 
 -- ---- a carrier that has ended does nothing
 
@@ -34,9 +35,6 @@ none_closing r reason c over = ap (λ (o : Option (ℕ × Standing)). put_closin
 ended_so : (reason : EndReason) (c : State) → is_some c.ended ≡ false → ended_by reason c ≡ ends reason c
 ended_so reason c lasts = ap (λ (b : Bool). if b then c else ends reason c) lasts
 
-pub none_of : (o : Option EndReason) → is_some o ≡ false → o ≡ None
-none_of o e = grind arith
-
 may_last : (a b : Bool) (o : Option OpenError) → (if not a then Some NotCaller else (if b then Some Ended else o)) ≡ None → b ≡ false
 may_last a b o h = grind arith
 
@@ -55,15 +53,6 @@ pub record HasCome (d : Direction) (w : Whole) (put later : List Value) (c : Sta
   pub along : HappenAlong d w events (record w { end = end; put = w.put ++ put; coming = coming })
   pub still : end.ended ≡ None → coming ≡ later
   pub like : IsLike end c
-
-pub happen_join : (d : Direction) (xs ys : List Event) (a b c : Whole) → HappenAlong d a xs b → HappenAlong d b ys c →
-    HappenAlong d a (xs ++ ys) c
-happen_join d [] ys a b c e h = subst (λ (x : Whole). HappenAlong d x ys c) e h
-happen_join d (x ∷ xs) ys a b c (mid, first, more) h = (mid, first, happen_join d xs ys mid b c more h)
-
-pub units_join : (us vs : List (List ℕ)) → units_in (us ++ vs) ≡ units_in us ++ units_in vs
-units_join [] vs = refl
-units_join (u ∷ us) vs = grind (arith, append_assoc, units_join us vs)
 
 -- before, the units to come are these and the later ones
 abbrev pub IsNext : Whole → List Value → List Value → Type 0
@@ -179,7 +168,7 @@ comes d _ _ _ _ (doing.and_then a b c took more put others first second) w later
       events = h.events ++ k.events;
       coming = k.coming;
       along = subst (λ (l : List Value). HappenAlong d w (h.events ++ k.events) (record w { end = k.end; put = l; coming = k.coming }))
-          (append_assoc w.put put others) (happen_join d h.events k.events w mid last h.along k.along);
+          (append_assoc w.put put others) (along_join (Happens d) h.events k.events w mid last h.along k.along);
       still = k.still;
       like = k.like;
     }

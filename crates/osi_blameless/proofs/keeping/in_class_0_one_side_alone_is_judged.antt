@@ -11,9 +11,9 @@ use Rattle.osi_blameless.proofs.keeping.a_break_ends_no_judging_or_all.{far_of, 
 use Rattle.osi_blameless.proofs.keeping.a_break_ends_no_judging_or_all.{refused_over}
 use Rattle.osi_blameless.proofs.keeping.a_break_ends_no_judging_or_all.{refuses, side_so, stops_so, unread_if, some_earlier}
 use Rattle.osi_blameless.proofs.steps.all_is_judged_or_nothing.{IsJudged, IsOver}
-use Rattle.osi_blameless.proofs.keeping.what_is_halted_stays_halted.{IsHalted, halted_claim}
+use Rattle.osi_blameless.proofs.steps.what_is_halted_stays_halted.{IsHalted, halted_claim}
 use Rattle.osi_blameless.proofs.steps.what_passes_keeps_a_claim.{IsClaim}
-use Rattle.osi_blameless.proofs.standing.class_0_is_known_once_it_is_selected.{IsKnownOnce}
+use Rattle.osi_blameless.proofs.keeping.class_0_is_known_once_it_is_selected.{IsKnownOnce}
 use Rattle.osi_blameless.proofs.shown.connections_have_the_same_places.{unit_knows}
 
 -- ---- a connection has lost its judgement

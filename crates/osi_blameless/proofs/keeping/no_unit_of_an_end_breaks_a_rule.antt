@@ -1,16 +1,14 @@
 -- A judge finds of no unit of an end that it breaks a rule of transport, whatever the other side sends.
 -- For the law that the transport of an end is blamed nowhere.
-use Rattle.osi_blameless.proofs.Vocabulary.{◌≡◌, ◌∙◌, ℕ, false, List, [], ◌∷◌, None, Some, inl, inr, ◌⊎◌, arith, refl, sym, ap, subst}
+use Rattle.osi_blameless.proofs.Vocabulary.{◌≡◌, ◌∙◌, ℕ, false, List, [], ◌∷◌, None, Some, inl, inr, ◌⊎◌, arith, refl, sym, subst}
 use Rattle.osi_blameless.proofs.Vocabulary.{calls_from, Value, Local, Capture, other, Direction, Reach, Option, Class, class_for}
 use Rattle.osi_blameless.proofs.Vocabulary.{is_stopped, takes, IsOfTwo, firm_unless_two, still_two, Two, Zero, stops_last, Holding, IsFresh}
-use Rattle.osi_blameless.proofs.Vocabulary.{Cause, Course, marks_of, packet_begins, unit_passes, units_pass, unread, way_of}
-use Rattle.osi_blameless.proofs.Vocabulary.{comes_to, Joint, Step, Steps, begin, begins_other, begins_own, passes_other, passes_own, turns}
-use Rattle.osi_blameless.proofs.Vocabulary.{ComesBySteps, LaterAlong, LaterSteps, spoilt}
+use Rattle.osi_blameless.proofs.Vocabulary.{Cause, Course, marks_of, packet_begins, unit_passes, units_pass, unread, way_of, comes_to}
+use Rattle.osi_blameless.proofs.Vocabulary.{Joint, Step, Steps, begin, begins_other, begins_own, passes_other, passes_own, turns}
+use Rattle.osi_blameless.proofs.Vocabulary.{ComesBySteps, LaterAlong, LaterSteps, spoilt, units_in}
 use Rattle.osi_rules.specs.declared.findings.Reach.TheVariants as reach
 use Rattle.osi_rules.specs.Sides as sides
 use Rattle.osi_blameless.proofs.steps.all_is_judged_or_nothing.{IsJudged}
-use Rattle.osi_rules.specs.Traffic.{State as Traffic}
-use Rattle.osi_blameless.specs.transport.Pieces.{units_in}
 use Rattle.osi_blameless.specs.transport.Naming.{unit as unit_passing}
 use Rattle.osi_blameless.specs.transport.Wholes as wholes
 use Rattle.osi_judge.specs.Courses.{fresh}
@@ -19,15 +17,16 @@ use Rattle.osi_blameless.proofs.keeping.a_break_ends_no_judging_or_all.{IsGoing,
 use Rattle.osi_blameless.proofs.keeping.a_break_ends_no_judging_or_all.{mild_reach}
 use Rattle.osi_blameless.proofs.keeping.a_break_ends_no_judging_or_all.{nothing_goes, part_goes, side_known, other_unbroken, own_unbroken}
 use Rattle.osi_blameless.proofs.keeping.a_break_ends_no_judging_or_all.{unread_unbroken}
-use Rattle.osi_blameless.proofs.keeping.an_end_that_is_judged_alone_stays_so.{along_kept, along_too, own_alone}
+use Rattle.osi_blameless.proofs.keeping.an_end_that_is_judged_alone_stays_so.{along_too, own_alone}
 use Rattle.osi_blameless.proofs.keeping.in_class_0_one_side_alone_is_judged.{AfterUnread, IsAlone, all_over, alone_begins, alone_own}
 use Rattle.osi_blameless.proofs.keeping.in_class_0_one_side_alone_is_judged.{unit_alone}
 use Rattle.osi_blameless.proofs.keeping.in_class_0_one_side_alone_is_judged.{unread_alone}
 use Rattle.osi_blameless.proofs.keeping.later_steps_are_events.{later_followed, spoilt_followed}
-use Rattle.osi_blameless.proofs.keeping.steps_are_events.{IsFollowed, begin_followed}
+use Rattle.osi_blameless.proofs.keeping.steps_are_events.{whole_of, IsFollowed, begin_followed}
 use Rattle.osi_blameless.proofs.keeping.no_unit_of_a_whole_end_is_a_break.{IsNoBreak, is_fair}
-use Rattle.osi_blameless.proofs.standing.class_0_is_known_once_it_is_selected.{IsKnownOnce, joint_known_once, unit_known_once}
+use Rattle.osi_blameless.proofs.keeping.class_0_is_known_once_it_is_selected.{IsKnownOnce, joint_known_once, unit_known_once}
 use Rattle.osi_blameless.proofs.shown.connections_have_the_same_places.{unit_knows}
+use Rattle.osi_blameless.proofs.transport.what_each_thing_keeps_all_of_them_keep.{along_keeps}
 
 other_goes : (d : Direction) (c : Course) → IsGoing c → is_stopped (sides.other (way_of d)) c.traffic.course ≡ false
 other_goes d c j = grind arith
@@ -94,53 +93,50 @@ module _ (d : Direction) where
     first = wholes.begin (calls_from d) local
 
     -- a unit of the end is no break: it is fair
-    own_none : (at : ℕ) (v : Value) (old new : Joint) → Steps d (passes_own at v) old new → IsFollowed d first old → IsWhole old.course →
-        IsNoBreak (takes (way_of d) v old.course.traffic).told.finding
-    own_none at v old new (read, octets, put, begun, is) f w =
-        let s : f.whole.put ≡ v ∷ new.put = f.put ∙ put in
-        subst (λ (t : Traffic). IsNoBreak (takes (way_of d) v t).told.finding) f.judge
-        (is_fair d local f.events f.whole v new.put f.along (f.begun ∙ begun) s
-        (ap (λ (t : Traffic). is_stopped (sides.other (way_of d)) t.course) f.judge ∙ other_goes d old.course w.going))
+    own_none : (at : ℕ) (v : Value) (old new : Joint) → Steps d (passes_own at v) old new → IsFollowed d first old → IsWhole old.judge →
+        IsNoBreak (takes (way_of d) v old.judge.traffic).told.finding
+    own_none at v old new (read, octets, (put, begun, is)) f w =
+        is_fair d local f.events (whole_of f) v new.put f.along begun put (other_goes d old.judge w.going)
 
     own_passes_so : (at : ℕ) (v : Value) (old new : Joint) → Steps d (passes_own at v) old new → IsFollowed d first old →
-        IsBlamedNowhere old.course → IsBlamedNowhere (unit_passes d at v old.course)
-    own_passes_so at v old new step f (is_left l) = is_left ((left_claim d).passes d at v old.course l)
+        IsBlamedNowhere old.judge → IsBlamedNowhere (unit_passes d at v old.judge)
+    own_passes_so at v old new step f (is_left l) = is_left ((left_claim d).passes d at v old.judge l)
     own_passes_so at v old new step f (is_alone a none) =
         search (arith, alone_own, own_unbroken, own_alone d local at v old new step f a)
-    own_passes_so at v old new step f (is_whole w) = by (mild_reach d at v old.course _ refl none)
+    own_passes_so at v old new step f (is_whole w) = by (mild_reach d at v old.judge _ refl none)
       where
-        none : IsNoBreak (takes (way_of d) v old.course.traffic).told.finding
+        none : IsNoBreak (takes (way_of d) v old.judge.traffic).told.finding
         none = own_none at v old new step f w
 
-        unbroken : (marks_of d (unit_passes d at v old.course)).broke ≡ None
-        unbroken = own_unbroken d at v old.course none ∙ w.unbroken
+        unbroken : (marks_of d (unit_passes d at v old.judge)).broke ≡ None
+        unbroken = own_unbroken d at v old.judge none ∙ w.unbroken
 
-        by : ((takes (way_of d) v old.course.traffic).told.reach ≡ reach.Nothing)
-            ⊎ ((takes (way_of d) v old.course.traffic).told.reach ≡ reach.Everything) → IsBlamedNowhere (unit_passes d at v old.course)
+        by : ((takes (way_of d) v old.judge.traffic).told.reach ≡ reach.Nothing)
+            ⊎ ((takes (way_of d) v old.judge.traffic).told.reach ≡ reach.Everything) → IsBlamedNowhere (unit_passes d at v old.judge)
         by (inl is) = is_whole (record {
-          going = nothing_goes d at v old.course is w.going;
-          two = unit_two d at v old.course w.two;
+          going = nothing_goes d at v old.judge is w.going;
+          two = unit_two d at v old.judge w.two;
           unbroken = unbroken;
         })
-        by (inr is) = is_left (record { over = all_ends d at v old.course is; unbroken = unbroken })
+        by (inr is) = is_left (record { over = all_ends d at v old.judge is; unbroken = unbroken })
 
-    later_so : (step : Step) (old new : Joint) → LaterSteps d step old new → IsFollowed d first old → IsBlamedNowhere old.course →
-        IsBlamedNowhere new.course
+    later_so : (step : Step) (old new : Joint) → LaterSteps d step old new → IsFollowed d first old → IsBlamedNowhere old.judge →
+        IsBlamedNowhere new.judge
     later_so (turns turn) old new t f h = subst IsBlamedNowhere (sym t.course) h
     later_so begins_own old new step f h = grind (arith, begins_so)
     later_so (passes_own at v) old new step f h = grind (arith, own_passes_so at v old new step f h)
     later_so begins_other old new step f h = grind (arith, begins_so)
     later_so (passes_other at packet units) old new step f h =
-        subst (λ (j : Joint). IsBlamedNowhere j.course) (sym step.2)
-        (others_pass at units old.course (joint_known_once d (calls_from d) local old f) h)
+        subst (λ (j : Joint). IsBlamedNowhere j.judge) (sym step.2)
+        (others_pass at units old.judge (joint_known_once d (calls_from d) local old f) h)
 
     -- the end and the judge, and whether this side is blamed
     record Stood (j : Joint) : Type 0 where
       followed : IsFollowed d first j
-      nowhere : IsBlamedNowhere j.course
+      nowhere : IsBlamedNowhere j.judge
 
     stood_along : (steps : List Step) (old new : Joint) → LaterAlong d old steps new → Stood old → Stood new
-    stood_along = along_kept Stood d (λ step old new does h. record {
+    stood_along = along_keeps (LaterSteps d) Stood (λ step old new does h. record {
       followed = later_followed d first step old new does h.followed;
       nowhere = later_so step old new does h.followed h.nowhere;
     })
@@ -176,7 +172,7 @@ module _ (d : Direction) where
             nowhere = grind (arith, nothing);
           })
 
-      by : ((comes_to capture).course ≡ comes.last.course) ⊎ GoesOn d capture comes.last → IsBlamedNowhere (comes_to capture).course
+      by : ((comes_to capture).course ≡ comes.last.judge) ⊎ GoesOn d capture comes.last → IsBlamedNowhere (comes_to capture).course
       by (inl is) = subst IsBlamedNowhere (sym is) last.nowhere
       by (inr g) = subst IsBlamedNowhere (sym g.all)
           (stood_along local g.steps (spoilt d g.at g.cause g.packets comes.last) g.end g.along

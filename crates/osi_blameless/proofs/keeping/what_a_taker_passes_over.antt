@@ -1,10 +1,11 @@
 -- A unit that is no break, or a break that its taker passes over: it takes the unit all the same, or, if it is a DR, answers it.
 -- For the sessions of an end after such a break of the other side.
-use Rattle.osi_blameless.proofs.Vocabulary.{arith, ◌≡◌, ◌⊎◌, true, false, Option, Value, disconnect, Class, Finding, Broke, Kept, NotJudged}
+use Rattle.osi_blameless.proofs.Vocabulary.{arith, ◌≡◌, true, false, Option, Value, disconnect, Class, Finding, Broke, Kept, NotJudged}
 use Rattle.osi_blameless.proofs.Vocabulary.{Outside, TooMany, Rule, is_applied, reach_of}
 use Rattle.osi_rules.specs.declared.findings.Reach.TheVariants as reach
 use Rattle.osi_rules.specs.declared.findings.Rule.TheVariants as rule
 use Rattle.osi_blameless.proofs.keeping.no_unit_of_a_whole_end_is_a_break.{IsNoBreak}
+pub use Rattle.osi_blameless.proofs.shown.a_dt_that_is_no_break_is_right.{IsClear}
 
 abbrev pub IsDr : Value → Type 0
 IsDr (disconnect n source reason user) = Unit {0}
@@ -26,10 +27,6 @@ pub mild_of : (v : Value) (f : Finding) → IsNoBreak f → IsMild v f
 mild_of v f none = grind arith
 
 -- ---- a DT or an AK
-
--- it is right, or breaks a rule
-abbrev IsClear : Finding → Type 0
-IsClear f = (f ≡ Kept) ⊎ ((r : Rule) × (f ≡ Broke r))
 
 pub applied_of : (v : Value) (f : Finding) → (IsDr v → ⊥) → IsClear f → IsMild v f → is_applied f ≡ true
 applied_of v f h h2 mild = grind arith

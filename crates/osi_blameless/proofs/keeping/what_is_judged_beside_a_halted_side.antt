@@ -13,8 +13,11 @@ use Rattle.osi_rules.specs.Traffic as traffic
 use Rattle.osi_rules.specs.Traffic.{reached}
 use Rattle.osi_blameless.proofs.keeping.a_break_ends_no_judging_or_all.{refused_traffic, refuses, unread_sessions}
 use Rattle.osi_blameless.proofs.shown.connections_have_the_same_places.{unit_joins, unit_knows}
-use Rattle.osi_blameless.proofs.standing.what_has_no_effect_joins_nothing.{joins_none}
-use Rattle.osi_blameless.proofs.in_class_0.what_the_stage_of_a_whole_end_says.{IsDt0}
+use Rattle.osi_blameless.proofs.shown.what_has_no_effect_joins_nothing.{joins_none}
+
+abbrev pub IsDt0 : Value → Type 0
+IsDt0 (data0 end user) = Unit {0}
+IsDt0 _ = ⊥
 
 -- ---- the other side is not judged any more
 

@@ -41,7 +41,8 @@ module _ (s : State) where
   same_request : (c : Connect) → (answers_request c (bare s)).put ≡ (answers_request c s).put
   same_request c = grind arith
 
-  same_linked : (r peer : ℕ) (link : Standing) (unit : Value) → (to_linked r peer link unit (bare s)).put ≡ (to_linked r peer link unit s).put
+  same_linked : (r peer : ℕ) (link : Standing) (unit : Value) → (to_linked r peer link unit (bare s)).put ≡
+      (to_linked r peer link unit s).put
   same_linked r peer link unit = grind arith
 
   same_connection : (r : ℕ) (o : Option Live) (unit : Value) → (to_connection r o unit (bare s)).put ≡ (to_connection r o unit s).put
@@ -61,5 +62,6 @@ pub together_alike : (r : ℕ) (tsdus : List (List ℕ)) (s c : State) → bare 
 together_alike r [] s c e = refl
 together_alike r (tsdu ∷ tsdus) s c e =
     let first : put_sent tsdu (open_link r s) ≡ put_sent tsdu (open_link r c) = ap (λ (x : State). put_sent tsdu (open_link r x)) e in
-    let more = together_alike r tsdus (sent r tsdu s) (sent r tsdu c) (done_alike (user_does (sends r tsdu)) (call_apart (sends r tsdu)) s c e) in
+    let more = together_alike r tsdus (sent r tsdu s) (sent r tsdu c)
+    (done_alike (user_does (sends r tsdu)) (call_apart (sends r tsdu)) s c e) in
     λ i. first i ++ more i

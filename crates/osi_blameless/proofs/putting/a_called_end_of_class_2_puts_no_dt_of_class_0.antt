@@ -13,13 +13,14 @@ use Rattle.osi_blameless.specs.transport.Lines.{answers, begins_other, begins_ow
 use Rattle.osi_blameless.proofs.transport.connections.units_by_their_place.{units_at}
 use Rattle.osi_blameless.proofs.small_facts_that_many_lemmas_use.{all_join as all_of_both}
 use Rattle.osi_blameless.proofs.putting.what_a_turn_puts_goes_to_its_peer.{IsNotZero, one_of}
-use Rattle.osi_blameless.proofs.transport.called.each_connection_of_a_called_end.{past}
+use Rattle.osi_blameless.proofs.transport.by_place.each_connection_has_its_place.{past}
+use Rattle.osi_blameless.proofs.transport.what_each_thing_keeps_all_of_them_keep.{along_keeps}
 
 -- ---- a line of class 2
 
 -- its link is of class 2, if it has one, and it has put no DT of class 0
 record IsOfTwo (line : Line) : Type 0 where
-  flows : (l : Standing) → line.link ≡ Some l → (f : Flow) × (l.flow ≡ Some f)
+  flows : (l : Standing) → line.end ≡ Some l → (f : Flow) × (l.flow ≡ Some f)
   put : AllByRecursion IsNotZero line.put
 
 record Moved (peer : ℕ) (move : Move) (new : Standing) : Type 0 where
@@ -51,15 +52,13 @@ act_two d r peer (closes reason units) old new (link, is, coming, new_is) h = gr
 act_two d r peer (ignores units) old new (gone, coming, new_is) h = grind arith
 act_two d r peer (answers unit) old new (link, is, dr, coming, new_is) h = grind (arith, all_of_both)
 act_two d r peer begins_own old new (some, idle, new_is) h = subst IsOfTwo (sym new_is) (record { flows = h.flows; put = h.put })
-act_two d r peer (passes_own course used) old new (unit, first, begun, new_is) h = grind arith
+act_two d r peer (passes_own course used) old new (unit, (first, begun, new_is)) h = grind arith
 act_two d r peer begins_elsewhere old new (idle, new_is) h = subst IsOfTwo (sym new_is) (record { flows = h.flows; put = h.put })
 act_two d r peer begins_other old new new_is h = subst IsOfTwo (sym new_is) (record { flows = h.flows; put = h.put })
 act_two d r peer (passes_other course used unit) old new (range, named, far, new_is) h = grind arith
 
 acts_two : (d : Direction) (r peer : ℕ) (acts : List Act) (old new : Line) → ActsAlong d r peer old acts new → IsOfTwo old → IsOfTwo new
-acts_two d r peer [] old new e h = subst IsOfTwo (sym e) h
-acts_two d r peer (act ∷ acts) old new (mid, one, more) h =
-    acts_two d r peer acts mid new more (act_two d r peer act old mid one h)
+acts_two d r peer = along_keeps (Acts d r peer) IsOfTwo (act_two d r peer)
 
 -- ---- what holds at each place holds of all that is to pass
 
@@ -118,5 +117,5 @@ module _ (local : Local) (w : Whole) (f : Called local w) where
       subst (AllByRecursion IsNotZero) h.put after.put
   stand_two p c (past silent up none asks un off) = subst (AllByRecursion IsNotZero) (sym none) tt
 
-  pub called_put_two : AllByRecursion IsNotZero w.put
-  called_put_two = put_so IsNotZero local w f (λ m n end user e. let no : disconnected m n ≡ data0 end user = e in cc) stand_two
+  pub none_of_zero_put : AllByRecursion IsNotZero w.put
+  none_of_zero_put = put_so IsNotZero local w f (λ m n end user e. let no : disconnected m n ≡ data0 end user = e in cc) stand_two

@@ -2,27 +2,25 @@
 -- to pass are for this reference: each of them is for a connection whose CC has passed.
 -- For all connections of an end and a judge.
 use Rattle.osi_blameless.proofs.Vocabulary.{◌≡◌, ◌∙◌, refl, ap, ℕ, Bool, true, false, if◌then◌else◌, List, [], ◌∷◌, Option, Some, arith}
-use Rattle.osi_blameless.proofs.Vocabulary.{◌||◌, not, slice_get, AllByRecursion, Connect, Value, confirm, destination_of, Class, Left}
+use Rattle.osi_blameless.proofs.Vocabulary.{◌||◌, slice_get, AllByRecursion, Connect, Value, confirm, destination_of, Class, Left}
 use Rattle.osi_blameless.proofs.Vocabulary.{Connection, Broke, Outside, Phase, is_applied, first_failed, given_again, is_closing, is_open}
 use Rattle.osi_blameless.proofs.Vocabulary.{uses, State, at_found, at_place, found_on, route_in, in_doubt, routed, takes, unnamed_by}
 use Rattle.osi_blameless.proofs.Vocabulary.{uses_source, IsOwned, asking, is_tracked, stray, none_true, picked_rest, Sessions}
 use Rattle.osi_blameless.proofs.Vocabulary.{HaveSamePlaces, named_by, differ}
 use Rattle.osi_rules.specs.declared.directions.Direction.TheVariants as way
 use Rattle.osi_rules.specs.declared.findings.Rule.TheVariants as rule
-use Rattle.osi_blameless.proofs.transport.connections.each_connection_has_its_line.{of}
+use Rattle.osi_blameless.proofs.transport.by_line.each_connection_has_its_line.{of}
 use Rattle.osi_blameless.proofs.shown.a_right_dt_has_one_place.{AreUsedApart, still_used}
 use Rattle.osi_blameless.proofs.shown.connections_have_the_same_places.{at_same}
 use Rattle.osi_blameless.proofs.standing.what_stands_of_a_connection.{is_for, waiting_for}
 use Rattle.osi_blameless.proofs.small_facts_that_many_lemmas_use.{and_both}
+use Rattle.osi_blameless.proofs.transport.names.a_reference_names_one_connection.{not_true as not_so}
 
 -- ---- a CC that has its effect
 
 first_new : (a b i u loose z : Bool) → is_applied (first_failed ((a, Broke rule.WrongForm) ∷ (b, Broke rule.BadAnswer) ∷ (i, Outside)
     ∷ (u, given_again loose) ∷ (z, Broke rule.LargerSize) ∷ [])) ≡ true → u ≡ true
 first_new a b i u loose z h = grind arith
-
-not_so : (b : Bool) → not b ≡ true → b ≡ false
-not_so b h = grind arith
 
 module _ (n : ℕ) (x : Connect) (s : State) where
   abbrev IsNew : Type 0

@@ -1,9 +1,10 @@
 -- The CCs among the units that wait: for which references they are, in which order they come, and that no two give one reference.
 -- For all connections of a called end and a judge.
 use Rattle.osi_blameless.proofs.Vocabulary.{[], arith, inl, inr, List, refl, Some, subst, true, ℕ, ◌++◌, ◌<◌, ◌∙◌, ◌∷◌, ◌≡◌, ◌⊎◌}
-use Rattle.osi_blameless.proofs.Vocabulary.{AllByRecursion, confirm, Connect, Right, Rise, rise_from, Value, picked_rest, is_false, sym}
-use Rattle.osi_blameless.proofs.putting.units_that_wait_give_references_above_those_that_passed.{given_among}
+use Rattle.osi_blameless.proofs.Vocabulary.{AllByRecursion, confirm, Connect, Rise, rise_from, Value, picked_rest, is_false, sym}
+use Rattle.osi_blameless.proofs.transport.requests.units_that_wait_give_references_above_those_that_passed.{given_among}
 use Rattle.osi_blameless.proofs.standing.what_stands_of_a_connection.{is_for, waiting_for}
+use Rattle.osi_rules.specs.declared.directions.Direction.TheVariants as way
 
 -- ---- CCs among units
 
@@ -55,7 +56,7 @@ first_not_zero m x us vs e zero_is two =
 
 -- ---- references of those that wait
 
-among : (P : ℕ → Type 0) (n r : ℕ) (vs : List Value) → AllByRecursion P (given_among Right vs) → HasCc n r vs → P r
+among : (P : ℕ → Type 0) (n r : ℕ) (vs : List Value) → AllByRecursion P (given_among way.Right vs) → HasCc n r vs → P r
 among P n r [] all h = absurd h
 among P n r (confirm m x ∷ vs) all (inl (mine, source)) = subst P source all.0
 among P n r (confirm m x ∷ vs) all (inr h) = among P n r vs all.1 h
@@ -66,11 +67,12 @@ rise_all : (b : ℕ) (rs : List ℕ) → Rise b rs → AllByRecursion (λ (r : �
 rise_all b [] rise = tt
 rise_all b (r ∷ rs) (above, rise) = (above, rise_all b rs (rise_from b r rs (omega (arith, above)) rise))
 
-pub has_above : (b n r : ℕ) (vs : List Value) → Rise b (given_among Right vs) → HasCc n r vs → b < r
-has_above b n r vs rise h = among (λ (q : ℕ). b < q) n r vs (rise_all b (given_among Right vs) rise) h
+pub has_above : (b n r : ℕ) (vs : List Value) → Rise b (given_among way.Right vs) → HasCc n r vs → b < r
+has_above b n r vs rise h = among (λ (q : ℕ). b < q) n r vs (rise_all b (given_among way.Right vs) rise) h
 
 -- no two give the same one
-pub not_twice : {A : Type 0} (b m n r : ℕ) (xs ys : List Value) → Rise b (given_among Right (xs ++ ys)) → HasCc m r xs → HasCc n r ys → A
+pub not_twice : {A : Type 0} (b m n r : ℕ) (xs ys : List Value) → Rise b (given_among way.Right (xs ++ ys)) → HasCc m r xs →
+    HasCc n r ys → A
 not_twice b m n r [] ys rise h k = absurd h
 not_twice b m n r (confirm i x ∷ xs) ys rise (inl (mine, source)) k =
     let more = has_above x.source n r (xs ++ ys) rise.1 (has_back n r xs ys k) in absurd (omega (arith, more, source))

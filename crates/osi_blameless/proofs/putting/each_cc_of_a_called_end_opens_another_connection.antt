@@ -6,23 +6,26 @@ use Rattle.osi_blameless.proofs.Vocabulary.{ℕ, ◌&&◌, ◌++◌, ◌∙◌, 
 use Rattle.osi_blameless.proofs.Vocabulary.{Connect, data2, disconnect, Value, Standing, Move, Two, Local, acceptance, opened_link}
 use Rattle.osi_blameless.proofs.Vocabulary.{value_at, linked, is_open, uses, Connection, Way as Direction, Sessions, Answering, answering}
 use Rattle.osi_blameless.proofs.Vocabulary.{AreStrays, Asked, Called, comes, line_of, refuses, runs, StrayIf, at_first}
-use Rattle.osi_blameless.proofs.Vocabulary.{first_at, is_at, Placed, values, keep, Act, ActsAlong, Line}
+use Rattle.osi_blameless.proofs.Vocabulary.{first_at, is_at, Placed, values, keep, Act, Acts, ActsAlong, Line}
 use Rattle.osi_blameless.proofs.Vocabulary.{opened_line, units_put, Whole, HaveSamePlaces, arith, each_sound, differ}
 use Rattle.osi_side.specs.declared.directions.Direction.TheVariants as side
 use Rattle.osi_rules.specs.declared.directions.Direction.TheVariants.{Left, Right}
-use Rattle.osi_blameless.proofs.transport.called.each_connection_of_a_called_end.{past}
+use Rattle.osi_blameless.proofs.transport.by_place.each_connection_has_its_place.{Running, past}
 use Rattle.osi_blameless.proofs.transport.connections.units_by_their_place.{units_at}
 use Rattle.osi_blameless.proofs.small_facts_that_many_lemmas_use.{all_join as all_of_both}
-use Rattle.osi_blameless.proofs.putting.a_called_end_of_class_2_puts_no_dt_of_class_0.{StandsAt, called_put_two, place_parts, put_so}
+use Rattle.osi_blameless.proofs.putting.a_called_end_of_class_2_puts_no_dt_of_class_0.{StandsAt, none_of_zero_put, place_parts, put_so}
 use Rattle.osi_blameless.proofs.shown.a_right_dt_has_one_place.{still_used}
 use Rattle.osi_blameless.proofs.putting.a_whole_end_runs_along.{HasLines}
 use Rattle.osi_blameless.proofs.shown.connections_have_the_same_places.{at_same}
-use Rattle.osi_blameless.proofs.putting.each_unit_of_a_called_end_has_a_home.{named_open, not_empty, only_one, row_peer, same_number}
-use Rattle.osi_blameless.proofs.putting.each_unit_of_a_called_end_has_a_home.{used_asked}
+use Rattle.osi_blameless.proofs.putting.by_its_places_each_unit_of_an_end_has_a_home.{named_open, not_empty, only_one, row_peer}
+use Rattle.osi_blameless.proofs.putting.by_its_places_each_unit_of_an_end_has_a_home.{same_number}
+use Rattle.osi_blameless.proofs.putting.by_its_places_each_unit_of_an_end_has_a_home.{used_asked}
 use Rattle.osi_blameless.proofs.putting.each_unit_of_a_turn_has_one_connection.{HasHome}
 use Rattle.osi_blameless.proofs.putting.ccs_among_units.{AnswersTwo, AreOrdered, HasCc, IsCc, has_back}
 use Rattle.osi_blameless.proofs.putting.what_a_turn_puts_goes_to_its_peer.{IsNotZero, all_so, one_of}
 use Rattle.osi_blameless.proofs.standing.what_stands_of_a_connection.{is_for}
+use Rattle.osi_blameless.proofs.transport.what_each_thing_keeps_all_of_them_keep.{along_keeps}
+use Rattle.osi_blameless.proofs.transport.by_place.an_end_answers_a_cr.{item_is as item}
 
 -- ---- what a line puts
 
@@ -40,9 +43,11 @@ module _ (d : Direction) (r peer : ℕ) where
   abbrev PutsTo : Line → Type 0
   PutsTo line = AllByRecursion (IsTo peer) line.put
 
+  act_to : (act : Act) (old new : Line) → Acts d r peer act old new → PutsTo old → PutsTo new
+  act_to act old new one h = grind (arith, all_of_both, move_to)
+
   acts_to : (acts : List Act) (old new : Line) → ActsAlong d r peer old acts new → PutsTo old → PutsTo new
-  acts_to [] old new e h = subst PutsTo (sym e) h
-  acts_to (act ∷ acts) old new (mid, one, more) h = acts_to acts mid new more (grind (arith, all_of_both, move_to))
+  acts_to = along_keeps (Acts d r peer) PutsTo act_to
 
 -- ---- small facts
 
@@ -80,9 +85,6 @@ has_at n r p (t ∷ ts) h = by (is_at p t.0) h (λ k. has_at n r p ts k)
 has_more : (n r p : ℕ) (t : Placed) (ts : List Placed) → HasCc n r (units_at p ts) → HasCc n r (units_at p (t ∷ ts))
 has_more n r p t ts h = grind (arith, is_at, keep, units_at)
 
-item : (c e : Connection) (o : Option Connection) → o ≡ Some c → o ≡ Some e → c ≡ e
-item c e o h k = cc
-
 -- ---- the CCs that a called end has put
 
 module _ (local : Local) (w : Whole) (t : Sessions) (lined : HasLines local w) (places : HaveSamePlaces w.judge.connections t.live) where
@@ -109,6 +111,21 @@ module _ (local : Local) (w : Whole) (t : Sessions) (lined : HasLines local w) (
       (f.refs p) c → Value
   cc_of p c h = confirm h.x.source (acceptance Two h.size h.x local h.r)
 
+  -- what is put for a connection after its CC is for its peer
+  answers_to : (p : ℕ) (c : Connection) (h : Answering local f.shut w.end w.coming (units_at p f.tagged) (w.begun && first_at p f.tagged)
+      (f.refs p) c) → AllByRecursion (IsTo h.x.source) h.more
+  answers_to p c h =
+      acts_to Right h.r h.x.source h.acts (opened_line (opened_link Two h.size local h.x.credit) c) (line_of h.link h.more h.come c)
+      (h.along c) tt
+
+  runs_to : (p : ℕ) (c : Connection)
+      (h : Running f.shut w.end w.coming (units_at p f.tagged) (w.begun && first_at p f.tagged) (f.refs p) c) →
+      AllByRecursion (IsTo h.peer) (units_at p f.tagged)
+  runs_to p c h =
+      subst (AllByRecursion (IsTo h.peer)) h.put
+      (acts_to Right h.r h.peer h.tracks.acts h.tracks.first h.line h.tracks.along
+      (subst (AllByRecursion (IsTo h.peer)) (sym h.tracks.opened.put) tt))
+
   cc_by : (n r p : ℕ) (c : Connection) (front rest : List Placed) (v : Value) → slice_get w.judge.connections p ≡ Some c →
       f.tagged ≡ front ++ (Some p, v) ∷ rest → IsCc n r v → StandsAt local w f p c → CcAt n r ((Some p, v) ∷ rest)
   cc_by n r p c front rest v at is mine (comes x a none ask index) =
@@ -122,8 +139,7 @@ module _ (local : Local) (w : Whole) (t : Sessions) (lined : HasLines local w) (
       (sym (place_parts f.tagged p front rest v is) ∙ h.mine_is))
     where
       later : AllByRecursion (IsTo h.x.source) h.more
-      later = acts_to Right h.r h.x.source h.acts (opened_line (opened_link Two h.size local h.x.credit) c)
-          (line_of h.link h.more h.come c) (h.along c) tt
+      later = answers_to p c h
 
       by : ((units_at p front ≡ []) × (v ≡ cc_of p c h)) ⊎
           ((zs : List Value) × (units_at p front ≡ cc_of p c h ∷ zs) × (zs ++ v ∷ units_at p rest ≡ h.more)) →
@@ -150,7 +166,7 @@ module _ (local : Local) (w : Whole) (t : Sessions) (lined : HasLines local w) (
   cc_by n r p c front rest v at is mine (runs h none) =
       cc_not_to n r h.peer v mine
       (one_of (IsTo h.peer) (units_at p front) (units_at p rest) v
-      (subst (AllByRecursion (IsTo h.peer)) (place_parts f.tagged p front rest v is) (grind (arith, acts_to))))
+      (subst (AllByRecursion (IsTo h.peer)) (place_parts f.tagged p front rest v is) (runs_to p c h)))
   cc_by n r p c front rest v at is mine (past silent up none asks un off) =
       not_empty (units_at p front) (units_at p rest) v (sym (place_parts f.tagged p front rest v is) ∙ none)
 
@@ -236,8 +252,7 @@ module _ (local : Local) (w : Whole) (t : Sessions) (lined : HasLines local w) (
       (sym (place_parts f.tagged p front rest v is) ∙ h.mine_is))
     where
       later : AllByRecursion (IsTo h.x.source) h.more
-      later = acts_to Right h.r h.x.source h.acts (opened_line (opened_link Two h.size local h.x.credit) c)
-          (line_of h.link h.more h.come c) (h.along c) tt
+      later = answers_to p c h
 
       by : ((units_at p front ≡ []) × (v ≡ cc_of p c h)) ⊎
           ((zs : List Value) × (units_at p front ≡ cc_of p c h ∷ zs) × (zs ++ v ∷ units_at p rest ≡ h.more)) → ⊥
@@ -252,7 +267,7 @@ module _ (local : Local) (w : Whole) (t : Sessions) (lined : HasLines local w) (
   ordered_by n r p c front rest v at is zero mine k (runs h none) =
       let peer : n ≡ h.peer = to_peer n h.peer v mine zero
       (one_of (IsTo h.peer) (units_at p front) (units_at p rest) v
-      (subst (AllByRecursion (IsTo h.peer)) (place_parts f.tagged p front rest v is) (grind (arith, acts_to)))) in
+      (subst (AllByRecursion (IsTo h.peer)) (place_parts f.tagged p front rest v is) (runs_to p c h))) in
       open_not n r rest k p c at h.there (h.left ∙ sym peer)
   ordered_by n r p c front rest v at is zero mine k (past silent up none asks un off) =
       not_empty (units_at p front) (units_at p rest) v (sym (place_parts f.tagged p front rest v is) ∙ none)
@@ -282,7 +297,7 @@ module _ (local : Local) (w : Whole) (t : Sessions) (lined : HasLines local w) (
   pub put_ordered : AreOrdered w.put
   put_ordered =
       subst AreOrdered (sym f.put)
-      (all_ordered [] f.tagged refl f.strays (subst (AllByRecursion IsNotZero) f.put (called_put_two local w f)))
+      (all_ordered [] f.tagged refl f.strays (subst (AllByRecursion IsNotZero) f.put (none_of_zero_put local w f)))
 
   -- ---- the end has a connection open
 
@@ -324,9 +339,9 @@ module _ (local : Local) (w : Whole) (t : Sessions) (lined : HasLines local w) (
   two_at p c (answering h none) =
       subst (AllByRecursion AnswersTwo) (sym h.mine_is) (
         refl,
-        grind (arith, all_so, acts_to, to_two h.x.source, line_of h.link h.more h.come c, h.along c),
+        all_so (IsTo h.x.source) AnswersTwo (to_two h.x.source) h.more (answers_to p c h),
       )
-  two_at p c (runs h none) = all_so (IsTo h.peer) AnswersTwo (to_two h.peer) (units_at p f.tagged) (grind (arith, acts_to))
+  two_at p c (runs h none) = all_so (IsTo h.peer) AnswersTwo (to_two h.peer) (units_at p f.tagged) (runs_to p c h)
   two_at p c (past silent up none asks un off) = subst (AllByRecursion AnswersTwo) (sym none) tt
 
   pub put_answers_two : AllByRecursion AnswersTwo w.put

@@ -1,23 +1,23 @@
 -- At a judge each CR of a calling end that passes gives a new reference, and so does each CC of a called end; and this stays so with each
 -- step. For all connections of an end and a judge.
-use Rattle.osi_blameless.proofs.Vocabulary.{◌≡◌, ◌∙◌, ◌⊎◌, inl, inr, refl, sym, ap, subst, ℕ, ◌<◌, ◌≤◌, Bool, false, List, [], ◌∷◌, ◌++◌}
-use Rattle.osi_blameless.proofs.Vocabulary.{Holding, IsFresh, Local, begin, calls_from, length, Option, Some, None, arith, slice_get}
-use Rattle.osi_blameless.proofs.Vocabulary.{AllByRecursion, Connect, Value, confirm, request, Direction, Left, Right, other, State}
-use Rattle.osi_blameless.proofs.Vocabulary.{meaning_if, meant, takes, Whole, after_add, after_set, Turn}
-use Rattle.osi_blameless.proofs.Vocabulary.{Room, Joined, Sessions, all_begin, asked, reference_of, taken, Course, unit_passes, units_pass}
-use Rattle.osi_blameless.proofs.Vocabulary.{way_of, Joint, Step, Steps, TakesTurn, begins_other, begins_own, passes_other, passes_own}
-use Rattle.osi_blameless.proofs.Vocabulary.{turns, HaveSamePlaces}
+use Rattle.osi_blameless.proofs.Vocabulary.{◌≡◌, ◌∙◌, ◌⊎◌, inl, inr, refl, sym, ap, subst, ℕ, ◌<◌, ◌≤◌, Bool, false, List, [], ◌∷◌, Holding}
+use Rattle.osi_blameless.proofs.Vocabulary.{IsFresh, Local, begin, calls_from, length, Option, Some, None, arith, slice_get, AllByRecursion}
+use Rattle.osi_blameless.proofs.Vocabulary.{Connect, Value, confirm, request, Direction, Left, Right, other, State, meaning_if, meant}
+use Rattle.osi_blameless.proofs.Vocabulary.{takes, Whole, after_add, after_set, Turn, Room, Joined, Sessions, all_begin, asked}
+use Rattle.osi_blameless.proofs.Vocabulary.{reference_of, taken, Course, unit_passes, units_pass, way_of, Joint, Step, Steps, TakesTurn}
+use Rattle.osi_blameless.proofs.Vocabulary.{begins_other, begins_own, passes_other, passes_own, turns, HaveSamePlaces}
 use Rattle.osi_blameless.specs.transport.Wholes as wholes
 use Rattle.osi_judge.specs.Connections.{packet_begins}
 use Rattle.osi_judge.specs.Connections as joined
-use Rattle.osi_blameless.proofs.keeping.a_carrier_does_events.{happen_join}
-use Rattle.osi_blameless.proofs.keeping.steps_are_events.{IsFollowed, begin_followed, step_followed}
+use Rattle.osi_blameless.proofs.keeping.steps_are_events.{whole_of, IsFollowed, begin_followed, step_followed}
 use Rattle.osi_blameless.proofs.standing.all_connections_stand.{map_of}
-use Rattle.osi_blameless.proofs.shown.connections_have_the_same_places.{unit_agrees, unit_joins, unit_knows}
-use Rattle.osi_blameless.proofs.putting.units_that_wait_give_references_above_those_that_passed.{AreAbove, above_along, gives, passes_given}
+use Rattle.osi_blameless.proofs.shown.connections_have_the_same_places.{unit_agrees, unit_joins}
+use Rattle.osi_blameless.proofs.transport.requests.units_that_wait_give_references_above_those_that_passed.{AreAbove, above_along, gives}
+use Rattle.osi_blameless.proofs.transport.requests.units_that_wait_give_references_above_those_that_passed.{passes_given}
 use Rattle.osi_blameless.proofs.putting.references_of_an_end_are_distinct.{GivesNew, IsUnused}
 use Rattle.osi_blameless.proofs.standing.what_a_unit_does_at_its_place.{Does, asks_again, asks_more, nowhere, somewhere, unit_does}
 use Rattle.osi_blameless.proofs.standing.what_stands_of_a_connection.{named_begun}
+use Rattle.osi_blameless.proofs.keeping.steps_are_events.{seen, then_happens, unit_traffic}
 
 -- ---- references at a judge
 
@@ -99,16 +99,16 @@ units_up d e b at (v ∷ vs) c places up h =
 
 -- ---- what gives a reference
 
-none_up : (d : Direction) (b : ℕ) (v : Value) → gives d v ≡ None → IsUpTo d b v
+none_up : (d : Direction) (b : ℕ) (v : Value) → gives (way_of d) v ≡ None → IsUpTo d b v
 none_up d b v none = grind arith
 
-some_up : (d : Direction) (b r : ℕ) (v : Value) → gives d v ≡ Some r → 0 < r → r ≤ b → IsUpTo d b v
+some_up : (d : Direction) (b r : ℕ) (v : Value) → gives (way_of d) v ≡ Some r → 0 < r → r ≤ b → IsUpTo d b v
 some_up d b r v given some up = grind arith
 
-none_new : (d : Direction) (v : Value) (t : Sessions) → gives d v ≡ None → GivesNew d v t
+none_new : (d : Direction) (v : Value) (t : Sessions) → gives (way_of d) v ≡ None → GivesNew d v t
 none_new d v t none = grind arith
 
-some_new : (d : Direction) (v : Value) (r : ℕ) (t : Sessions) → gives d v ≡ Some r → IsUnused d r t → GivesNew d v t
+some_new : (d : Direction) (v : Value) (r : ℕ) (t : Sessions) → gives (way_of d) v ≡ Some r → IsUnused d r t → GivesNew d v t
 some_new d v r t given unused = grind arith
 
 -- no connection has a reference above all of the judge
@@ -121,10 +121,10 @@ above_unused d b r t up less = grind arith
 pub record IsAhead (d : Direction) (first : Whole) (j : Joint) : Type 0 where
   pub followed : IsFollowed d first j
   pub bound : ℕ
-  pub above : AreAbove d bound followed.whole
-  pub below : AreUpTo d bound j.course.sessions
+  pub above : AreAbove (way_of d) bound (whole_of followed)
+  pub below : AreUpTo d bound j.judge.sessions
 
-first_above : (d : Direction) (local : Local) → AreAbove d 0 (wholes.begin (calls_from d) local)
+first_above : (d : Direction) (local : Local) → AreAbove (way_of d) 0 (wholes.begin (calls_from d) local)
 first_above d local = record { rise = tt; up = tt; given = omega arith }
 
 pub first_ahead : (d : Direction) (local : Local) (h : Holding) → IsFresh (calls_from d) local h →
@@ -134,7 +134,7 @@ first_ahead d local h fresh =
     record {
       followed = f;
       bound = 0;
-      above = above_along d 0 f.events (wholes.begin (calls_from d) local) f.whole f.along (first_above d local);
+      above = above_along (way_of d) 0 f.events (wholes.begin (calls_from d) local) (whole_of f) f.along (first_above d local);
       below = record { live = λ i j r here named. absurd (cc here); done = λ i j r here named. absurd (cc here) };
     }
 
@@ -156,38 +156,20 @@ pub record GivesHighest (d : Direction) (first : Whole) (b r : ℕ) (j : Joint) 
 
 module _ (d : Direction) (first : Whole) where
   -- a whole end from here on
-  from_here : (j : Joint) (f : IsFollowed d first j) → IsFollowed d f.whole j
-  from_here j f = record {
-    whole = f.whole;
-    events = [];
-    along = refl;
-    put = f.put;
-    begun = f.begun;
-    judge = f.judge;
-    coming = f.coming;
-    like = f.like;
-  }
+  from_here : (j : Joint) (f : IsFollowed d first j) → IsFollowed d (whole_of f) j
+  from_here j f = record { end = f.end; come = f.come; events = []; along = refl; coming = f.coming; like = f.like }
 
   -- ---- each step
 
   goes_on : (step : Step) (old new : Joint) → Steps d step old new → (h : IsAhead d first old) →
-      AreUpTo d h.bound new.course.sessions → GoesOn d first h.bound new
+      AreUpTo d h.bound new.judge.sessions → GoesOn d first h.bound new
   goes_on step old new does h up =
       let f = h.followed in
-      let g : IsFollowed d f.whole new = step_followed d f.whole step old new does (from_here old f) in
+      let g : IsFollowed d (whole_of f) new = step_followed d (whole_of f) step old new does (from_here old f) in
       let ahead : IsAhead d first new = record {
-        followed = record {
-          whole = g.whole;
-          events = f.events ++ g.events;
-          along = happen_join (way_of d) f.events g.events first f.whole g.whole f.along g.along;
-          put = g.put;
-          begun = g.begun;
-          judge = g.judge;
-          coming = g.coming;
-          like = g.like;
-        };
+        followed = then_happens d first old new f g.end g.come g.events g.along g.coming g.like;
         bound = h.bound;
-        above = above_along d h.bound g.events f.whole g.whole g.along h.above;
+        above = above_along (way_of d) h.bound g.events (whole_of f) (whole_of g) g.along h.above;
         below = up;
       } in
       record { ahead = ahead; rises = omega arith }
@@ -202,88 +184,78 @@ module _ (d : Direction) (first : Whole) where
       GoesOn d first h.bound new
   begins_own_ahead old new step h =
       goes_on begins_own old new step h
-      (subst (λ (j : Joint). AreUpTo d h.bound j.course.sessions) (sym step.2) (begins_up d d h.bound old.course.sessions h.below))
+      (subst (λ (j : Joint). AreUpTo d h.bound j.judge.sessions) (sym step.2) (begins_up d d h.bound old.judge.sessions h.below))
 
   pub begins_other_ahead : (old new : Joint) → Steps d begins_other old new → (h : IsAhead d first old) →
       GoesOn d first h.bound new
   begins_other_ahead old new step h =
       goes_on begins_other old new step h
-      (subst (λ (j : Joint). AreUpTo d h.bound j.course.sessions) (sym step) (begins_up d (other d) h.bound old.course.sessions h.below))
+      (subst (λ (j : Joint). AreUpTo d h.bound j.judge.sessions) (sym step) (begins_up d (other d) h.bound old.judge.sessions h.below))
 
   -- the units of the other side give no reference
   pub passes_other_ahead : (at : ℕ) (packet : List ℕ) (units : List Value) (old new : Joint) →
-      Steps d (passes_other at packet units) old new → (h : IsAhead d first old) → AreUpTo d h.bound new.course.sessions →
+      Steps d (passes_other at packet units) old new → (h : IsAhead d first old) → AreUpTo d h.bound new.judge.sessions →
       GoesOn d first h.bound new
   passes_other_ahead at packet units old new step h up = goes_on (passes_other at packet units) old new step h up
 
   pub other_up : (at b : ℕ) (packet : List ℕ) (units : List Value) (old new : Joint) → Steps d (passes_other at packet units) old new →
-      HaveSamePlaces old.course.traffic.connections old.course.sessions.live → AllByRecursion (IsUpTo d b) units →
-      AreUpTo d b old.course.sessions → AreUpTo d b new.course.sessions
+      HaveSamePlaces old.judge.traffic.connections old.judge.sessions.live → AllByRecursion (IsUpTo d b) units →
+      AreUpTo d b old.judge.sessions → AreUpTo d b new.judge.sessions
   other_up at b packet units old new step places none h =
-      subst (λ (j : Joint). AreUpTo d b j.course.sessions) (sym step.2) (units_up d (other d) b at units old.course places none h)
+      subst (λ (j : Joint). AreUpTo d b j.judge.sessions) (sym step.2) (units_up d (other d) b at units old.judge places none h)
 
   -- ---- a unit of the end
 
   -- the reference of one that passes is above
-  pub passes_above : (at : ℕ) (v : Value) (r : ℕ) → gives d v ≡ Some r → (old new : Joint) → Steps d (passes_own at v) old new →
+  pub passes_above : (at : ℕ) (v : Value) (r : ℕ) → gives (way_of d) v ≡ Some r → (old new : Joint) → Steps d (passes_own at v) old new →
       (h : IsAhead d first old) → h.bound < r
-  passes_above at v r given old new (read, octets, put, begun, is) h =
-      let w = h.followed.whole in
-      let s : h.followed.whole.put ≡ v ∷ new.put = h.followed.put ∙ put in
-      (passes_given d h.bound r v new.put w (record w { put = new.put }) given s refl refl h.above).new_is
+  passes_above at v r given old new (read, octets, (put, begun, is)) h =
+      let w = whole_of h.followed in
+      (passes_given (way_of d) h.bound r v new.put w (record w { put = new.put }) given put refl refl h.above).new_is
 
   pub gives_new : (at : ℕ) (v : Value) (old new : Joint) → Steps d (passes_own at v) old new → IsAhead d first old →
-      GivesNew d v old.course.sessions
-  gives_new at v old new step h = by (gives d v) refl
+      GivesNew d v old.judge.sessions
+  gives_new at v old new step h = by (gives (way_of d) v) refl
     where
-      by : (o : Option ℕ) → gives d v ≡ o → GivesNew d v old.course.sessions
-      by None none = none_new d v old.course.sessions none
-      by (Some r) given = some_new d v r old.course.sessions given
-          (above_unused d h.bound r old.course.sessions h.below (passes_above at v r given old new step h))
+      by : (o : Option ℕ) → gives (way_of d) v ≡ o → GivesNew d v old.judge.sessions
+      by None none = none_new d v old.judge.sessions none
+      by (Some r) given = some_new d v r old.judge.sessions given
+          (above_unused d h.bound r old.judge.sessions h.below (passes_above at v r given old new step h))
 
-  pub passes_highest : (at : ℕ) (v : Value) (r : ℕ) → gives d v ≡ Some r → (old new : Joint) → Steps d (passes_own at v) old new →
-      HaveSamePlaces old.course.traffic.connections old.course.sessions.live → (h : IsAhead d first old) →
+  pub passes_highest : (at : ℕ) (v : Value) (r : ℕ) → gives (way_of d) v ≡ Some r → (old new : Joint) → Steps d (passes_own at v) old new →
+      HaveSamePlaces old.judge.traffic.connections old.judge.sessions.live → (h : IsAhead d first old) →
       GivesHighest d first h.bound r new
-  passes_highest at v r given old new (read, octets, put, begun, is) places h =
+  passes_highest at v r given old new (read, octets, (put, begun, is)) places h =
       let f = h.followed in
-      let s : f.whole.put ≡ v ∷ new.put = f.put ∙ put in
-      let next : Whole = record f.whole { put = new.put; begun = false; judge = (takes (way_of d) v f.whole.judge).state } in
-      let k = passes_given d h.bound r v new.put f.whole next given s refl refl h.above in
+      let mid : Joint = record old { put = new.put; begun = false; judge = units_pass d at (v ∷ []) old.judge } in
+      let next = ap (λ (t : State). record (whole_of f) { put = new.put; begun = false; judge = t }) (unit_traffic d at v old.judge) in
+      let g = then_happens d first old mid f f.end f.come (wholes.passes_own ∷ [])
+      (seen mid f.end f.come, (v, (put, begun, next)), refl) f.coming f.like in
+      let k = passes_given (way_of d) h.bound r v new.put (whole_of f) (whole_of g) given put refl refl h.above in
       let less = k.new_is in
-      let mid : Joint = record old { put = new.put; begun = false; course = units_pass d at (v ∷ []) old.course } in
       let ahead : IsAhead d first mid = record {
-        followed = record {
-          whole = next;
-          events = f.events ++ wholes.passes_own ∷ [];
-          along = happen_join (way_of d) f.events (wholes.passes_own ∷ []) first f.whole next f.along
-              (next, (v, s, f.begun ∙ begun, refl), refl);
-          put = refl;
-          begun = refl;
-          judge = ap (λ (t : State). (takes (way_of d) v t).state) f.judge ∙ sym (unit_knows d at v old.course);
-          coming = f.coming;
-          like = f.like;
-        };
+        followed = g;
         bound = r;
         above = k.above;
-        below = unit_up d d r at v old.course places (some_up d r r v given (omega (arith, less)) (omega arith))
-            (up_higher d h.bound r old.course.sessions (omega (arith, less)) h.below);
+        below = unit_up d d r at v old.judge places (some_up d r r v given (omega (arith, less)) (omega arith))
+            (up_higher d h.bound r old.judge.sessions (omega (arith, less)) h.below);
       } in
       subst (GivesHighest d first h.bound r) (sym is) (record { higher = less; ahead = ahead; bound = refl })
 
   passes_another : (at : ℕ) (v : Value) (old new : Joint) → Steps d (passes_own at v) old new →
-      HaveSamePlaces old.course.traffic.connections old.course.sessions.live → (h : IsAhead d first old) → gives d v ≡ None →
+      HaveSamePlaces old.judge.traffic.connections old.judge.sessions.live → (h : IsAhead d first old) → gives (way_of d) v ≡ None →
       PassesOn d first h.bound v new
   passes_another at v old new step places h none =
       let g = goes_on (passes_own at v) old new step h
-      (subst (λ (j : Joint). AreUpTo d h.bound j.course.sessions) (sym step.4)
-      (unit_up d d h.bound at v old.course places (none_up d h.bound v none) h.below)) in
+      (subst (λ (j : Joint). AreUpTo d h.bound j.judge.sessions) (sym step.2.2)
+      (unit_up d d h.bound at v old.judge places (none_up d h.bound v none) h.below)) in
       record { on = g; up = none_up d g.ahead.bound v none }
 
   pub passes_own_ahead : (at : ℕ) (v : Value) (old new : Joint) → Steps d (passes_own at v) old new →
-      HaveSamePlaces old.course.traffic.connections old.course.sessions.live → (h : IsAhead d first old) → PassesOn d first h.bound v new
-  passes_own_ahead at v old new step places h = by (gives d v) refl
+      HaveSamePlaces old.judge.traffic.connections old.judge.sessions.live → (h : IsAhead d first old) → PassesOn d first h.bound v new
+  passes_own_ahead at v old new step places h = by (gives (way_of d) v) refl
     where
-      by : (o : Option ℕ) → gives d v ≡ o → PassesOn d first h.bound v new
+      by : (o : Option ℕ) → gives (way_of d) v ≡ o → PassesOn d first h.bound v new
       by None none = passes_another at v old new step places h none
       by (Some r) given =
           let k = passes_highest at v r given old new step places h in

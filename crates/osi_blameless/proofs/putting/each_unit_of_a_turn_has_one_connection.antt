@@ -11,6 +11,7 @@ use Rattle.osi_blameless.proofs.putting.references_of_an_end_are_distinct.{AreDi
 use Rattle.osi_blameless.proofs.putting.what_a_turn_puts_waits.{Agree, marks_wait}
 use Rattle.osi_blameless.proofs.standing.what_stands_of_a_connection.{Known, is_for, names_it, waiting_for}
 use Rattle.osi_blameless.proofs.small_facts_that_many_lemmas_use.{same_one, same_bool}
+use Rattle.osi_blameless.proofs.standing.right_units_leave_all_standing.{names_so}
 
 -- a connection with these references, which this end has not closed, at the judge
 pub record HasHome (d : Direction) (r peer : ℕ) (s : State) (t : Sessions) : Type 0 where
@@ -57,9 +58,6 @@ pub data IsMarked (d : Direction) (s : State) (t : Sessions) (m : Marked) : Type
 
 for_is : (n : ℕ) (v : Value) (o : Option ℕ) → IsFor n v → is_for o v ≡ names_it o n
 for_is n v o h = grind (arith, names_it)
-
-names_so : (o : Option ℕ) (n : ℕ) → names_it o n ≡ true → o ≡ Some n
-names_so o n h = grind (arith, eqb-true)
 
 names_back : (o : Option ℕ) (n : ℕ) → o ≡ Some n → names_it o n ≡ true
 names_back o n e = ap (λ (x : Option ℕ). names_it x n) e ∙ eq-eqb n n refl

@@ -4,24 +4,29 @@ use Rattle.osi_blameless.proofs.Vocabulary.{◌≡◌, ◌∙◌, refl, sym, ap,
 use Rattle.osi_blameless.proofs.Vocabulary.{Some, None, arith, inl, inr, is_some, ◌⊎◌, le-leb, lt-ltb, AllByRecursion, Connect}
 use Rattle.osi_blameless.proofs.Vocabulary.{Value, acknowledge, confirm, data0, data2, destination_of, disconnect, disconnected, error}
 use Rattle.osi_blameless.proofs.Vocabulary.{request, Local, EndReason, Left, State, Whole, AreGiven, Followed, IsAnswer, IsAsking, Tracked}
-use Rattle.osi_blameless.proofs.Vocabulary.{IsDc, is_dc, first_kept, first_left, names, picked_rest, those, AreApart, Opens}
+use Rattle.osi_blameless.proofs.Vocabulary.{IsDc, is_dc, first_kept, first_left, names, picked_rest, those, Opens}
 use Rattle.osi_blameless.proofs.Vocabulary.{Deeds, then_did, units_in, units_taken, Marked, all_units, units_at, Turn, Life, amid, early}
 use Rattle.osi_blameless.proofs.Vocabulary.{opens_by, past, stage_at, stage_over, stays, asked_so, taken_more, has_given, Sessions, Joint}
 use Rattle.osi_blameless.proofs.Vocabulary.{TakesTurn, HaveSamePlaces}
 use Rattle.osi_carrier.specs.State.{State as Carrier}
-use Rattle.osi_blameless.proofs.ends.courses.how_long_a_connection_is_open.{Stage}
+use Rattle.osi_blameless.proofs.ends.links.how_long_a_connection_is_open.{Stage}
 use Rattle.osi_blameless.proofs.keeping.a_carrier_does_events.{none_of}
-use Rattle.osi_blameless.proofs.keeping.steps_are_events.{IsFollowed}
+use Rattle.osi_blameless.proofs.keeping.steps_are_events.{whole_of, IsFollowed}
 use Rattle.osi_blameless.proofs.putting.a_turn_does_what_its_deeds_say.{turn_uses}
 use Rattle.osi_blameless.proofs.shown.connections_have_the_same_places.{at_same}
 use Rattle.osi_blameless.proofs.putting.each_reference_of_an_end_is_new.{AreUpTo}
-use Rattle.osi_blameless.proofs.coming.what_is_in_flight_to_an_end.{parts_taken}
-use Rattle.osi_blameless.proofs.coming.what_is_left_for_an_end.{known_left, left_empty}
+use Rattle.osi_blameless.proofs.standing.what_is_in_flight_to_an_end.{parts_taken}
+use Rattle.osi_blameless.proofs.standing.what_is_left_for_an_end.{known_left, left_empty}
 use Rattle.osi_blameless.proofs.standing.what_passes_leaves_all_standing.{IsReady}
 use Rattle.osi_blameless.proofs.standing.what_stands_of_a_connection.{Known, is_for, waiting_for}
 use Rattle.osi_blameless.proofs.small_facts_that_many_lemmas_use.{all_left}
 use Rattle.osi_blameless.proofs.steps.what_the_turns_among_steps_do.{TurnDoes}
-use Rattle.osi_blameless.proofs.small_facts_that_many_lemmas_use.{same_units}
+pub use Rattle.osi_blameless.proofs.ends.links.the_first_cc_opens_a_connection.{IsNotCc}
+use Rattle.osi_blameless.proofs.Vocabulary.{AreApart}
+
+pub apart_none : (r : ℕ) (units : List Marked) → AreApart r units → units_at r units ≡ []
+apart_none r [] h = refl
+apart_none r (m ∷ units) h = grind (arith, apart_none r units h.1)
 
 -- ---- one connection
 
@@ -30,14 +35,6 @@ pub record IsUndone (deeds : Deeds) (s : Stage) : Type 0 where
   pub put : deeds.put ≡ []
   pub taken : units_taken deeds.calls ≡ []
   pub shut : (peer : ℕ) → s ≡ amid peer → ⊥
-
--- no CC for it
-abbrev pub IsNotCc : ℕ → Value → Type 0
-IsNotCc r v = (x : Connect) → v ≡ confirm r x → ⊥
-
-apart_none : (r : ℕ) (units : List Marked) → AreApart r units → units_at r units ≡ []
-apart_none r [] h = refl
-apart_none r (m ∷ units) h = grind (arith, apart_none r units h.1)
 
 -- a CC for it among the units
 cc_among : {A : Type 0} (r : ℕ) (some later : List Marked) (unit : Value) (x : Connect) → unit ≡ confirm r x →
@@ -78,22 +75,23 @@ never_early s e h = absurd (cc (sym e ∙ h))
 
 pub turn_undone : (b : ℕ) (turn : Turn) (old new : Joint) (t : TakesTurn turn old new) (deeds : ℕ → Deeds)
     (does : TurnDoes true deeds turn old new t) →
-    (old.holding.end.carrier.ended ≡ None → (r : ℕ) → b < r → stage_at r old.holding.end.carrier ≡ early →
-    AllByRecursion (IsNotCc r) (units_in old.coming)) → AreUndone b deeds old.holding.end.carrier →
-    AreUndone b (λ r. then_did (deeds r) (does.on.more r)) new.holding.end.carrier
+    (old.end.end.carrier.ended ≡ None → (r : ℕ) → b < r → stage_at r old.end.end.carrier ≡ early →
+    AllByRecursion (IsNotCc r) (units_in old.coming)) → AreUndone b deeds old.end.end.carrier →
+    AreUndone b (λ r. then_did (deeds r) (does.on.more r)) new.end.end.carrier
 turn_undone b turn old new t deeds does none u r less =
     let some : 0 < r = omega (arith, less) in
-    life_undone r (deeds r) (does.on.more r) does.on.took does.on.put (does.on.own r some) (does.on.taken r some) (stage_at r old.holding.end.carrier)
-    (stage_at r new.holding.end.carrier) (does.life r some) (λ is. by old.holding.end.carrier.ended refl is) (u r less)
+    life_undone r (deeds r) (does.on.more r) does.on.took does.on.put (does.on.own r some) (does.on.taken r some)
+    (stage_at r old.end.end.carrier)
+    (stage_at r new.end.end.carrier) (does.life r some) (λ is. by old.end.end.carrier.ended refl is) (u r less)
   where
-    by : (o : Option EndReason) → old.holding.end.carrier.ended ≡ o → stage_at r old.holding.end.carrier ≡ early →
+    by : (o : Option EndReason) → old.end.end.carrier.ended ≡ o → stage_at r old.end.end.carrier ≡ early →
         AllByRecursion (IsNotCc r) (all_units does.on.took)
     by None lasts is =
         let s = turn_uses turn old new t true deeds does.on lasts in
         all_left (IsNotCc r) (all_units does.on.took) (s.left ++ units_in new.coming)
         (subst (AllByRecursion (IsNotCc r)) s.coming (none lasts r less is))
     by (Some reason) over is =
-        never_early (stage_at r old.holding.end.carrier) (stage_over r old.holding.end.carrier (ap is_some over)) is
+        never_early (stage_at r old.end.end.carrier) (stage_over r old.end.end.carrier (ap is_some over)) is
 
 -- ---- what has come, as the whole end has it
 
@@ -123,17 +121,15 @@ module _ (b : ℕ) (s : State) (t : Sessions) (end : Carrier) (places : HaveSame
           not_given r end (omega (arith, less)) free (few.0 (ap is_dc is) r (ap destination_of is))
       by x is (inr has) = tracked_low (h.0 r x is lasts (inl (asked_so r end has may).1)).0
 
-pub none_come : (b : ℕ) (local : Local) (first : Whole) (j : Joint) (f : IsFollowed Left first j) → Followed local f.whole →
-    HaveSamePlaces j.course.traffic.connections j.course.sessions.live → AreUpTo Left b j.course.sessions →
-    j.holding.end.carrier.ended ≡ None → (r : ℕ) → b < r → stage_at r j.holding.end.carrier ≡ early →
+pub none_come : (b : ℕ) (local : Local) (first : Whole) (j : Joint) (f : IsFollowed Left first j) → Followed local (whole_of f) →
+    HaveSamePlaces j.judge.traffic.connections j.judge.sessions.live → AreUpTo Left b j.judge.sessions →
+    j.end.end.carrier.ended ≡ None → (r : ℕ) → b < r → stage_at r j.end.end.carrier ≡ early →
     AllByRecursion (IsNotCc r) (units_in j.coming)
 none_come b local first j f h places up lasts r less may =
-    let whole_lasts = none_of f.whole.end.ended (sym f.like.over ∙ ap is_some lasts) in
-    let alike : stage_at r f.whole.end ≡ stage_at r j.holding.end.carrier = ap (stage_at r) (f.like.lasts whole_lasts) in
-    subst (AllByRecursion (IsNotCc r)) (f.coming lasts ∙ same_units j.coming)
-    (none_comes b f.whole.judge j.course.sessions f.whole.end
-    (subst (λ (s : State). HaveSamePlaces s.connections j.course.sessions.live) (sym f.judge) places) up whole_lasts r less (alike ∙ may)
-    f.whole.coming h.answers h.few)
+    let whole_lasts = none_of f.end.ended (sym f.like.over ∙ ap is_some lasts) in
+    let alike : stage_at r f.end ≡ stage_at r j.end.end.carrier = ap (stage_at r) (f.like.lasts whole_lasts) in
+    subst (AllByRecursion (IsNotCc r)) (f.coming lasts)
+    (none_comes b j.judge.traffic j.judge.sessions f.end places up whole_lasts r less (alike ∙ may) f.come h.answers h.few)
 
 -- ---- a CR that passes
 
@@ -188,11 +184,11 @@ pub cr_ready : (b : ℕ) (deeds : ℕ → Deeds) (c : Carrier) (x : Connect) (co
 cr_ready b deeds c x coming rest s t less u none = grind (arith, parts_taken, past, left_empty, stage_at, stage_over)
 
 -- as the whole end says of a CR that it has put
-pub cr_calm : (local : Local) (first : Whole) (j : Joint) (f : IsFollowed Left first j) → Followed local f.whole → (x : Connect)
-    (rest : List Value) → f.whole.put ≡ request x ∷ rest → AllByRecursion IsNoZero (units_in j.coming) →
-    j.holding.end.carrier.ended ≡ None → waiting_for (Some x.source) (units_in j.coming) ≡ []
+pub cr_calm : (local : Local) (first : Whole) (j : Joint) (f : IsFollowed Left first j) → Followed local (whole_of f) → (x : Connect)
+    (rest : List Value) → j.put ≡ request x ∷ rest → AllByRecursion IsNoZero (units_in j.coming) →
+    j.end.end.carrier.ended ≡ None → waiting_for (Some x.source) (units_in j.coming) ≡ []
 cr_calm local first j f h x rest put zero lasts =
     let asking =
-    (subst (AllByRecursion (λ (v : Value). (y : Connect) → v ≡ request y → IsAsking local f.whole.end f.whole.coming y)) put h.requests).0
+    (subst (AllByRecursion (λ (v : Value). (y : Connect) → v ≡ request y → IsAsking local f.end f.come y)) put h.requests).0
     x refl in
-    grind (arith, dcs_none, those, same_units)
+    grind (arith, dcs_none, those)

@@ -9,7 +9,7 @@ use Rattle.osi_judge.specs.Connections as joined
 use Rattle.osi_blameless.proofs.standing.all_connections_stand.{map_of}
 use Rattle.osi_blameless.proofs.standing.right_units_leave_all_standing.{StaysElsewhere}
 use Rattle.osi_blameless.proofs.shown.what_a_judge_shows_goes_on.{named_added}
-use Rattle.osi_blameless.proofs.coming.what_is_left_for_an_end.{known_left, left_stays}
+use Rattle.osi_blameless.proofs.standing.what_is_left_for_an_end.{known_left, left_stays}
 use Rattle.osi_blameless.proofs.standing.what_a_unit_does_at_its_place.{Does, asks_again, asks_more, nowhere, somewhere, unit_does}
 use Rattle.osi_blameless.proofs.standing.what_stands_of_a_connection.{named_begun}
 

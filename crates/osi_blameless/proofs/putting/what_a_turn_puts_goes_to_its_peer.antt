@@ -2,20 +2,19 @@
 -- opens in the turn had come: so each DT and each AK of the turn has a home at a judge if the connection has.
 -- For calling and called ends.
 use Rattle.osi_blameless.proofs.Vocabulary.{◌≡◌, ◌∙◌, refl, sym, ap, subst, ℕ, suc, zero, ◌<◌, Bool, true, false, List, [], ◌∷◌, ◌++◌}
-use Rattle.osi_blameless.proofs.Vocabulary.{Option, Some, None, is_some, IsSome, append_assoc, arith, ◌==◌, nat_lt, AllByRecursion}
-use Rattle.osi_blameless.proofs.Vocabulary.{eq-eqb, eqb-true, append-nil, Value, data0, Standing, link_of, open_link}
-use Rattle.osi_blameless.proofs.Vocabulary.{value_at, linked, packets, EndReason, Direction, State, Whole, AreApart, GivesTo}
-use Rattle.osi_blameless.proofs.Vocabulary.{Lives, Parts, Continues, Deeds, Marked, all_units, is_of_link, over_acts, all_units_more, Turn}
-use Rattle.osi_blameless.proofs.Vocabulary.{Sessions, Joint, TakesTurn, differ}
+use Rattle.osi_blameless.proofs.Vocabulary.{Option, Some, None, is_some, IsSome, append_assoc, arith, ◌==◌, nat_lt, AllByRecursion, eq-eqb}
+use Rattle.osi_blameless.proofs.Vocabulary.{eqb-true, append-nil, Value, data0, Standing, link_of, open_link, value_at, linked, packets}
+use Rattle.osi_blameless.proofs.Vocabulary.{EndReason, Direction, State, Whole, AreApart, GivesTo, Lives, Parts, Continues, Deeds, Marked}
+use Rattle.osi_blameless.proofs.Vocabulary.{all_units, is_of_link, over_acts, all_units_more, Turn, Sessions, Joint, TakesTurn, differ}
 use Rattle.osi_carrier.specs.State.{Connection as Live, State as Carrier}
 use Rattle.osi_blameless.specs.ends.Arriving as arriving
-use Rattle.osi_blameless.proofs.keeping.a_carrier_does_events.{none_of, units_join}
+use Rattle.osi_blameless.proofs.keeping.a_carrier_does_events.{none_of}
 use Rattle.osi_blameless.proofs.keeping.steps_are_events.{IsFollowed}
 use Rattle.osi_blameless.proofs.steps.the_packets_that_an_end_took_come_first.{are_first}
 use Rattle.osi_blameless.proofs.putting.each_unit_of_a_turn_has_one_connection.{IsFor, IsHomed, IsMarked, of_none, of_one}
 use Rattle.osi_blameless.proofs.standing.what_stands_of_a_connection.{is_for}
 use Rattle.osi_blameless.proofs.small_facts_that_many_lemmas_use.{all_front, all_join}
-use Rattle.osi_blameless.proofs.small_facts_that_many_lemmas_use.{same_units}
+use Rattle.osi_blameless.proofs.transport.small_facts_that_many_lemmas_use.{units_join}
 
 -- ---- lists
 
@@ -34,10 +33,9 @@ all_so P Q f (x ∷ xs) h = (f x h.0, all_so P Q f xs h.1)
 -- ---- what holds of all that a whole end has put holds of what it puts in a turn
 
 pub turn_puts : (d : Direction) (start : Whole) (turn : Turn) (old new : Joint) (step : TakesTurn turn old new) (units : List Value) →
-    step.units ≡ units → (g : IsFollowed d start new) (P : Value → Type 0) → AllByRecursion P g.whole.put → AllByRecursion P units
+    step.units ≡ units → (g : IsFollowed d start new) (P : Value → Type 0) → AllByRecursion P new.put → AllByRecursion P units
 turn_puts d start turn old new step units is g P all =
-    let put : g.whole.put ≡ old.put ++ units = g.put ∙ step.put ∙ ap (λ (l : List Value). old.put ++ l) is in
-    all_back P old.put units (subst (AllByRecursion P) put all)
+    all_back P old.put units (subst (AllByRecursion P) (step.put ∙ ap (λ (l : List Value). old.put ++ l) is) all)
 
 -- ---- what the end has done in the turn
 
@@ -76,27 +74,27 @@ by_units P [] h = tt
 by_units P (m ∷ units) h = (h.0, by_units P units h.1)
 
 module _ (d : Direction) (is_caller : Bool) (first : Whole) (deeds : ℕ → Deeds) (turn : Turn) (old new : Joint)
-    (step : TakesTurn turn old new) (on : Continues is_caller deeds old.holding turn new.holding) (f : IsFollowed d first old) where
+    (step : TakesTurn turn old new) (on : Continues is_caller deeds old.end turn new.end) (f : IsFollowed d first old) where
   abbrev carrier : Carrier
-  carrier = old.holding.end.carrier
+  carrier = old.end.end.carrier
 
   abbrev pub Lived : ℕ → Type 0
-  Lived q = Lives is_caller q carrier on.took on.put new.holding.end.carrier
+  Lived q = Lives is_caller q carrier on.took on.put new.end.end.carrier
 
   module _ (lasts : carrier.ended ≡ None) where
-    pub whole_lasts : f.whole.end.ended ≡ None
-    whole_lasts = none_of f.whole.end.ended (sym f.like.over ∙ ap is_some lasts)
+    pub whole_lasts : f.end.ended ≡ None
+    whole_lasts = none_of f.end.ended (sym f.like.over ∙ ap is_some lasts)
 
     pub linked_so : (q peer : ℕ) (link : Standing) → ◌≡◌ {A = Option (ℕ × Standing)} (open_link q carrier) (Some (peer, link)) →
-        value_at q f.whole.end.live ≡ Some (linked peer link)
+        value_at q f.end.live ≡ Some (linked peer link)
     linked_so q peer link e = grind (arith, whole_lasts, link_is)
 
     -- the unit with which a connection opens had come
-    pub came : (x : Value) (some : List Marked) (q : ℕ) (l : Lived q) → l.arrived.before ≡ some ++ (0, x) ∷ [] → IsThere x f.whole.coming
+    pub came : (x : Value) (some : List Marked) (q : ℕ) (l : Lived q) → l.arrived.before ≡ some ++ (0, x) ∷ [] → IsThere x f.come
     came x some q l is P all =
-        let a = are_first on.used step.used (old.holding.held.octets ++ turn.used) on.rest step.rest new.holding.end.carrier.ended
+        let a = are_first on.used step.used (old.end.held.octets ++ turn.used) on.rest step.rest new.end.end.carrier.ended
         on.cut (step.cut lasts) (λ still. on.held still ∙ sym (step.held still)) (step.all lasts) in
-        search (arith, append_assoc, units_join, all_front, same_units, all_units_more, one_of)
+        search (arith, append_assoc, units_join, all_front, all_units_more, one_of)
 
   -- a connection that did not open put nothing
   pub none_shut : (q : ℕ) (l : Lived q) → l.left.during ++ l.left.after ≡ [] → AreApart q on.put
@@ -142,5 +140,5 @@ module _ (d : Direction) (is_caller : Bool) (first : Whole) (deeds : ℕ → Dee
         by : (o : Option EndReason) → carrier.ended ≡ o → AllByRecursion (IsMarked d s t) on.put
         by None lasts = all_marked lasts [] on.put refl
         by (Some reason) gone =
-            let done = over_acts turn old.holding new.holding (subst IsSome (sym gone) refl) step.takes in
+            let done = over_acts turn old.end new.end (subst IsSome (sym gone) refl) step.takes in
             none_put (IsMarked d s t) on.put (sym on.written ∙ done.1)

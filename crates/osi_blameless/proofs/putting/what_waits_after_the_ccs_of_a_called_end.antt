@@ -10,13 +10,13 @@ use Rattle.osi_blameless.proofs.Vocabulary.{HaveSamePlaces, AreApart, Course, di
 use Rattle.osi_blameless.specs.transport.Wholes.{begin}
 use Rattle.osi_blameless.specs.ends.Arriving.{is_open as opened}
 use Rattle.osi_blameless.proofs.small_facts_that_many_lemmas_use.{same_bool}
-use Rattle.osi_blameless.proofs.keeping.steps_are_events.{IsFollowed}
+use Rattle.osi_blameless.proofs.keeping.steps_are_events.{whole_of, IsFollowed}
 use Rattle.osi_blameless.proofs.putting.a_whole_end_runs_along.{HasLines}
-use Rattle.osi_blameless.proofs.putting.a_called_end_of_class_2_puts_no_dt_of_class_0.{called_put_two}
+use Rattle.osi_blameless.proofs.putting.a_called_end_of_class_2_puts_no_dt_of_class_0.{none_of_zero_put}
 use Rattle.osi_blameless.proofs.standing.all_connections_stand.{one_at}
 use Rattle.osi_blameless.proofs.putting.each_cc_of_a_called_end_opens_another_connection.{none_open_for, open_there, same_destination}
 use Rattle.osi_blameless.proofs.putting.each_cc_of_a_called_end_opens_another_connection.{same_source}
-use Rattle.osi_blameless.proofs.putting.each_unit_of_a_called_end_has_a_home.{OpensByNoCc}
+use Rattle.osi_blameless.proofs.putting.by_its_places_each_unit_of_an_end_has_a_home.{OpensByNoCc}
 use Rattle.osi_blameless.proofs.putting.each_unit_of_a_turn_has_one_connection.{HasHome, IsFor}
 use Rattle.osi_blameless.proofs.putting.ccs_among_units.{HasCc, has_back, has_front}
 use Rattle.osi_blameless.proofs.putting.what_a_turn_puts_goes_to_its_peer.{GoesTo, IsNotZero, Lived, by_units, came, for_so, goes_to}
@@ -45,17 +45,17 @@ marked_has n r (m ∷ front) back x source = inr (marked_has n r front back x so
 
 module _ (local : Local) (deeds : ℕ → Deeds) (turn : Turn) (old new : Joint) (step : TakesTurn turn old new)
     (does : TurnDoes false deeds turn old new step) (f : IsFollowed Right (begin false local) old)
-    (g : IsFollowed Right (begin false local) new) (before : HasLines local f.whole) (after : HasLines local g.whole)
+    (g : IsFollowed Right (begin false local) new) (before : HasLines local (whole_of f)) (after : HasLines local (whole_of g))
     (no_cc : OpensByNoCc local deeds turn old new step does.on f)
-    (places : HaveSamePlaces old.course.traffic.connections old.course.sessions.live) where
+    (places : HaveSamePlaces old.judge.traffic.connections old.judge.sessions.live) where
   abbrev s : State
-  s = old.course.traffic
+  s = old.judge.traffic
 
   abbrev t : Sessions
-  t = old.course.sessions
+  t = old.judge.sessions
 
   abbrev carrier : Carrier
-  carrier = old.holding.end.carrier
+  carrier = old.end.end.carrier
 
   abbrev LivedSo : ℕ → Type 0
   LivedSo q = Lived Right false (begin false local) deeds turn old new step does.on f q
@@ -63,14 +63,11 @@ module _ (local : Local) (deeds : ℕ → Deeds) (turn : Turn) (old new : Joint)
   put_is : new.put ≡ old.put ++ all_units does.on.put
   put_is = step.put ∙ ap (λ (l : List Value). old.put ++ l) does.units
 
-  judge_g : g.whole.judge ≡ s
-  judge_g = g.judge ∙ ap (λ (c : Course). c.traffic) step.course
+  judge_g : new.judge.traffic ≡ s
+  judge_g = ap (λ (c : Course). c.traffic) step.course
 
-  places_g : HaveSamePlaces g.whole.judge.connections t.live
+  places_g : HaveSamePlaces new.judge.traffic.connections t.live
   places_g = subst (λ (x : State). HaveSamePlaces x.connections t.live) (sym judge_g) places
-
-  has_whole : (n r : ℕ) → HasCc n r new.put → HasCc n r g.whole.put
-  has_whole n r h = subst (HasCc n r) (sym g.put) h
 
   -- ---- a connection at which units were put: its CC waits, or the judge knows it
 
@@ -78,15 +75,15 @@ module _ (local : Local) (deeds : ℕ → Deeds) (turn : Turn) (old new : Joint)
   IsNamed q peer = HasCc peer q new.put ⊎ HasHome Right q peer s t
 
   open_named : carrier.ended ≡ None → (q : ℕ) → 0 < q → (l : LivedSo q) →
-      Begins false q l.peer carrier new.holding.end.carrier l.arrived l.left → AreApart q does.on.put ⊎ IsNamed q l.peer
+      Begins false q l.peer carrier new.end.end.carrier l.arrived l.left → AreApart q does.on.put ⊎ IsNamed q l.peer
   open_named lasts q positive l (opened link there none none_left) =
-      by (open_there local f.whole t before (grind arith)
+      by (open_there local (whole_of f) t before (grind arith)
       (whole_lasts Right false (begin false local) deeds turn old new step does.on f lasts) q l.peer link
       (linked_so Right false (begin false local) deeds turn old new step does.on f lasts q l.peer link there))
     where
-      by : HasCc l.peer q f.whole.put ⊎ HasHome Right q l.peer f.whole.judge t → AreApart q does.on.put ⊎ IsNamed q l.peer
-      by (inl h) = inr (inl (grind (arith, put_is, has_front, f)))
-      by (inr h) = inr (inr (subst (λ (x : State). HasHome Right q l.peer x t) f.judge h))
+      by : HasCc l.peer q old.put ⊎ HasHome Right q l.peer s t → AreApart q does.on.put ⊎ IsNamed q l.peer
+      by (inl h) = inr (inl (grind (arith, put_is, has_front)))
+      by (inr h) = inr (inr h)
   open_named lasts q positive l (opens shut unit opening front is others answer gives put) = by unit opening gives is
     where
       by : (u : Value) → Opens false q l.peer u → Answers q l.peer u answer → l.arrived.before ≡ front ++ (0, u) ∷ [] →
@@ -108,7 +105,7 @@ module _ (local : Local) (deeds : ℕ → Deeds) (turn : Turn) (old new : Joint)
       by : (o : Option EndReason) → carrier.ended ≡ o → AreApart q does.on.put ⊎ IsNamed q l.peer
       by None lasts = open_named lasts q positive l l.begins
       by (Some reason) gone =
-          let done = over_acts turn old.holding new.holding (subst IsSome (sym gone) refl) step.takes in
+          let done = over_acts turn old.end new.end (subst IsSome (sym gone) refl) step.takes in
           inl (subst (AreApart q) (sym (none_put does.on.put (sym does.on.written ∙ done.1))) tt)
 
   -- ---- the marks of the units
@@ -117,7 +114,7 @@ module _ (local : Local) (deeds : ℕ → Deeds) (turn : Turn) (old new : Joint)
     class_2 : AllByRecursion IsNotZero (all_units does.on.put)
     class_2 =
         turn_puts Right (begin false local) turn old new step (all_units does.on.put) does.units g IsNotZero
-        (called_put_two local g.whole after.called)
+        (none_of_zero_put local (whole_of g) after.called)
 
     module _ (front rest : List Marked) (m : Marked) (is : does.on.put ≡ front ++ m ∷ rest) where
       at : (P : Marked → Type 0) → AllByRecursion P does.on.put → P m
@@ -128,8 +125,7 @@ module _ (local : Local) (deeds : ℕ → Deeds) (turn : Turn) (old new : Joint)
       forth_by l e (inl apart) = differ (m.0 == r) e (at (λ (k : Marked). (k.0 == r) ≡ false) apart)
       forth_by l e (inr (inl h)) =
           let same : l.peer ≡ n =
-          same_source local g.whole t after places_g l.peer n r (has_whole l.peer r h)
-          (has_whole n r has) in
+          same_source local (whole_of g) t after places_g l.peer n r h has in
           ap (λ (i : ℕ). is_for (Some i) m.1) (sym same) ∙ sym (grind arith)
           ∙ at (GoesTo r l.peer) (goes_to r does.on.put l.peer l.left l.gives) e
       forth_by l e (inr (inr h)) = let low = known r l.peer h in absurd (omega (arith, low, above))
@@ -146,11 +142,11 @@ module _ (local : Local) (deeds : ℕ → Deeds) (turn : Turn) (old new : Joint)
           differ (m.0 == m.0) (eq-eqb m.0 m.0 refl) (at (λ (k : Marked). (k.0 == m.0) ≡ false) apart)
       back_by l mine (inr (inl h)) =
           eq-eqb m.0 r
-          (same_destination local g.whole t after places_g n m.0 r
-          (subst (λ (i : ℕ). HasCc i m.0 g.whole.put) (sym (peer_so l mine)) (has_whole l.peer m.0 h)) (has_whole n r has))
+          (same_destination local (whole_of g) t after places_g n m.0 r
+          (subst (λ (i : ℕ). HasCc i m.0 new.put) (sym (peer_so l mine)) h) has)
       back_by l mine (inr (inr h)) =
           let one = one_at s.connections t.live h.place h.connection h.joined places h.there h.here in
-          absurd (none_open_for local g.whole t after places_g n r (has_whole n r has) h.place
+          absurd (none_open_for local (whole_of g) t after places_g n r has h.place
           h.connection (ap (λ (x : State). slice_get x.connections h.place) judge_g ∙ h.there) h.lives
           (sym one.calling ∙ number_is h.joined.calling l.peer h.theirs ∙ sym (peer_so l mine)))
 

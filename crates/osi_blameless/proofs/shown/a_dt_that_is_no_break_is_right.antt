@@ -1,7 +1,7 @@
 -- A DT that breaks no rule is right, as long as its side and its connection are judged.
 -- For the law on places.
 use Rattle.osi_blameless.proofs.Vocabulary.{[], Bool, false, if◌then◌else◌, inl, inr, is_some, List, None, Option, refl, Some, subst, sym}
-use Rattle.osi_blameless.proofs.Vocabulary.{true, ℕ, ◌∷◌, ◌≡◌, ◌⊎◌, AllByRecursion, slice_get, data0, data2, Value, unit_parts, Class, Two}
+use Rattle.osi_blameless.proofs.Vocabulary.{true, ℕ, ◌∷◌, ◌≡◌, AllByRecursion, slice_get, data0, data2, Value, unit_parts, Class, Two}
 use Rattle.osi_blameless.proofs.Vocabulary.{Zero, data0_tests, first_failed, Test, at_found, at_place, found, is_stopped, route_in, routed}
 use Rattle.osi_blameless.proofs.Vocabulary.{Traffic as State, in_doubt, takes, unnamed_by, uses_source, Connection, Rules, Way, Finding}
 use Rattle.osi_blameless.proofs.Vocabulary.{Broke, Kept, NotJudged, Rule, Capture, Direction, user_of, marked, marks_of, moved, unread_mark}
@@ -14,8 +14,9 @@ use Rattle.osi_rules.specs.Traffic as traffic
 use Rattle.osi_judge.specs.States.{begin}
 use Rattle.osi_blameless.proofs.steps.what_passes_keeps_a_claim.{IsClaim, after_kept}
 use Rattle.osi_blameless.proofs.shown.connections_have_the_same_places.{marked_traffic, unit_knows}
+use Rattle.osi_blameless.proofs.Vocabulary.{◌⊎◌}
 
--- it is right, or it breaks a rule
+-- it is right, or breaks a rule
 abbrev pub IsClear : Finding → Type 0
 IsClear f = (f ≡ Kept) ⊎ ((r : Rule) × (f ≡ Broke r))
 

@@ -17,6 +17,14 @@ use Rattle.osi_judge.specs.Connections as joined
 use Rattle.osi_judge.specs.States.{begin}
 use Rattle.osi_blameless.proofs.small_facts_that_many_lemmas_use.{or_first, same_one}
 use Rattle.osi_blameless.proofs.steps.what_passes_keeps_a_claim.{after_kept}
+use Rattle.osi_blameless.proofs.steps.all_is_judged_or_nothing.{changes_traffic}
+
+noted_traffic : (d : Direction) (at : ℕ) (v : Value) (told : Told) (o : Option Cause) (c : Course) →
+    (noted_by d at v told o c).traffic ≡ c.traffic
+noted_traffic d at v told o c = grind (arith, changes_traffic)
+
+pub unit_knows : (d : Direction) (at : ℕ) (v : Value) (c : Course) → (unit_passes d at v c).traffic ≡ (takes (way_of d) v c.traffic).state
+unit_knows d at v c = grind (arith, noted_traffic)
 
 -- ---- lists of the same length
 
@@ -135,18 +143,10 @@ noted_leaves d at v told o c = grind (arith, marked_leaves)
 pub marked_traffic : (m : Mark) (r : Reach) (c : Course) → (marked m r c).traffic ≡ c.traffic
 marked_traffic m r c = grind arith
 
-noted_traffic : (d : Direction) (at : ℕ) (v : Value) (told : Told) (o : Option Cause) (c : Course) →
-    (noted_by d at v told o c).traffic ≡ c.traffic
-noted_traffic d at v told o c = grind (arith, marked_traffic)
-
 -- what a unit does to the connections, and what the rules know after it
 pub unit_joins : (d : Direction) (at : ℕ) (v : Value) (c : Course) → (unit_passes d at v c).sessions
     ≡ taken d at v (takes (way_of d) v c.traffic).told.meaning (takes (way_of d) v c.traffic).told.place c.sessions
 unit_joins d at v c = grind (arith, noted_leaves)
-
-pub unit_knows : (d : Direction) (at : ℕ) (v : Value) (c : Course) →
-    (unit_passes d at v c).traffic ≡ (takes (way_of d) v c.traffic).state
-unit_knows d at v c = grind (arith, noted_traffic)
 
 -- ---- what has passed
 

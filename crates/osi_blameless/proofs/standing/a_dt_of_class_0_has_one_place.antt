@@ -6,6 +6,8 @@ use Rattle.osi_blameless.proofs.Vocabulary.{at_place, class_for, is_stopped, one
 use Rattle.osi_blameless.proofs.Vocabulary.{Connection, Way, Phase, other, Direction, Joined, reference_of, way_of, only_first, AreJudged}
 use Rattle.osi_blameless.proofs.Vocabulary.{NamesApart as AreApart, Sound, IsOneOf, named_by, has_broken, arith, is_false}
 use Rattle.osi_rules.specs.Sides as sides
+use Rattle.osi_blameless.proofs.transport.small_facts_that_many_lemmas_use.{both}
+use Rattle.osi_blameless.proofs.transport.requests.one_request_waits.{open_not_refused}
 
 -- The connection at this place is open for both sides. All others are refused, and left knows that as soon as it knows the class.
 pub record IsOnly (s : State) : Type 0 where
@@ -20,9 +22,6 @@ pub record IsOnly (s : State) : Type 0 where
 
 -- ---- small facts
 
-pub open_not_refused : (p : Phase) → is_open p ≡ true → is_refused p ≡ true → ⊥
-open_not_refused p h k = grind arith
-
 over_mine : (p k : Phase) → is_refused p ≡ true →
     (is_refused p || (is_refused k || (is_closed p || (is_closing p && (is_closing k || is_closed k))))) ≡ true
 over_mine p k h = grind arith
@@ -34,9 +33,6 @@ over_known p k h = grind arith
 open_goes : (p k : Phase) → is_open p ≡ true → is_refused k ≡ false →
     (is_refused p || (is_refused k || (is_closed p || (is_closing p && (is_closing k || is_closed k))))) ≡ false
 open_goes p k h e = grind arith
-
-both : (a b : Bool) → a ≡ true → b ≡ true → (a && b) ≡ true
-both a b h k = grind arith
 
 and_not : (a b : Bool) → b ≡ false → not (a && b) ≡ true
 and_not a b h = grind arith

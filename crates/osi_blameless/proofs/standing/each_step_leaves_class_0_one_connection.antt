@@ -11,7 +11,8 @@ use Rattle.osi_rules.specs.declared.directions.Direction.TheVariants.{Left, Righ
 use Rattle.osi_rules.specs.Traffic as traffic
 use Rattle.osi_blameless.proofs.steps.what_passes_keeps_a_claim.{IsClaim}
 use Rattle.osi_blameless.proofs.standing.a_dt_of_class_0_leaves_all_standing.{IsZero}
-use Rattle.osi_blameless.proofs.standing.class_0_has_one_connection.{NarrowIf, after_seen, narrow_only, reached_seen, still_narrow}
+use Rattle.osi_blameless.proofs.standing.class_0_has_one_connection.{narrow_only}
+use Rattle.osi_blameless.proofs.transport.requests.one_request_waits.{NarrowIf, after_seen, reached_seen, still_narrow}
 use Rattle.osi_blameless.proofs.shown.connections_have_the_same_places.{marked_traffic, unit_knows}
 
 -- ---- a unit leaves what left knows of the class

@@ -12,7 +12,7 @@ use Rattle.osi_blameless.proofs.small_facts_that_many_lemmas_use.{all_join}
 use Rattle.osi_blameless.proofs.steps.all_is_judged_or_nothing.{IsOver}
 use Rattle.osi_blameless.proofs.standing.all_connections_stand.{map_of}
 use Rattle.osi_blameless.proofs.shown.connections_have_the_same_places.{marked_leaves, unit_joins}
-use Rattle.osi_blameless.proofs.standing.what_has_no_effect_joins_nothing.{joins_none}
+use Rattle.osi_blameless.proofs.shown.what_has_no_effect_joins_nothing.{joins_none}
 
 -- ---- nobody of a side is to blame
 

@@ -14,6 +14,7 @@ use Rattle.osi_blameless.proofs.shown.a_unit_is_joined_where_it_is_named.{named_
 use Rattle.osi_blameless.proofs.standing.all_connections_stand.{AllStand, IsPlain, Leaves, Rests, like_same, other_after, other_part}
 use Rattle.osi_blameless.proofs.standing.all_connections_stand.{other_plain, own_part, own_plain, quiet, rests}
 use Rattle.osi_blameless.proofs.standing.what_stands_of_a_connection.{Known, Stands, is_for, names_it, stands_elsewhere, stands_other_none}
+use Rattle.osi_blameless.proofs.transport.small_facts_that_many_lemmas_use.{is_false as not_so}
 
 -- ---- a DT or an AK of class 2
 
@@ -45,11 +46,8 @@ link_open : (d : Way) (v : Value) (n : ℕ) (s : State) (c : Connection) → IsL
     is_open (own d c).phase ≡ true
 link_open d v n s c h h2 = grind arith
 
-names_so : (o : Option ℕ) (n : ℕ) → names_it o n ≡ true → o ≡ Some n
+pub names_so : (o : Option ℕ) (n : ℕ) → names_it o n ≡ true → o ≡ Some n
 names_so o n h = grind (arith, eqb-true)
-
-not_so : (b : Bool) → (b ≡ true → ⊥) → b ≡ false
-not_so b h = grind arith
 
 -- ---- units of the end
 

@@ -15,7 +15,7 @@ use Rattle.osi_blameless.proofs.standing.what_stands_of_a_connection.{Known}
 
 -- all connections stand at a judge, beside what was done at the end
 pub record Standing (d : Direction) (deeds : ℕ → Deeds) (known : Known) (j : Joint) : Type 0 where
-  pub all : AllStand d deeds known j.put j.begun j.course.traffic j.course.sessions
+  pub all : AllStand d deeds known j.put j.begun j.judge.traffic j.judge.sessions
 
 -- A side is judged, in class 2 or before a class is known, and this unit of it is no break. If it is a DT or an AK, not all judging ends.
 pub record IsProper (d : Direction) (v : Value) (c : Passed) : Type 0 where
@@ -26,34 +26,34 @@ pub record IsProper (d : Direction) (v : Value) (c : Passed) : Type 0 where
 
 module _ (d : Direction) (deeds : ℕ → Deeds) (known : Known) where
   pub step_begins_own : (old new : Joint) → Steps d begins_own old new →
-      ((r : ℕ) → Course (calls_from d) r (deeds r) old.holding.end) →
-      ((i : ℕ) (j : Joined) → slice_get old.course.sessions.live i ≡ Some j → length (heard (spoken (other d) j)) < 2 ^ 64) →
+      ((r : ℕ) → Course (calls_from d) r (deeds r) old.end.end) →
+      ((i : ℕ) (j : Joined) → slice_get old.judge.sessions.live i ≡ Some j → length (heard (spoken (other d) j)) < 2 ^ 64) →
       Standing d deeds known old → Standing d deeds known new
   step_begins_own old new step courses few h =
       subst (Standing d deeds known) (sym step.2) (record {
-        all = all_begin_own d deeds known old.put old.holding.end old.course.traffic old.course.sessions courses few
-            (subst (λ (b : Bool). AllStand d deeds known old.put b old.course.traffic old.course.sessions) step.1 h.all);
+        all = all_begin_own d deeds known old.put old.end.end old.judge.traffic old.judge.sessions courses few
+            (subst (λ (b : Bool). AllStand d deeds known old.put b old.judge.traffic old.judge.sessions) step.1 h.all);
       })
 
   pub step_begins_other : (old new : Joint) → Steps d begins_other old new → Standing d deeds known old → Standing d deeds known new
   step_begins_other old new step h =
-      grind (arith, all_begin_other d deeds known old.put old.begun old.course.traffic old.course.sessions h.all)
+      grind (arith, all_begin_other d deeds known old.put old.begun old.judge.traffic old.judge.sessions h.all)
 
-  pub step_passes_own : (at : ℕ) (unit : Value) (old new : Joint) → Steps d (passes_own at unit) old new → IsProper d unit old.course →
-      AreUsedApart d old.course.traffic.connections → IsReady d deeds known unit new.put old.course.traffic old.course.sessions →
+  pub step_passes_own : (at : ℕ) (unit : Value) (old new : Joint) → Steps d (passes_own at unit) old new → IsProper d unit old.judge →
+      AreUsedApart d old.judge.traffic.connections → IsReady d deeds known unit new.put old.judge.traffic old.judge.sessions →
       Standing d deeds known old → Standing d deeds known new
   step_passes_own at unit old new step proper apart ready h =
-      subst (Standing d deeds known) (sym step.4) (record {
-        all = own_stands d deeds known at unit new.put old.course apart proper.goes proper.two proper.none proper.links ready
+      subst (Standing d deeds known) (sym step.2.2) (record {
+        all = own_stands d deeds known at unit new.put old.judge apart proper.goes proper.two proper.none proper.links ready
             (grind arith);
       })
 
   -- what a turn of the end does
   pub step_turns : (turn : Turn) (more : ℕ → Deeds) (then_known : Known) (old new : Joint) (step : TakesTurn turn old new) →
-      (old.begun ≡ true → old.put ≢ []) → Turns d more known then_known step.units old.course.traffic old.course.sessions →
+      (old.begun ≡ true → old.put ≢ []) → Turns d more known then_known step.units old.judge.traffic old.judge.sessions →
       Standing d deeds known old → Standing d (λ r. then_did (deeds r) (more r)) then_known new
   step_turns turn more then_known old new step some turns h =
       let after : ℕ → Deeds = λ r. then_did (deeds r) (more r) in
-      let all : AllStand d after then_known (old.put ++ step.units) old.begun old.course.traffic old.course.sessions =
-      all_turn d deeds more known then_known old.put step.units old.begun old.course.traffic old.course.sessions some turns h.all in
+      let all : AllStand d after then_known (old.put ++ step.units) old.begun old.judge.traffic old.judge.sessions =
+      all_turn d deeds more known then_known old.put step.units old.begun old.judge.traffic old.judge.sessions some turns h.all in
       grind arith

@@ -49,12 +49,12 @@ own_stands d deeds known at v rest c sure r ready a =
     (λ not. two.own_stands_firm d deeds known at v rest c r.firm r.goes not r.none (ready not) a)
 
 pub any_passes_own : (d : Direction) (deeds : ℕ → Deeds) (known : Known) (at : ℕ) (v : Value) (old new : Joint) →
-    Steps d (passes_own at v) old new → Sure old.course → IsRight d v old.course →
-    ((InZero d old.course → ⊥) → IsReady d deeds known v new.put old.course.traffic old.course.sessions) →
+    Steps d (passes_own at v) old new → Sure old.judge → IsRight d v old.judge →
+    ((InZero d old.judge → ⊥) → IsReady d deeds known v new.put old.judge.traffic old.judge.sessions) →
     Standing d deeds known old → Standing d deeds known new
 any_passes_own d deeds known at v old new step sure right ready h =
-    subst (Standing d deeds known) (sym step.4) (record {
-      all = own_stands d deeds known at v new.put old.course sure right ready
+    subst (Standing d deeds known) (sym step.2.2) (record {
+      all = own_stands d deeds known at v new.put old.judge sure right ready
           (grind arith);
     })
 

@@ -23,6 +23,7 @@ use Rattle.osi_blameless.proofs.standing.right_units_leave_all_standing.{IsLink,
 use Rattle.osi_blameless.proofs.standing.right_units_leave_all_standing.{other_close_if, other_dt, own_ack, own_close, own_close_if, own_dt}
 use Rattle.osi_blameless.proofs.standing.right_units_leave_all_standing.{rests_on}
 use Rattle.osi_blameless.proofs.standing.what_stands_of_a_connection.{Known, waiting_for, stands_other_none, unnamed}
+use Rattle.osi_blameless.proofs.transport.names.names_stay_apart_though_one_is_lost.{applied_ends_none as applied_reach}
 
 -- ---- what is no break
 
@@ -86,10 +87,6 @@ cc_idle s n x c = grind arith
 cc_placed : {A : Type 0} (n : ℕ) (x : Connect) (s : State) (o : Option ℕ) →
     is_applied (at_place way.Left (confirm n x) s o).told.finding ≡ true → A
 cc_placed n x s o h = grind (arith, never_unnamed)
-
--- a unit that has its effect ends no judging
-applied_reach : (k : Option Class) (f : Finding) → is_applied f ≡ true → reach_of k f ≡ reach.Nothing
-applied_reach k f h = grind arith
 
 pub applied_goes : {A : Type 0} (d : Way) (v : Value) (s : State) (r : Reach) → is_applied (takes d v s).told.finding ≡ true →
     (reach.Nothing ≡ r → ⊥) → (takes d v s).told.reach ≡ r → A

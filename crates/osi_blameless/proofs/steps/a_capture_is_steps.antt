@@ -4,17 +4,16 @@ use Rattle.osi_blameless.proofs.Vocabulary.{[], ap, append_assoc, Bool, Err, fal
 use Rattle.osi_blameless.proofs.Vocabulary.{◌++◌, ◌<◌, ◌∙◌, ◌∷◌, ◌≡◌, ◌≢◌, ◌⊎◌, append-nil, AllByRecursion, octets_nil, octets_right}
 use Rattle.osi_blameless.proofs.Vocabulary.{IsOctets, packet_of, ArePackets, units_of, Value, written, TpduFault, Local, packets, Holding}
 use Rattle.osi_blameless.proofs.Vocabulary.{Capture, of, other, Passed, Direction, packets_joined, fresh_turns, TurnOf, TurnsOf, Known}
-use Rattle.osi_blameless.proofs.Vocabulary.{packets_on, packets_then, CanBeWritten, read_again, all_did, Deeds, no_deeds, all_units}
+use Rattle.osi_blameless.proofs.Vocabulary.{packets_on, packets_then, all_did, Deeds, no_deeds, all_units}
 use Rattle.osi_blameless.proofs.Vocabulary.{IsFresh, IsSeen, Run, Takes, Turn, is_break, packet_passes, units_pass, unread, advanced}
 use Rattle.osi_blameless.proofs.Vocabulary.{faulty, Front, front_of, gathered, partial, Streamed, whole, after, octet_passes, stream_of}
 use Rattle.osi_blameless.proofs.Vocabulary.{with_stream, Cause, BadPacket, BadUnit, Joint, Step, Steps, StepsAlong, TakesTurn, AreOctets}
-use Rattle.osi_blameless.proofs.Vocabulary.{IsOctet, TurnsBad, arith, Course, units_by, TpktFault, IsNoPacket, IsUnread, spoilt}
+use Rattle.osi_blameless.proofs.Vocabulary.{IsOctet, TurnsBad, arith, Course, units_by, TpktFault, IsNoPacket, IsUnread, spoilt, units_in}
 use Rattle.osi_judge.specs.Streams.{ended}
 use Rattle.osi_judge.specs.States.{State}
 use Rattle.osi_judge.specs.States as states
 use Rattle.osi_blameless.specs.Joint as joints
 use Rattle.osi_blameless.specs.Joint.Step.{turns, begins_own, passes_own, begins_other, passes_other}
-use Rattle.osi_blameless.specs.transport.Pieces.{units_in}
 use Rattle.osi_blameless.specs.Spoilt.{GoesOn}
 use Rattle.osi_blameless.proofs.small_facts_that_many_lemmas_use.{can_more}
 use Rattle.osi_blameless.proofs.steps.how_an_end_stands_to_what_has_passed.{OtherStands, OwnStands, begun_now, first_put, has_begun}
@@ -23,11 +22,12 @@ use Rattle.osi_blameless.proofs.steps.how_an_end_stands_to_what_has_passed.{rest
 use Rattle.osi_blameless.proofs.steps.what_follows_what_cannot_be_read.{LaterComes, OtherEnds, OtherReads, StandsLater, later_octet}
 use Rattle.osi_blameless.proofs.steps.what_follows_what_cannot_be_read.{later_steps}
 use Rattle.osi_blameless.proofs.steps.what_follows_what_cannot_be_read.{other_moved as other_moved_later}
-use Rattle.osi_blameless.proofs.keeping.what_is_halted_stays_halted.{unread_halts}
+use Rattle.osi_blameless.proofs.steps.what_is_halted_stays_halted.{unread_halts}
 use Rattle.osi_blameless.proofs.steps.turns_are_taken_late.{Follows, all_passed, other_passes, own_passes, seen_follows, turn_taken}
 use Rattle.osi_blameless.proofs.steps.what_an_octet_does.{begins, passes_so}
 use Rattle.osi_blameless.proofs.steps.what_the_turns_among_steps_do.{ComesByDoing, IsOfJudge, StepsDo, TurnDoes, judge_first, takes_turn}
-use Rattle.osi_blameless.proofs.steps.what_the_first_octets_are.{begins_none, own_front, whole_front, whole_packet}
+use Rattle.osi_blameless.proofs.steps.what_the_first_octets_are.{begins_none, own_front, whole_packet}
+use Rattle.osi_blameless.proofs.steps.how_an_end_stands_to_what_has_passed.{packet_ends}
 
 -- ---- what the rest of a capture comes to, from a state of the judge and of the end on
 
@@ -56,8 +56,8 @@ record Comes (d : Direction) (is_caller : Bool) (deeds : ℕ → Deeds) (capture
   last : Joint
   along : StepsAlong d j steps last
   does : StepsDo d is_caller deeds j steps last along
-  all : ((after capture s).course ≡ last.course) ⊎ Stops d capture s last.course
-  on : ((after capture s).course ≡ last.course) ⊎ Spoils d capture s last
+  all : ((after capture s).course ≡ last.judge) ⊎ Stops d capture s last.judge
+  on : ((after capture s).course ≡ last.judge) ⊎ Spoils d capture s last
 
 step_first : (d : Direction) (is_caller : Bool) (deeds : ℕ → Deeds) (capture : Capture) (s : State) (step : Step) → IsOfJudge step →
     (j mid : Joint) → Steps d step j mid → Comes d is_caller deeds capture s mid → Comes d is_caller deeds capture s j
@@ -93,8 +93,8 @@ octet_first d is_caller deeds o capture s j c = record {
   on = goes c.on;
 }
   where
-    goes : ((after capture (octet_passes o s)).course ≡ c.last.course) ⊎ Spoils d capture (octet_passes o s) c.last →
-        ((after (o ∷ capture) s).course ≡ c.last.course) ⊎ Spoils d (o ∷ capture) s c.last
+    goes : ((after capture (octet_passes o s)).course ≡ c.last.judge) ⊎ Spoils d capture (octet_passes o s) c.last →
+        ((after (o ∷ capture) s).course ≡ c.last.judge) ⊎ Spoils d (o ∷ capture) s c.last
     goes (inl e) = inl e
     goes (inr k) = inr (record {
       at = k.at;
@@ -105,8 +105,8 @@ octet_first d is_caller deeds o capture s j c = record {
       how = k.how;
     })
 
-    by : ((after capture (octet_passes o s)).course ≡ c.last.course) ⊎ Stops d capture (octet_passes o s) c.last.course →
-        ((after (o ∷ capture) s).course ≡ c.last.course) ⊎ Stops d (o ∷ capture) s c.last.course
+    by : ((after capture (octet_passes o s)).course ≡ c.last.judge) ⊎ Stops d capture (octet_passes o s) c.last.judge →
+        ((after (o ∷ capture) s).course ≡ c.last.judge) ⊎ Stops d (o ∷ capture) s c.last.judge
     by (inl e) = inl e
     by (inr k) = inr (record {
       front = o ∷ k.front;
@@ -121,20 +121,20 @@ octet_first d is_caller deeds o capture s j c = record {
 -- ---- how the end stands to what has passed
 
 record Stands (d : Direction) (s : State) (j : Joint) (still ahead : List ℕ) : Type 0 where
-  course : s.course ≡ j.course
+  course : s.course ≡ j.judge
   own_reads : (stream_of d s).spent ≡ false
   other_reads : (stream_of (other d) s).spent ≡ false
   own : OwnStands (stream_of d s).held still j.put j.begun
-  others : OtherStands (stream_of (other d) s).held ahead j.holding j.coming
+  others : OtherStands (stream_of (other d) s).held ahead j.end j.coming
 
-own_moved : (d : Direction) (g : Streamed) (s : State) (c : Course) (j : Joint) (still ahead : List ℕ) → c ≡ j.course → g.spent ≡ false →
+own_moved : (d : Direction) (g : Streamed) (s : State) (c : Course) (j : Joint) (still ahead : List ℕ) → c ≡ j.judge → g.spent ≡ false →
     (stream_of (other d) s).spent ≡ false → OwnStands g.held still j.put j.begun →
-    OtherStands (stream_of (other d) s).held ahead j.holding j.coming → Stands d (with_stream d g (record s { course = c })) j still ahead
+    OtherStands (stream_of (other d) s).held ahead j.end j.coming → Stands d (with_stream d g (record s { course = c })) j still ahead
 own_moved d g s c j still ahead course own_reads other_reads own others = grind arith
 
-other_moved : (d : Direction) (g : Streamed) (s : State) (c : Course) (j : Joint) (still ahead : List ℕ) → c ≡ j.course →
+other_moved : (d : Direction) (g : Streamed) (s : State) (c : Course) (j : Joint) (still ahead : List ℕ) → c ≡ j.judge →
     (stream_of d s).spent ≡ false → g.spent ≡ false → OwnStands (stream_of d s).held still j.put j.begun →
-    OtherStands g.held ahead j.holding j.coming → Stands d (with_stream (other d) g (record s { course = c })) j still ahead
+    OtherStands g.held ahead j.end j.coming → Stands d (with_stream (other d) g (record s { course = c })) j still ahead
 other_moved d g s c j still ahead course own_reads other_reads own others = grind arith
 
 -- ---- an octet of the end
@@ -142,14 +142,14 @@ other_moved d g s c j still ahead course own_reads other_reads own others = grin
 -- the packet begins, unless some of its octets have passed
 own_begins : (d : Direction) (is_caller : Bool) (deeds : ℕ → Deeds) (capture : Capture) (s : State) (held : List ℕ) (j : Joint) →
     j.begun ≡ has_begun held → j.put ≢ [] →
-    Comes d is_caller deeds capture s (record j { begun = true; course = begins d held j.course }) → Comes d is_caller deeds capture s j
+    Comes d is_caller deeds capture s (record j { begun = true; judge = begins d held j.judge }) → Comes d is_caller deeds capture s j
 own_begins d is_caller deeds capture s [] j is some c =
-    step_first d is_caller deeds capture s begins_own tt j (record j { begun = true; course = begins d [] j.course }) (some, is, refl) c
+    step_first d is_caller deeds capture s begins_own tt j (record j { begun = true; judge = begins d [] j.judge }) (some, is, refl) c
 own_begins d is_caller deeds capture s (o ∷ held) j is some c = grind arith
 
 module _ (d : Direction) (is_caller : Bool) (deeds : ℕ → Deeds) (x : ℕ) (capture : Capture) (s : State) (j : Joint)
     (still ahead : List ℕ) (small : x < 256) (st : Stands d s j (x ∷ still) ahead)
-    (on : (s2 : State) (j2 : Joint) → j2.holding ≡ j.holding → Stands d s2 j2 still ahead → Comes d is_caller deeds capture s2 j2) where
+    (on : (s2 : State) (j2 : Joint) → j2.end ≡ j.end → Stands d s2 j2 still ahead → Comes d is_caller deeds capture s2 j2) where
   abbrev own_held : List ℕ
   own_held = (stream_of d s).held
 
@@ -157,7 +157,7 @@ module _ (d : Direction) (is_caller : Bool) (deeds : ℕ → Deeds) (x : ℕ) (c
   own_now = gathered (x ∷ []) (stream_of d s)
 
   abbrev own_joint : Joint
-  own_joint = record j { begun = true; course = begins d own_held j.course }
+  own_joint = record j { begun = true; judge = begins d own_held j.judge }
 
   abbrev own_course : Course
   own_course = begins d own_held s.course
@@ -174,23 +174,15 @@ module _ (d : Direction) (is_caller : Bool) (deeds : ℕ → Deeds) (x : ℕ) (c
   own_ends : (v : Value) (vs : List Value) → j.put ≡ v ∷ vs → own_held ++ x ∷ [] ≡ packet_of (written v) → still ≡ packets vs →
       Comes d is_caller deeds (of d x ∷ capture) s own_joint
   own_ends v vs is same rest =
-      let can = subst (AllByRecursion CanBeWritten) is st.own.can in
-      let octets : IsOctets (written v) = octets_right (3 ∷ 0 ∷ _ ∷ _ ∷ []) (written v)
-      (subst IsOctets same (one_octet own_held x st.own.octets small)) in
-      let read = read_again v can.0 octets in
-      let front : front_of (own_held ++ x ∷ []) ≡ whole (written v) = ap front_of (same ∙ sym (append-nil (packet_of (written v))))
-      ∙ whole_front (written v) [] (some_octets v) in
-      let at = own_now.at in
-      let after_it : Course = packet_passes d at (written v) own_course in
-      let last : Joint = record own_joint { put = vs; begun = false; course = units_pass d at (v ∷ []) own_joint.course } in
-      let course : after_it ≡ last.course = grind (arith, begins) in
-      let own : OwnStands [] still vs false =
-      record { octets = octets_nil; part = refl; all = rest; begun_so = refl; can = can.1 } in
+      let e = packet_ends d s.course j.judge own_held still x v vs own_now.at st.course small st.own is same rest in
+      let after_it : Course = packet_passes d own_now.at (written v) own_course in
+      let last : Joint = record own_joint { put = vs; begun = false; judge = units_pass d own_now.at (v ∷ []) own_joint.judge } in
       let next : State = with_stream d (advanced own_now) (record s { course = after_it }) in
-      step_first d is_caller deeds (of d x ∷ capture) s (passes_own at v) tt own_joint last (read, octets, is, refl, refl)
+      step_first d is_caller deeds (of d x ∷ capture) s (passes_own own_now.at v) tt own_joint last (e.read, e.octets, (is, refl, refl))
       (octet_first d is_caller deeds (of d x) capture s last
-      (subst (λ (t : State). Comes d is_caller deeds capture t last) (sym (passes_so d x s (whole (written v)) st.own_reads front))
-      (on next last refl (own_moved d (advanced own_now) s after_it last still ahead course st.own_reads st.other_reads own st.others))))
+      (subst (λ (t : State). Comes d is_caller deeds capture t last) (sym (passes_so d x s (whole (written v)) st.own_reads e.front))
+      (on next last refl (own_moved d
+      (advanced own_now) s after_it last still ahead e.course st.own_reads st.other_reads e.own st.others))))
 
   own_octet : Comes d is_caller deeds (of d x ∷ capture) s j
   own_octet =
@@ -205,16 +197,16 @@ module _ (d : Direction) (is_caller : Bool) (deeds : ℕ → Deeds) (x : ℕ) (c
 -- ---- an octet of the other side
 
 other_begins : (d : Direction) (is_caller : Bool) (deeds : ℕ → Deeds) (capture : Capture) (s : State) (held : List ℕ) (j : Joint) →
-    Comes d is_caller deeds capture s (record j { course = begins (other d) held j.course }) → Comes d is_caller deeds capture s j
+    Comes d is_caller deeds capture s (record j { judge = begins (other d) held j.judge }) → Comes d is_caller deeds capture s j
 other_begins d is_caller deeds capture s [] j c =
-    step_first d is_caller deeds capture s begins_other tt j (record j { course = begins (other d) [] j.course }) refl c
+    step_first d is_caller deeds capture s begins_other tt j (record j { judge = begins (other d) [] j.judge }) refl c
 other_begins d is_caller deeds capture s (o ∷ held) j c = c
 
 module _ (d : Direction) (is_caller : Bool) (deeds : ℕ → Deeds) (x : ℕ) (capture : Capture) (s : State) (j : Joint)
     (still ahead : List ℕ) (small : x < 256) (st : Stands d s j still ahead)
-    (on : (s2 : State) (j2 : Joint) → j2.holding ≡ j.holding → Stands d s2 j2 still (ahead ++ x ∷ []) →
+    (on : (s2 : State) (j2 : Joint) → j2.end ≡ j.end → Stands d s2 j2 still (ahead ++ x ∷ []) →
     Comes d is_caller deeds capture s2 j2)
-    (then : (s2 : State) (j2 : Joint) → j2.holding ≡ j.holding → StandsLater d s2 j2 still (ahead ++ x ∷ []) →
+    (then : (s2 : State) (j2 : Joint) → j2.end ≡ j.end → StandsLater d s2 j2 still (ahead ++ x ∷ []) →
     LaterComes d capture s2 j2) where
   abbrev other_held : List ℕ
   other_held = (stream_of (other d) s).held
@@ -223,19 +215,19 @@ module _ (d : Direction) (is_caller : Bool) (deeds : ℕ → Deeds) (x : ℕ) (c
   other_now = gathered (x ∷ []) (stream_of (other d) s)
 
   abbrev other_joint : Joint
-  other_joint = record j { course = begins (other d) other_held j.course }
+  other_joint = record j { judge = begins (other d) other_held j.judge }
 
   abbrev other_course : Course
   other_course = begins (other d) other_held s.course
 
-  more_passed : (us : List (List ℕ)) (r : List ℕ) → ArePackets us ((j.holding.held.octets ++ ahead) ++ x ∷ []) r →
-      ArePackets us (j.holding.held.octets ++ (ahead ++ x ∷ [])) r
-  more_passed us r p = subst (λ (l : List ℕ). ArePackets us l r) (append_assoc j.holding.held.octets ahead (x ∷ [])) p
+  more_passed : (us : List (List ℕ)) (r : List ℕ) → ArePackets us ((j.end.held.octets ++ ahead) ++ x ∷ []) r →
+      ArePackets us (j.end.held.octets ++ (ahead ++ x ∷ [])) r
+  more_passed us r p = subst (λ (l : List ℕ). ArePackets us l r) (append_assoc j.end.held.octets ahead (x ∷ [])) p
 
   other_goes_on : front_of (other_held ++ x ∷ []) ≡ partial → Comes d is_caller deeds (of (other d) x ∷ capture) s other_joint
   other_goes_on part =
       let next : State = with_stream (other d) other_now (record s { course = other_course }) in
-      let others : OtherStands (other_held ++ x ∷ []) (ahead ++ x ∷ []) j.holding j.coming = record {
+      let others : OtherStands (other_held ++ x ∷ []) (ahead ++ x ∷ []) j.end j.coming = record {
         octets = one_octet other_held x st.others.octets small;
         part = part;
         cut = grind (arith, more_passed, packets_on);
@@ -250,11 +242,11 @@ module _ (d : Direction) (is_caller : Bool) (deeds : ℕ → Deeds) (x : ℕ) (c
   -- the steps up to here, and what follows
   other_stops : (t : Streamed) (cause : Cause) (packets : List (List ℕ)) → is_break cause ≡ true → units_in packets ≡ [] →
       octet_passes (of (other d) x) s ≡ with_stream (other d) t (record s { course = unread (other d) other_now.at cause other_course }) →
-      OtherReads t (ahead ++ x ∷ []) j.holding (j.coming ++ packets) →
+      OtherReads t (ahead ++ x ∷ []) j.end (j.coming ++ packets) →
       ((packet : List ℕ) × (packets ≡ packet ∷ []) × IsUnread (units_of packet)) ⊎ ((packets ≡ []) × (t.spent ≡ true)) →
       Comes d is_caller deeds (of (other d) x ∷ capture) s other_joint
   other_stops t cause packets bad none is reads how =
-      let course : unread (other d) other_now.at cause other_course ≡ unread (other d) other_now.at cause other_joint.course =
+      let course : unread (other d) other_now.at cause other_course ≡ unread (other d) other_now.at cause other_joint.judge =
       ap (λ (c : Course). unread (other d) other_now.at cause (begins (other d) other_held c)) st.course in
       let next : State = with_stream (other d) t (record s { course = unread (other d) other_now.at cause other_course }) in
       let now : Joint = spoilt d other_now.at cause packets other_joint in
@@ -291,13 +283,13 @@ module _ (d : Direction) (is_caller : Bool) (deeds : ℕ → Deeds) (x : ℕ) (c
       }
 
   packet_used : (u : List ℕ) → front_of (other_held ++ x ∷ []) ≡ whole u →
-      OtherStands [] (ahead ++ x ∷ []) j.holding (j.coming ++ u ∷ [])
+      OtherStands [] (ahead ++ x ∷ []) j.end (j.coming ++ u ∷ [])
   packet_used u front =
       let packet = whole_packet other_held u x (one_octet other_held x st.others.octets small) st.others.part front in
       grind (arith, octets_nil, more_passed, packets_then, append-nil)
 
   no_packet : (f : TpktFault) → front_of (other_held ++ x ∷ []) ≡ faulty f →
-      OtherEnds (other_held ++ x ∷ []) (ahead ++ x ∷ []) j.holding (j.coming ++ [])
+      OtherEnds (other_held ++ x ∷ []) (ahead ++ x ∷ []) j.end (j.coming ++ [])
   no_packet f is = grind (arith, one_octet, begins_none, append-nil, more_passed, packets_on)
 
   other_ends : (u : List ℕ) → front_of (other_held ++ x ∷ []) ≡ whole u → (r : Result (List Value) TpduFault) → units_of u ≡ r →
@@ -310,10 +302,10 @@ module _ (d : Direction) (is_caller : Bool) (deeds : ℕ → Deeds) (x : ℕ) (c
       let packet = whole_packet other_held u x (one_octet other_held x st.others.octets small) st.others.part front in
       let after_it : Course = packet_passes (other d) other_now.at u other_course in
       let last : Joint = record other_joint {
-        course = units_pass (other d) other_now.at units other_joint.course;
+        judge = units_pass (other d) other_now.at units other_joint.judge;
         coming = j.coming ++ u ∷ [];
       } in
-      let course : after_it ≡ last.course = grind (arith, begins) in
+      let course : after_it ≡ last.judge = grind (arith, begins) in
       let octets : IsOctets u = octets_right (_ ∷ _ ∷ _ ∷ _ ∷ []) u (subst IsOctets packet.spelled packet.octets) in
       let others = packet_used u front in
       let next : State = with_stream (other d) (advanced other_now) (record s { course = after_it }) in
@@ -336,28 +328,28 @@ module _ (d : Direction) (is_caller : Bool) (deeds : ℕ → Deeds) (x : ℕ) (c
 
 -- the end and the judge after a turn
 record Turned (d : Direction) (is_caller : Bool) (deeds : ℕ → Deeds) (s : State) (j : Joint) (turn : Turn) (new : Holding)
-    (at : TurnOf is_caller deeds turn j.holding new) (still ahead : List ℕ) : Type 0 where
+    (at : TurnOf is_caller deeds turn j.end new) (still ahead : List ℕ) : Type 0 where
   later : Joint
   takes : TakesTurn turn j later
   does : TurnDoes is_caller deeds turn j later takes
   goes_on : (others : List Turn) (end : Holding) → TurnsOf is_caller (all_did deeds at.on.more) new others end →
-      TurnsOf is_caller (all_did deeds does.on.more) later.holding others end
+      TurnsOf is_caller (all_did deeds does.on.more) later.end others end
   stands : Stands d s later (still ++ turn.put) ahead
 
 turned : (d : Direction) (is_caller : Bool) (deeds : ℕ → Deeds) (s : State) (j : Joint) (turn : Turn) (new : Holding)
-    (still ahead : List ℕ) → Takes j.holding turn new → (at : TurnOf is_caller deeds turn j.holding new) →
+    (still ahead : List ℕ) → Takes j.end turn new → (at : TurnOf is_caller deeds turn j.end new) →
     Stands d s j still (turn.used ++ ahead) → Turned d is_caller deeds s j turn new at still ahead
 turned d is_caller deeds s j turn new still ahead takes at st =
     let on = at.on in
     let units = all_units on.put in
     let theirs = (stream_of (other d) s).held in
     let mine = (stream_of d s).held in
-    let u = uses theirs ahead j.coming is_caller deeds j.holding turn new takes on
-    (rest_of theirs (turn.used ++ ahead) j.holding j.coming st.others) j.holding.end.carrier.ended
+    let u = uses theirs ahead j.coming is_caller deeds j.end turn new takes on
+    (rest_of theirs (turn.used ++ ahead) j.end j.coming st.others) j.end.end.carrier.ended
     new.end.carrier.ended refl refl in
     let both : (mine ++ still) ++ turn.put ≡ packets j.put ++ packets units = (λ i. st.own.all i ++ on.written i) in
     record {
-      later = record j { holding = new; put = j.put ++ units; coming = u.later };
+      later = record j { end = new; put = j.put ++ units; coming = u.later };
       takes = takes_turn is_caller deeds turn j new takes on u.used u.later u.rest u.parts u.cut u.kept u.all;
       does = record { on = at.on; life = at.life; first = at.first; units = refl };
       goes_on = λ others end more. more;
@@ -368,7 +360,7 @@ turned d is_caller deeds s j turn new still ahead takes at st =
 
 along_steps : (d : Direction) (is_caller : Bool) (still ahead : List ℕ) (capture : Capture) (turns_left : List Turn) →
     Follows d still ahead capture turns_left → (deeds : ℕ → Deeds) (s : State) (j : Joint) (end : Holding) → AreOctets capture →
-    TurnsOf is_caller deeds j.holding turns_left end → Stands d s j still ahead → Comes d is_caller deeds capture s j
+    TurnsOf is_caller deeds j.end turns_left end → Stands d s j still ahead → Comes d is_caller deeds capture s j
 along_steps d is_caller _ _ _ _ (all_passed still ahead left) deeds s j end octets does st =
     record { steps = []; last = j; along = refl; does = tt; all = inl st.course; on = inl st.course }
 along_steps d is_caller _ _ _ _ (own_passes x o all still ahead capture left is front more) deeds s j end octets does st =
@@ -397,10 +389,10 @@ capture_steps known d is_caller local first end turns_all capture fresh run octe
     let does = fresh_turns known is_caller local first end turns_all fresh run in
     let c = along_steps d is_caller [] [] capture turns_all (seen_follows d turns_all capture seen) (λ r. no_deeds) states.begin
     (joints.begin first) end octets does (grind (arith, octets_nil, append-nil)) in
-    record { steps = c.steps; last = c.last; along = c.along; does = c.does; all = by c.last.course c.all; on = goes c.last c.on }
+    record { steps = c.steps; last = c.last; along = c.along; does = c.does; all = by c.last.judge c.all; on = goes c.last c.on }
   where
-    goes : (last : Joint) → ((after capture states.begin).course ≡ last.course) ⊎ Spoils d capture states.begin last →
-        ((after capture states.begin).course ≡ last.course) ⊎ GoesOn d capture last
+    goes : (last : Joint) → ((after capture states.begin).course ≡ last.judge) ⊎ Spoils d capture states.begin last →
+        ((after capture states.begin).course ≡ last.judge) ⊎ GoesOn d capture last
     goes last (inl e) = inl e
     goes last (inr k) = inr (record {
       at = k.at;

@@ -6,6 +6,10 @@ use Rattle.osi_blameless.proofs.Vocabulary.{octets_append, octets_cons, octets_l
 use Rattle.osi_blameless.proofs.Vocabulary.{Value, written, packets, EndReason, Holding, over_acts, never_lasts, CanBeWritten, Continues}
 use Rattle.osi_blameless.proofs.Vocabulary.{Deeds, Takes, Turn, front_of, partial, IsNoFront}
 use Rattle.osi_blameless.proofs.steps.what_the_first_octets_are.{packets_octets, part_begins_none, used_first}
+use Rattle.osi_blameless.proofs.Vocabulary.{Course, Direction, Ok, packet_of, packet_passes, read_again, subst, sym, units_of, units_pass}
+use Rattle.osi_blameless.proofs.Vocabulary.{append-nil, octets_right, whole, ◌∙◌}
+use Rattle.osi_blameless.proofs.steps.what_an_octet_does.{begins}
+use Rattle.osi_blameless.proofs.steps.what_the_first_octets_are.{whole_front}
 
 -- ---- what has passed of the end, and of the other side
 
@@ -56,6 +60,30 @@ first_put held still x (v ∷ vs) e = (v, vs, refl)
 pub begun_now : (held : List ℕ) (x : ℕ) → true ≡ has_begun (held ++ x ∷ [])
 begun_now [] x = refl
 begun_now (o ∷ held) x = refl
+
+-- With this octet a packet ends whose unit was put: it is read as that unit, and its octets were those that this unit is written as.
+pub record Ends (d : Direction) (was now : Course) (held still : List ℕ) (x : ℕ) (v : Value) (vs : List Value) (at : ℕ) : Type 0 where
+  pub read : units_of (written v) ≡ Ok (v ∷ [])
+  pub octets : IsOctets (written v)
+  pub front : front_of (held ++ x ∷ []) ≡ whole (written v)
+  pub course : packet_passes d at (written v) (begins d held was) ≡ units_pass d at (v ∷ []) (begins d held now)
+  pub own : OwnStands [] still vs false
+
+pub packet_ends : (d : Direction) (was now : Course) (held still : List ℕ) (x : ℕ) (v : Value) (vs : List Value) (at : ℕ) {put : List Value}
+    {begun : Bool} → was ≡ now → x < 256 → OwnStands held (x ∷ still) put begun → put ≡ v ∷ vs → held ++ x ∷ [] ≡ packet_of (written v) →
+    still ≡ packets vs → Ends d was now held still x v vs at
+packet_ends d was now held still x v vs at course small own is same rest =
+    let can = subst (AllByRecursion CanBeWritten) is own.can in
+    let octets : IsOctets (written v) = octets_right (3 ∷ 0 ∷ _ ∷ _ ∷ []) (written v)
+    (subst IsOctets same (one_octet held x own.octets small)) in
+    let read = read_again v can.0 octets in
+    record {
+      read = read;
+      octets = octets;
+      front = ap front_of (same ∙ sym (append-nil (packet_of (written v)))) ∙ whole_front (written v) [] (some_octets v);
+      course = grind (arith, begins);
+      own = record { octets = octets_nil; part = refl; all = rest; begun_so = refl; can = can.1 };
+    }
 
 -- ---- a turn
 

@@ -3,8 +3,8 @@
 use Rattle.osi_blameless.proofs.Vocabulary.{[], ap, append_assoc, Bool, false, if◌then◌else◌, inl, inr, List, None, refl, subst, sym, true}
 use Rattle.osi_blameless.proofs.Vocabulary.{ℕ, ◌++◌, ◌<◌, ◌∙◌, ◌∷◌, ◌≡◌, ◌≢◌, ◌⊎◌, append-nil, AllByRecursion, octets_nil, octets_right}
 use Rattle.osi_blameless.proofs.Vocabulary.{IsOctets, packet_of, ArePackets, units_of, Value, written, packets, Holding, Capture, of, other}
-use Rattle.osi_blameless.proofs.Vocabulary.{Passed, Direction, packets_joined, TurnOf, TurnsOf, packets_on, packets_then, CanBeWritten}
-use Rattle.osi_blameless.proofs.Vocabulary.{read_again, all_did, Deeds, all_units, Takes, Turn, packet_passes, units_pass, unread, advanced}
+use Rattle.osi_blameless.proofs.Vocabulary.{Passed, Direction, packets_joined, TurnOf, TurnsOf, packets_on, packets_then}
+use Rattle.osi_blameless.proofs.Vocabulary.{all_did, Deeds, all_units, Takes, Turn, packet_passes, units_pass, unread, advanced}
 use Rattle.osi_blameless.proofs.Vocabulary.{counted, faulty, Front, front_of, gathered, looks, partial, Streamed, whole, after, begun, Left}
 use Rattle.osi_blameless.proofs.Vocabulary.{Right, looked_at, octet_passes, stream_of, with_stream, BadPacket, Joint, Step, TakesTurn}
 use Rattle.osi_blameless.proofs.Vocabulary.{AreOctets, IsOctet, arith, IsNoFront, TpktFault, units_by, Course, IsNoPacket, LaterAlong}
@@ -19,9 +19,10 @@ use Rattle.osi_blameless.proofs.steps.how_an_end_stands_to_what_has_passed.{one_
 use Rattle.osi_blameless.proofs.steps.what_the_turns_among_steps_do.{takes_turn}
 use Rattle.osi_blameless.proofs.steps.turns_are_taken_late.{Follows, all_passed, other_passes, own_passes, turn_taken}
 use Rattle.osi_blameless.proofs.steps.what_an_octet_does.{begins, passes_so}
-use Rattle.osi_blameless.proofs.keeping.what_is_halted_stays_halted.{IsHalted, halted_claim, unread_same}
+use Rattle.osi_blameless.proofs.steps.what_is_halted_stays_halted.{IsHalted, halted_claim, unread_same}
 use Rattle.osi_blameless.proofs.steps.what_passes_keeps_a_claim.{units_kept}
-use Rattle.osi_blameless.proofs.steps.what_the_first_octets_are.{begins_none, own_front, whole_front, whole_packet}
+use Rattle.osi_blameless.proofs.steps.what_the_first_octets_are.{begins_none, own_front, whole_packet}
+use Rattle.osi_blameless.proofs.steps.how_an_end_stands_to_what_has_passed.{packet_ends}
 
 -- ---- what the rest of a capture comes to
 
@@ -29,7 +30,7 @@ pub record LaterComes (d : Direction) (capture : Capture) (s : State) (j : Joint
   pub steps : List Step
   pub last : Joint
   pub along : LaterAlong d j steps last
-  pub all : (after capture s).course ≡ last.course
+  pub all : (after capture s).course ≡ last.judge
   pub no_more : (stream_of (other d) s).spent ≡ true → AllByRecursion IsNoPacket steps
 
 later_first : (d : Direction) (capture : Capture) (s : State) (step : Step) (j mid : Joint) → LaterSteps d step j mid →
@@ -113,33 +114,33 @@ ends_rest rest ahead h coming e =
 
 -- nothing more of the other side is judged
 pub record StandsLater (d : Direction) (s : State) (j : Joint) (still ahead : List ℕ) : Type 0 where
-  pub course : s.course ≡ j.course
+  pub course : s.course ≡ j.judge
   pub own_reads : (stream_of d s).spent ≡ false
   pub own : OwnStands (stream_of d s).held still j.put j.begun
-  pub halted : IsHalted (other d) j.course
-  pub others : OtherReads (stream_of (other d) s) ahead j.holding j.coming
+  pub halted : IsHalted (other d) j.judge
+  pub others : OtherReads (stream_of (other d) s) ahead j.end j.coming
 
-own_moved : (d : Direction) (g : Streamed) (s : State) (c : Course) (j : Joint) (still ahead : List ℕ) → c ≡ j.course → g.spent ≡ false →
-    OwnStands g.held still j.put j.begun → IsHalted (other d) j.course → OtherReads (stream_of (other d) s) ahead j.holding j.coming →
+own_moved : (d : Direction) (g : Streamed) (s : State) (c : Course) (j : Joint) (still ahead : List ℕ) → c ≡ j.judge → g.spent ≡ false →
+    OwnStands g.held still j.put j.begun → IsHalted (other d) j.judge → OtherReads (stream_of (other d) s) ahead j.end j.coming →
     StandsLater d (with_stream d g (record s { course = c })) j still ahead
 own_moved d g s c j still ahead course own_reads own halted others = grind arith
 
-pub other_moved : (d : Direction) (g : Streamed) (s : State) (c : Course) (j : Joint) (still ahead : List ℕ) → c ≡ j.course →
-    (stream_of d s).spent ≡ false → OwnStands (stream_of d s).held still j.put j.begun → IsHalted (other d) j.course →
-    OtherReads g ahead j.holding j.coming → StandsLater d (with_stream (other d) g (record s { course = c })) j still ahead
+pub other_moved : (d : Direction) (g : Streamed) (s : State) (c : Course) (j : Joint) (still ahead : List ℕ) → c ≡ j.judge →
+    (stream_of d s).spent ≡ false → OwnStands (stream_of d s).held still j.put j.begun → IsHalted (other d) j.judge →
+    OtherReads g ahead j.end j.coming → StandsLater d (with_stream (other d) g (record s { course = c })) j still ahead
 other_moved d g s c j still ahead course own_reads own halted others = grind arith
 
 -- ---- an octet of the end
 
 own_begins : (d : Direction) (capture : Capture) (s : State) (held : List ℕ) (j : Joint) → j.begun ≡ has_begun held → j.put ≢ [] →
-    LaterComes d capture s (record j { begun = true; course = begins d held j.course }) → LaterComes d capture s j
+    LaterComes d capture s (record j { begun = true; judge = begins d held j.judge }) → LaterComes d capture s j
 own_begins d capture s [] j is some c =
-    later_first d capture s begins_own j (record j { begun = true; course = begins d [] j.course }) (some, is, refl) (λ spent. tt) c
+    later_first d capture s begins_own j (record j { begun = true; judge = begins d [] j.judge }) (some, is, refl) (λ spent. tt) c
 own_begins d capture s (o ∷ held) j is some c = subst (λ (b : Bool). LaterComes d capture s (record j { begun = b })) (sym is) c
 
 module _ (d : Direction) (x : ℕ) (capture : Capture) (s : State) (j : Joint) (still ahead : List ℕ) (small : x < 256)
     (st : StandsLater d s j (x ∷ still) ahead)
-    (on : (s2 : State) (j2 : Joint) → j2.holding ≡ j.holding → StandsLater d s2 j2 still ahead → LaterComes d capture s2 j2) where
+    (on : (s2 : State) (j2 : Joint) → j2.end ≡ j.end → StandsLater d s2 j2 still ahead → LaterComes d capture s2 j2) where
   abbrev own_held : List ℕ
   own_held = (stream_of d s).held
 
@@ -147,12 +148,12 @@ module _ (d : Direction) (x : ℕ) (capture : Capture) (s : State) (j : Joint) (
   own_now = gathered (x ∷ []) (stream_of d s)
 
   abbrev own_joint : Joint
-  own_joint = record j { begun = true; course = begins d own_held j.course }
+  own_joint = record j { begun = true; judge = begins d own_held j.judge }
 
   abbrev own_course : Course
   own_course = begins d own_held s.course
 
-  own_halted : IsHalted (other d) own_joint.course
+  own_halted : IsHalted (other d) own_joint.judge
   own_halted = grind arith
 
   own_goes_on : front_of (own_held ++ x ∷ []) ≡ partial → LaterComes d (of d x ∷ capture) s own_joint
@@ -167,24 +168,15 @@ module _ (d : Direction) (x : ℕ) (capture : Capture) (s : State) (j : Joint) (
   own_ends : (v : Value) (vs : List Value) → j.put ≡ v ∷ vs → own_held ++ x ∷ [] ≡ packet_of (written v) → still ≡ packets vs →
       LaterComes d (of d x ∷ capture) s own_joint
   own_ends v vs is same rest =
-      let can = subst (AllByRecursion CanBeWritten) is st.own.can in
-      let octets : IsOctets (written v) = octets_right (3 ∷ 0 ∷ _ ∷ _ ∷ []) (written v)
-      (subst IsOctets same (one_octet own_held x st.own.octets small)) in
-      let read = read_again v can.0 octets in
-      let front : front_of (own_held ++ x ∷ []) ≡ whole (written v) = ap front_of (same ∙ sym (append-nil (packet_of (written v))))
-      ∙ whole_front (written v) [] (some_octets v) in
-      let at = own_now.at in
-      let after_it : Course = packet_passes d at (written v) own_course in
-      let last : Joint = record own_joint { put = vs; begun = false; course = units_pass d at (v ∷ []) own_joint.course } in
-      let course : after_it ≡ last.course = grind (arith, begins) in
-      let own : OwnStands [] still vs false =
-      record { octets = octets_nil; part = refl; all = rest; begun_so = refl; can = can.1 } in
+      let e = packet_ends d s.course j.judge own_held still x v vs own_now.at st.course small st.own is same rest in
+      let after_it : Course = packet_passes d own_now.at (written v) own_course in
+      let last : Joint = record own_joint { put = vs; begun = false; judge = units_pass d own_now.at (v ∷ []) own_joint.judge } in
       let next : State = with_stream d (advanced own_now) (record s { course = after_it }) in
-      later_first d (of d x ∷ capture) s (passes_own at v) own_joint last (read, octets, is, refl, refl) (λ spent. tt)
+      later_first d (of d x ∷ capture) s (passes_own own_now.at v) own_joint last (e.read, e.octets, (is, refl, refl)) (λ spent. tt)
       (later_octet d (of d x) capture s last
-      (subst (λ (t : State). LaterComes d capture t last) (sym (passes_so d x s (whole (written v)) st.own_reads front))
-      (on next last refl (own_moved d (advanced own_now) s after_it last still ahead course st.own_reads own
-      (units_kept (IsHalted (other d)) (halted_claim (other d)) d at (v ∷ []) own_joint.course own_halted) st.others))))
+      (subst (λ (t : State). LaterComes d capture t last) (sym (passes_so d x s (whole (written v)) st.own_reads e.front))
+      (on next last refl (own_moved d (advanced own_now) s after_it last still ahead e.course st.own_reads e.own
+      (units_kept (IsHalted (other d)) (halted_claim (other d)) d own_now.at (v ∷ []) own_joint.judge own_halted) st.others))))
 
   own_octet : LaterComes d (of d x ∷ capture) s j
   own_octet =
@@ -199,21 +191,21 @@ module _ (d : Direction) (x : ℕ) (capture : Capture) (s : State) (j : Joint) (
 -- ---- an octet of the other side
 
 other_begins : (d : Direction) (capture : Capture) (s : State) (held : List ℕ) (j : Joint) →
-    LaterComes d capture s (record j { course = begins (other d) held j.course }) → LaterComes d capture s j
+    LaterComes d capture s (record j { judge = begins (other d) held j.judge }) → LaterComes d capture s j
 other_begins d capture s [] j c =
-    later_first d capture s begins_other j (record j { course = begins (other d) [] j.course }) refl (λ spent. tt) c
+    later_first d capture s begins_other j (record j { judge = begins (other d) [] j.judge }) refl (λ spent. tt) c
 other_begins d capture s (o ∷ held) j c = c
 
 module _ (d : Direction) (x : ℕ) (capture : Capture) (s : State) (j : Joint) (still ahead : List ℕ) (small : x < 256)
     (st : StandsLater d s j still ahead)
-    (on : (s2 : State) (j2 : Joint) → j2.holding ≡ j.holding → StandsLater d s2 j2 still (ahead ++ x ∷ []) →
+    (on : (s2 : State) (j2 : Joint) → j2.end ≡ j.end → StandsLater d s2 j2 still (ahead ++ x ∷ []) →
     LaterComes d capture s2 j2) where
-  more_passed : (us : List (List ℕ)) (r : List ℕ) → ArePackets us ((j.holding.held.octets ++ ahead) ++ x ∷ []) r →
-      ArePackets us (j.holding.held.octets ++ (ahead ++ x ∷ [])) r
-  more_passed us r p = subst (λ (l : List ℕ). ArePackets us l r) (append_assoc j.holding.held.octets ahead (x ∷ [])) p
+  more_passed : (us : List (List ℕ)) (r : List ℕ) → ArePackets us ((j.end.held.octets ++ ahead) ++ x ∷ []) r →
+      ArePackets us (j.end.held.octets ++ (ahead ++ x ∷ [])) r
+  more_passed us r p = subst (λ (l : List ℕ). ArePackets us l r) (append_assoc j.end.held.octets ahead (x ∷ [])) p
 
-  module _ (spent : (stream_of (other d) s).spent ≡ true) (rest : List ℕ) (e : OtherEnds rest ahead j.holding j.coming) where
-    ends_now : OtherEnds (rest ++ x ∷ []) (ahead ++ x ∷ []) j.holding j.coming
+  module _ (spent : (stream_of (other d) s).spent ≡ true) (rest : List ℕ) (e : OtherEnds rest ahead j.end j.coming) where
+    ends_now : OtherEnds (rest ++ x ∷ []) (ahead ++ x ∷ []) j.end j.coming
     ends_now = record {
       octets = one_octet rest x e.octets small;
       never = λ more. subst IsNoFront (sym (append_assoc rest (x ∷ []) more)) (e.never (x ∷ more));
@@ -227,7 +219,7 @@ module _ (d : Direction) (x : ℕ) (capture : Capture) (s : State) (j : Joint) (
         (subst (λ (z : State). LaterComes d capture z j) (sym (spent_passes (other d) x s spent))
         (on (with_stream (other d) t s) j refl (grind (arith, other_moved, ends_now))))
 
-  module _ (reads : (stream_of (other d) s).spent ≡ false) (os : OtherStands (stream_of (other d) s).held ahead j.holding j.coming) where
+  module _ (reads : (stream_of (other d) s).spent ≡ false) (os : OtherStands (stream_of (other d) s).held ahead j.end j.coming) where
     abbrev other_held : List ℕ
     other_held = (stream_of (other d) s).held
 
@@ -235,19 +227,19 @@ module _ (d : Direction) (x : ℕ) (capture : Capture) (s : State) (j : Joint) (
     other_now = gathered (x ∷ []) (stream_of (other d) s)
 
     abbrev other_joint : Joint
-    other_joint = record j { course = begins (other d) other_held j.course }
+    other_joint = record j { judge = begins (other d) other_held j.judge }
 
     abbrev other_course : Course
     other_course = begins (other d) other_held s.course
 
-    other_halted : IsHalted (other d) other_joint.course
+    other_halted : IsHalted (other d) other_joint.judge
     other_halted = grind arith
 
-    same_course : other_course ≡ other_joint.course
+    same_course : other_course ≡ other_joint.judge
     same_course = ap (begins (other d) other_held) st.course
 
-    cut_now : j.holding.end.carrier.ended ≡ None →
-        ArePackets j.coming (j.holding.held.octets ++ (ahead ++ x ∷ [])) (other_held ++ x ∷ [])
+    cut_now : j.end.end.carrier.ended ≡ None →
+        ArePackets j.coming (j.end.held.octets ++ (ahead ++ x ∷ [])) (other_held ++ x ∷ [])
     cut_now lasts = grind (arith, more_passed, packets_on)
 
     other_goes_on : front_of (other_held ++ x ∷ []) ≡ partial → LaterComes d (of (other d) x ∷ capture) s other_joint
@@ -262,7 +254,7 @@ module _ (d : Direction) (x : ℕ) (capture : Capture) (s : State) (j : Joint) (
     other_faults f is =
         let after_it : Course = unread (other d) other_now.at (BadPacket f) other_course in
         let next : State = with_stream (other d) (ended other_now) (record s { course = after_it }) in
-        let course : after_it ≡ other_joint.course = grind (arith, same_course, unread_same, other_halted) in
+        let course : after_it ≡ other_joint.judge = grind (arith, same_course, unread_same, other_halted) in
         later_octet d (of (other d) x) capture s other_joint
         (subst (λ (t : State). LaterComes d capture t other_joint) (sym (passes_so (other d) x s (faulty f) reads is))
         (on next other_joint refl (other_moved d (ended other_now) s after_it other_joint still (ahead ++ x ∷ []) course st.own_reads st.own
@@ -275,12 +267,12 @@ module _ (d : Direction) (x : ℕ) (capture : Capture) (s : State) (j : Joint) (
         let after_it : Course = packet_passes (other d) other_now.at u other_course in
         let units = units_by (units_of u) in
         let last : Joint = record other_joint {
-          course = units_pass (other d) other_now.at units other_joint.course;
+          judge = units_pass (other d) other_now.at units other_joint.judge;
           coming = j.coming ++ u ∷ [];
         } in
-        let course : after_it ≡ last.course = grind (arith, same_course, unread_same) in
+        let course : after_it ≡ last.judge = grind (arith, same_course, unread_same) in
         let octets : IsOctets u = octets_right (_ ∷ _ ∷ _ ∷ _ ∷ []) u (subst IsOctets packet.spelled packet.octets) in
-        let others : OtherStands [] (ahead ++ x ∷ []) j.holding (j.coming ++ u ∷ []) = record {
+        let others : OtherStands [] (ahead ++ x ∷ []) j.end (j.coming ++ u ∷ []) = record {
           octets = octets_nil;
           part = refl;
           cut = grind (arith, more_passed, packets_then, append-nil);
@@ -291,7 +283,7 @@ module _ (d : Direction) (x : ℕ) (capture : Capture) (s : State) (j : Joint) (
         (later_octet d (of (other d) x) capture s last
         (subst (λ (t : State). LaterComes d capture t last) (sym (passes_so (other d) x s (whole u) reads front))
         (on next last refl (other_moved d (advanced other_now) s after_it last still (ahead ++ x ∷ []) course st.own_reads st.own
-        (units_kept (IsHalted (other d)) (halted_claim (other d)) (other d) other_now.at units other_joint.course other_halted)
+        (units_kept (IsHalted (other d)) (halted_claim (other d)) (other d) other_now.at units other_joint.judge other_halted)
         (inl (reads, others))))))
 
     reads_octet : LaterComes d (of (other d) x ∷ capture) s j
@@ -302,7 +294,7 @@ module _ (d : Direction) (x : ℕ) (capture : Capture) (s : State) (j : Joint) (
         by (faulty fault) is = other_faults fault is
         by (whole u) is = other_ends u is
 
-  other_octet : OtherReads (stream_of (other d) s) ahead j.holding j.coming → LaterComes d (of (other d) x ∷ capture) s j
+  other_octet : OtherReads (stream_of (other d) s) ahead j.end j.coming → LaterComes d (of (other d) x ∷ capture) s j
   other_octet h = grind (arith, reads_octet, spent_octet)
 
 -- ---- a turn
@@ -311,26 +303,26 @@ module _ (d : Direction) (x : ℕ) (capture : Capture) (s : State) (j : Joint) (
 record Turned (d : Direction) (s : State) (j : Joint) (turn : Turn) (new : Holding) (still ahead : List ℕ) : Type 0 where
   later : Joint
   takes : TakesTurn turn j later
-  holding : later.holding ≡ new
+  end : later.end ≡ new
   stands : StandsLater d s later (still ++ turn.put) ahead
 
 module _ (d : Direction) (is_caller : Bool) (deeds : ℕ → Deeds) (s : State) (j : Joint) (turn : Turn) (new : Holding)
-    (still ahead : List ℕ) (takes : Takes j.holding turn new) (at : TurnOf is_caller deeds turn j.holding new)
+    (still ahead : List ℕ) (takes : Takes j.end turn new) (at : TurnOf is_caller deeds turn j.end new)
     (st : StandsLater d s j still (turn.used ++ ahead)) where
-  turned_by : (rest : List ℕ) → OtherRest rest (turn.used ++ ahead) j.holding j.coming →
+  turned_by : (rest : List ℕ) → OtherRest rest (turn.used ++ ahead) j.end j.coming →
       ((later : List (List ℕ)) → (new.end.carrier.ended ≡ None → ArePackets later (new.held.octets ++ ahead) rest) →
       OtherReads (stream_of (other d) s) ahead new later) → Turned d s j turn new still ahead
   turned_by rest e reads =
       let on = at.on in
       let units = all_units on.put in
       let mine = (stream_of d s).held in
-      let u = uses rest ahead j.coming is_caller deeds j.holding turn new takes on e j.holding.end.carrier.ended
+      let u = uses rest ahead j.coming is_caller deeds j.end turn new takes on e j.end.end.carrier.ended
       new.end.carrier.ended refl refl in
       let both : (mine ++ still) ++ turn.put ≡ packets j.put ++ packets units = (λ i. st.own.all i ++ on.written i) in
       record {
-        later = record j { holding = new; put = j.put ++ units; coming = u.later };
+        later = record j { end = new; put = j.put ++ units; coming = u.later };
         takes = takes_turn is_caller deeds turn j new takes on u.used u.later u.rest u.parts u.cut u.kept u.all;
-        holding = refl;
+        end = refl;
         stands = record {
           course = st.course;
           own_reads = st.own_reads;
@@ -340,19 +332,19 @@ module _ (d : Direction) (is_caller : Bool) (deeds : ℕ → Deeds) (s : State) 
         };
       }
 
-  turned : OtherReads (stream_of (other d) s) (turn.used ++ ahead) j.holding j.coming → Turned d s j turn new still ahead
+  turned : OtherReads (stream_of (other d) s) (turn.used ++ ahead) j.end j.coming → Turned d s j turn new still ahead
   turned (inl (reads, os)) =
-      turned_by (stream_of (other d) s).held (rest_of (stream_of (other d) s).held (turn.used ++ ahead) j.holding j.coming os)
+      turned_by (stream_of (other d) s).held (rest_of (stream_of (other d) s).held (turn.used ++ ahead) j.end j.coming os)
       (λ later left. inl (reads, record { octets = os.octets; part = os.part; cut = left }))
   turned (inr (spent, rest, e)) =
-      turned_by rest (ends_rest rest (turn.used ++ ahead) j.holding j.coming e)
+      turned_by rest (ends_rest rest (turn.used ++ ahead) j.end j.coming e)
       (λ later left. inr (spent, rest, record { octets = e.octets; never = e.never; cut = left }))
 
 -- ---- all of the rest
 
 pub later_steps : (d : Direction) (is_caller : Bool) (still ahead : List ℕ) (capture : Capture) (turns_left : List Turn) →
     Follows d still ahead capture turns_left → (deeds : ℕ → Deeds) (s : State) (j : Joint) (end : Holding) → AreOctets capture →
-    TurnsOf is_caller deeds j.holding turns_left end → StandsLater d s j still ahead → LaterComes d capture s j
+    TurnsOf is_caller deeds j.end turns_left end → StandsLater d s j still ahead → LaterComes d capture s j
 later_steps d is_caller _ _ _ _ (all_passed still ahead left) deeds s j end octets does st =
     record { steps = []; last = j; along = refl; all = st.course; no_more = λ spent. tt }
 later_steps d is_caller _ _ _ _ (own_passes x o all still ahead capture left is front more) deeds s j end octets does st =
@@ -372,4 +364,4 @@ later_steps d is_caller _ _ _ _ (turn_taken turn still all ahead capture left is
     let k = turned d is_caller deeds s j turn does.0 still ahead does.1 does.2 here here.others in
     later_first d capture s (turns turn) j k.later k.takes (λ spent. tt)
     (later_steps d is_caller (still ++ turn.put) ahead capture left more (all_did deeds does.2.on.more) s k.later end octets
-    (subst (λ (h : Holding). TurnsOf is_caller (all_did deeds does.2.on.more) h left end) (sym k.holding) does.3) k.stands)
+    (subst (λ (h : Holding). TurnsOf is_caller (all_did deeds does.2.on.more) h left end) (sym k.end) does.3) k.stands)

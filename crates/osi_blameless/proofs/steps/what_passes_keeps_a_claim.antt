@@ -31,7 +31,7 @@ module _ (P : Course → Type 0) (k : IsClaim P) where
       after_kept capture (octet_passes (of d o) s) (octet_by (stream_of d s).spent d (o ∷ []) s h)
 
   -- the steps of an end and of the judge
-  pub step_kept : (d : Direction) (step : Step) (old new : Joint) → Steps d step old new → P old.course → P new.course
+  pub step_kept : (d : Direction) (step : Step) (old new : Joint) → Steps d step old new → P old.judge → P new.judge
   step_kept d step old new t h = grind (arith, units_kept)
 
 -- one capture after the other

@@ -2,22 +2,20 @@
 -- them, and no others.
 -- For the sessions of an end, and for the law that a capture of an end is steps.
 use Rattle.osi_blameless.proofs.Vocabulary.{[], ap, Bool, List, None, Option, refl, Some, sym, ℕ, ◌++◌, ◌∙◌, ◌∷◌, ◌≡◌, ◌≢◌, ◌⊎◌, ArePackets}
-use Rattle.osi_blameless.proofs.Vocabulary.{Holding, Capture, Direction, EndReason, all_did, Continues, Deeds, no_deeds, Takes}
-use Rattle.osi_blameless.proofs.Vocabulary.{FirstOf, Life, stage_at, ◌<◌}
-use Rattle.osi_blameless.proofs.Vocabulary.{Value, units_in, all_units, Turn, comes_to, begins_other, begins_own, Joint, passes_other}
-use Rattle.osi_blameless.proofs.Vocabulary.{passes_own, Step}
-use Rattle.osi_blameless.proofs.Vocabulary.{Steps, StepsAlong, TakesTurn, turns, ComesBySteps, TurnsBad, begin}
-use Rattle.osi_blameless.specs.transport.Pieces as pieces
+use Rattle.osi_blameless.proofs.Vocabulary.{Holding, Capture, Direction, EndReason, all_did, Continues, Deeds, no_deeds, Takes, FirstOf}
+use Rattle.osi_blameless.proofs.Vocabulary.{Life, stage_at, ◌<◌, Value, units_in, all_units, Turn, comes_to, begins_other, begins_own}
+use Rattle.osi_blameless.proofs.Vocabulary.{Joint, passes_other, passes_own, Step, Steps, StepsAlong, TakesTurn, turns, ComesBySteps}
+use Rattle.osi_blameless.proofs.Vocabulary.{TurnsBad, begin}
 use Rattle.osi_blameless.specs.Spoilt.{GoesOn}
-use Rattle.osi_blameless.proofs.small_facts_that_many_lemmas_use.{same_units, units_join}
 use Rattle.osi_blameless.proofs.steps.the_packets_that_an_end_took_come_first.{are_first}
+use Rattle.osi_blameless.proofs.transport.small_facts_that_many_lemmas_use.{units_join}
 
 -- what a turn does at each connection, at which this was done before
 pub record TurnDoes (is_caller : Bool) (deeds : ℕ → Deeds) (turn : Turn) (old new : Joint) (t : TakesTurn turn old new) : Type 0 where
-  pub on : Continues is_caller deeds old.holding turn new.holding
-  pub life : (r : ℕ) → 0 < r → Life is_caller r (stage_at r old.holding.end.carrier) on.took on.put (stage_at r new.holding.end.carrier)
+  pub on : Continues is_caller deeds old.end turn new.end
+  pub life : (r : ℕ) → 0 < r → Life is_caller r (stage_at r old.end.end.carrier) on.took on.put (stage_at r new.end.end.carrier)
   -- if the connection awaits its CC
-  pub first : (r : ℕ) → 0 < r → FirstOf is_caller r old.holding.end.carrier on.took on.put new.holding.end.carrier
+  pub first : (r : ℕ) → 0 < r → FirstOf is_caller r old.end.end.carrier on.took on.put new.end.end.carrier
   pub units : t.units ≡ all_units on.put
 
 -- and what each turn among these steps does
@@ -34,34 +32,34 @@ StepsDo d is_caller deeds old (passes_other at packet units ∷ steps) new along
 -- the units of these packets that an end took, and those that it left
 pub record TakesFirst (old : Holding) (used : List (List ℕ)) (took : List Value) (new : Holding) : Type 0 where
   pub left : List Value
-  pub first : old.end.carrier.ended ≡ None → pieces.units_in used ≡ took ++ left
+  pub first : old.end.carrier.ended ≡ None → units_in used ≡ took ++ left
   pub none_left : new.end.carrier.ended ≡ None → left ≡ []
 
-module _ (is_caller : Bool) (deeds : ℕ → Deeds) (turn : Turn) (j : Joint) (new : Holding) (takes : Takes j.holding turn new)
-    (on : Continues is_caller deeds j.holding turn new) (used later : List (List ℕ)) (rest : List ℕ) (coming : j.coming ≡ used ++ later)
-    (cut : j.holding.end.carrier.ended ≡ None → ArePackets used (j.holding.held.octets ++ turn.used) rest)
+module _ (is_caller : Bool) (deeds : ℕ → Deeds) (turn : Turn) (j : Joint) (new : Holding) (takes : Takes j.end turn new)
+    (on : Continues is_caller deeds j.end turn new) (used later : List (List ℕ)) (rest : List ℕ) (coming : j.coming ≡ used ++ later)
+    (cut : j.end.end.carrier.ended ≡ None → ArePackets used (j.end.held.octets ++ turn.used) rest)
     (held : new.end.carrier.ended ≡ None → rest ≡ new.held.octets)
-    (all : j.holding.end.carrier.ended ≡ None → new.end.carrier.ended ≢ None → (more : List (List ℕ)) (last : List ℕ) →
+    (all : j.end.end.carrier.ended ≡ None → new.end.carrier.ended ≢ None → (more : List (List ℕ)) (last : List ℕ) →
     ArePackets more rest last → more ≡ []) where
-  pub first_by : (o : Option EndReason) → j.holding.end.carrier.ended ≡ o → TakesFirst j.holding used (units_in on.used) new
+  pub first_by : (o : Option EndReason) → j.end.end.carrier.ended ≡ o → TakesFirst j.end used (units_in on.used) new
   first_by (Some reason) over = record {
     left = [];
     first = λ lasts. absurd (let no : Some reason ≡ None = sym over ∙ lasts in cc);
     none_left = λ still. refl;
   }
   first_by None lasts =
-      let a = are_first on.used used (j.holding.held.octets ++ turn.used) on.rest rest new.end.carrier.ended on.cut (cut lasts)
+      let a = are_first on.used used (j.end.held.octets ++ turn.used) on.rest rest new.end.carrier.ended on.cut (cut lasts)
       (λ still. on.held still ∙ sym (held still)) (all lasts) in
       record {
         left = units_in a.more;
-        first = λ l. ap pieces.units_in a.is ∙ same_units (on.used ++ a.more) ∙ units_join on.used a.more;
+        first = λ l. ap units_in a.is ∙ units_join on.used a.more;
         none_left = λ still. ap units_in (a.all still);
       }
 
   -- so an end takes this turn whose connections go on so, with these packets of those that have passed
-  abbrev pub takes_turn : TakesTurn turn j (record j { holding = new; put = j.put ++ all_units on.put; coming = later })
+  abbrev pub takes_turn : TakesTurn turn j (record j { end = new; put = j.put ++ all_units on.put; coming = later })
   takes_turn =
-      let f = first_by j.holding.end.carrier.ended refl in
+      let f = first_by j.end.end.carrier.ended refl in
       record {
         takes = takes;
         units = all_units on.put;
@@ -103,8 +101,8 @@ pub record ComesByDoing (d : Direction) (is_caller : Bool) (capture : Capture) (
   pub last : Joint
   pub along : StepsAlong d (begin first) steps last
   pub does : StepsDo d is_caller (λ r. no_deeds) (begin first) steps last along
-  pub all : ((comes_to capture).course ≡ last.course) ⊎ TurnsBad d capture last.course
-  pub on : ((comes_to capture).course ≡ last.course) ⊎ GoesOn d capture last
+  pub all : ((comes_to capture).course ≡ last.judge) ⊎ TurnsBad d capture last.judge
+  pub on : ((comes_to capture).course ≡ last.judge) ⊎ GoesOn d capture last
 
 pub comes_by_steps : (d : Direction) (is_caller : Bool) (capture : Capture) (first : Holding) → ComesByDoing d is_caller capture first →
     ComesBySteps d capture first

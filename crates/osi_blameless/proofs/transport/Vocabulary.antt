@@ -110,7 +110,8 @@ pub use Rattle.osi_blameless.specs.transport.Lines.{after_finding, answering_lin
 pub use Rattle.osi_blameless.specs.transport.Lines.{finding_of, ignores}
 pub use Rattle.osi_blameless.specs.transport.Lines.{moves, opened_half, opened_line, passes_other, passes_own, units_put, units_taken}
 pub use Rattle.osi_blameless.specs.transport.Naming.{HoldsOfOne, Passing, all_passed, packet, passes, rubbish, unit}
-pub use Rattle.osi_blameless.specs.transport.Pieces.{IsFed, units_by, units_in}
+pub use Rattle.osi_blameless.specs.transport.Pieces.{IsFed}
+pub use Rattle.osi_blameless.specs.Packets.{units_by, units_in}
 pub use Rattle.osi_blameless.specs.transport.Wholes.{Becomes, Event, HappenAlong, Happens, MayCall, Whole, arrives, begin, begins_other}
 pub use Rattle.osi_blameless.specs.transport.Wholes.{begins_own, calls}
 pub use Rattle.osi_blameless.specs.transport.Wholes.{passes_rubbish}

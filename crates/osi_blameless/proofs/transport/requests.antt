@@ -1,14 +1,16 @@
 -- A calling end asks for connections with references that rise, and no CR is blamed.
 pub mod references_of_requests_rise
 pub mod a_new_reference_is_not_in_use
+pub mod what_lasts_at_the_judge
 pub mod one_request_waits
 pub mod a_refused_request_waits_no_more
 pub mod what_a_carrier_puts
 pub mod while_no_class_is_selected
 pub mod an_end_has_broken_no_rule
-pub mod what_lasts_at_the_judge
 pub mod a_connection_is_lost_in_class_2_alone
 pub mod which_requests_are_put
+pub mod a_cc_is_put_only_for_a_cr
+pub mod units_that_wait_give_references_above_those_that_passed
 pub mod a_request_of_a_whole_end_is_new
 pub mod left_selects_no_class
 pub mod class_0_stays_selected

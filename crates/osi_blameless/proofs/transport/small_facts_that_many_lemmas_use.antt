@@ -8,6 +8,8 @@ use Rattle.osi_blameless.proofs.transport.Vocabulary.{is_some, List, list_any, N
 use Rattle.osi_blameless.proofs.transport.Vocabulary.{set, sized}
 use Rattle.osi_blameless.proofs.transport.Vocabulary.{slice_get, Some, suc, Traffic, true, Value, zero, ℕ, ◌&&◌, ◌++◌, ◌==◌, ◌||◌, ◌∙◌, ◌∷◌}
 use Rattle.osi_blameless.proofs.transport.Vocabulary.{◌≡◌}
+use Rattle.osi_blameless.proofs.transport.Vocabulary.{eq-eqb, flat_map-append, units_by, units_in, units_of}
+use Rattle.osi_blameless.proofs.transport.Vocabulary.{Reach, judged_on}
 
 pub all_add : {X : Type 0} (P : X → Type 0) (vs : List X) (v : X) → AllByRecursion P vs → P v → AllByRecursion P (vs ++ v ∷ [])
 all_add P [] v a p = (p, tt)
@@ -144,3 +146,20 @@ half_keeps u half none = grind (arith, closing_same)
 
 pub half_started : (u : Value) (half : Half) → is_silent half.phase ≡ false → is_silent (half_after u half).phase ≡ false
 half_started u half h = grind arith
+
+pub units_join : (us vs : List (List ℕ)) → units_in (us ++ vs) ≡ units_in us ++ units_in vs
+units_join us vs = flat_map-append (λ packet. units_by (units_of packet)) us vs
+
+pub set_there : {X : Type 0} (xs : List X) (p : ℕ) (x y : X) → slice_get xs p ≡ Some y → slice_get (set xs p x) p ≡ Some x
+set_there [] p x y h = absurd (cc)
+set_there (z ∷ xs) zero x y h = refl
+set_there (z ∷ xs) (suc p) x y h = set_there xs p x y h
+
+pub unlike : (q p : ℕ) → (q == p) ≡ false → q ≡ p → ⊥
+unlike q p h e = differ (q == p) (ap (λ (x : ℕ). x == p) e ∙ eq-eqb p p refl) h
+
+pub left_judged : (r : Reach) (c : Connection) → (judged_on r c).left ≡ c.left
+left_judged r c = grind arith
+
+pub right_judged : (r : Reach) (c : Connection) → (judged_on r c).right ≡ c.right
+right_judged r c = grind arith

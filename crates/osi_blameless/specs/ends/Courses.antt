@@ -1,11 +1,9 @@
 -- The course of one connection of an end, of either class and among any number of others: the calls of its link, and what its
 -- session took and sent by them.
-use Rattle.std.specs.Prelude.{◌≡◌, ◌+◌, ◌<◌, ℕ, Bool, true, false, List, [], ◌∷◌, ◌++◌, map, Option, Some, None, IsSome, Result, Ok, Err}
+use Rattle.std.specs.Prelude.{◌≡◌, ◌+◌, ◌<◌, ℕ, Bool, true, false, List, [], ◌∷◌, ◌++◌, map, Option, Some, None, IsSome}
 use Rattle.std.specs.List.{AllByRecursion, flat_map}
 use Rattle.osi_tpkt.specs.Stream.{ArePackets}
-use Rattle.osi_tpdu.specs.Packet.{units_of}
 use Rattle.osi_tpdu.specs.Value.{Value}
-use Rattle.osi_tpdu.specs.declared.faults.TpduFault.{TpduFault}
 use Rattle.osi_class.specs.Between.{given_by}
 use Rattle.osi_class.specs.Link.{Given, Standing, unit_of}
 use Rattle.osi_class.specs.Runs.{Move, MovesAlong, give_out, hand_in, hand_out, take_in, tsdus_in, tsdus_out}
@@ -21,6 +19,7 @@ use Rattle.osi_stack.specs.Calls.{calls_with, has_given, terms_error}
 use Rattle.osi_stack.specs.Messages.{kept_at}
 use Rattle.osi_stack.specs.State.{End, Holding}
 use Rattle.osi_stack.specs.declared.connecting.Connect.{Connect}
+use Rattle.osi_blameless.specs.Packets.{units_in}
 use Rattle.osi_blameless.specs.ends.Arriving.{Lives}
 use Rattle.osi_blameless.specs.ends.Doing.{Makes}
 use Rattle.osi_blameless.specs.ends.Marked.{AreByLinks, Marked, all_units, units_at}
@@ -135,14 +134,6 @@ pub data Course (is_caller : Bool) (r : ℕ) (deeds : Deeds) (e : End) : Type 0 
   is_gone : Gone is_caller r deeds e → Course is_caller r deeds e
 
 -- ---- a turn
-
--- the units of these packets that can be read
-abbrev pub units_read : Result (List Value) TpduFault → List Value
-units_read (Ok units) = units
-units_read (Err fault) = []
-
-abbrev pub units_in : List (List ℕ) → List Value
-units_in packets = flat_map (λ packet. units_read (units_of packet)) packets
 
 -- More is done at each connection of an end.
 pub record Continues (is_caller : Bool) (deeds : ℕ → Deeds) (old : Holding) (turn : Turn) (new : Holding) : Type 0 where

@@ -7,7 +7,7 @@ use Rattle.osi_carrier.specs.Happenings.{Happening}
 use Rattle.osi_carrier.specs.Packets.{Carrying}
 use Rattle.osi_carrier.specs.Runs.{Call, Calls, calling, carried_in, carrying, feeding, put_back, telling, told_in, used_in}
 use Rattle.osi_rules.specs.declared.directions.Direction.{Direction}
-use Rattle.osi_blameless.specs.transport.Pieces.{units_in}
+use Rattle.osi_blameless.specs.Packets.{units_in}
 use Rattle.osi_blameless.specs.transport.Wholes.{Becomes, MayCall, Whole}
 
 -- a call of the user is one that is accepted

@@ -23,9 +23,9 @@ link_now (Some (closing peer)) = None
 pub record Follows (r peer : ℕ) (taken units : List Value) (old new : State) : Type 0 where
   pub acts : List Act
   pub outgoing : new.outgoing ≡ old.outgoing ++ packets units
-  pub along : (d : Direction) (line : Line) (later : List Value) → line.link ≡ link_now (value_at r old.live) →
+  pub along : (d : Direction) (line : Line) (later : List Value) → line.end ≡ link_now (value_at r old.live) →
       line.coming ≡ taken ++ later →
-      ActsAlong d r peer line acts (record line { link = link_now (value_at r new.live); put = line.put ++ units; coming = later })
+      ActsAlong d r peer line acts (record line { end = link_now (value_at r new.live); put = line.put ++ units; coming = later })
 
 -- ---- the rules of transport
 

@@ -16,20 +16,13 @@ use Rattle.osi_rules.specs.declared.halves.Phase.TheVariants.{Open}
 use Rattle.osi_rules.specs.Reaches.{is_applied, reach_of}
 use Rattle.osi_rules.specs.Sides.{other, own, theirs, seen, begins, is_named}
 use Rattle.osi_rules.specs.Traffic.{connection_after, found}
+use Rattle.osi_blameless.specs.EndAndJudge.{Along, BeginsOwn, Does, EndAndJudge, PassesOther, PassesOwn, Sees}
 
 -- ---- an end, the judge, and the units between them
 
-pub record Line : Type 0 where
-  -- the link of the end; none once the end has closed the connection
-  pub link : Option Standing
-  -- the units that the end has put and that have not passed, the oldest first; each goes in a packet of its own
-  pub put : List Value
-  -- the first of them has begun to pass
-  pub begun : Bool
-  -- what the judge knows of the connection
-  pub judge : Connection
-  -- the units of the other side that have passed and that the end has not taken, the oldest first
-  pub coming : List Value
+-- the end is its link, and none once it has closed the connection
+abbrev pub Line : Type 0
+Line = EndAndJudge (Option Standing) Connection Value
 
 -- ---- what happens
 
@@ -84,32 +77,27 @@ after_finding d finding v c = connection_after d v (is_applied finding) (reach_o
 -- The effect of each, at an end that sends in this direction and gave the connection the reference `r`. A unit of the other
 -- side after which both sides are not judged any more is the last thing that is looked at.
 abbrev pub Acts : Direction → (r peer : ℕ) → Act → Line → Line → Type 0
-Acts d r peer (moves move) old new = (link : Standing) × (after : Standing) × (old.link ≡ Some link) × Moves move link after
+Acts d r peer (moves move) old new = (link : Standing) × (after : Standing) × (old.end ≡ Some link) × Moves move link after
     × HandsInShort move
     × (old.coming ≡ units_taken move ++ new.coming)
-    × (new ≡ record old { link = Some after; put = old.put ++ units_put peer move; coming = new.coming })
-Acts d r peer (closes reason units) old new = (link : Standing) × (old.link ≡ Some link) × (old.coming ≡ units ++ new.coming)
-    × (new ≡ record old { link = None; put = old.put ++ disconnect peer r reason [] ∷ []; coming = new.coming })
-Acts d r peer (ignores units) old new = (old.link ≡ None) × (old.coming ≡ units ++ new.coming) × (new ≡ record old { coming = new.coming })
-Acts d r peer (answers unit) old new = (link : Standing) × (old.link ≡ Some link) × IsDisconnect unit × (old.coming ≡ unit ∷ new.coming)
-    × (new ≡ record old { link = None; put = old.put ++ disconnected peer r ∷ []; coming = new.coming })
-Acts d r peer begins_own old new = (old.put ≢ []) × (old.begun ≡ false) × (new ≡ record old { begun = true; judge = begins d old.judge })
-Acts d r peer (passes_own course in_use) old new = (unit : Value) × (old.put ≡ unit ∷ new.put) × (old.begun ≡ true)
-    × (new ≡ record old { put = new.put; begun = false; judge = after_finding d (finding_of d course in_use old.judge unit) unit old.judge })
-Acts d r peer begins_elsewhere old new = (old.begun ≡ false) × (new ≡ record old { judge = begins d old.judge })
-Acts d r peer begins_other old new = new ≡ record old { judge = begins (other d) old.judge }
+    × Does (Some after) (units_put peer move) new.coming old new
+Acts d r peer (closes reason units) old new = (link : Standing) × (old.end ≡ Some link) × (old.coming ≡ units ++ new.coming)
+    × Does None (disconnect peer r reason [] ∷ []) new.coming old new
+Acts d r peer (ignores units) old new = (old.end ≡ None) × (old.coming ≡ units ++ new.coming) × (new ≡ record old { coming = new.coming })
+Acts d r peer (answers unit) old new = (link : Standing) × (old.end ≡ Some link) × IsDisconnect unit × (old.coming ≡ unit ∷ new.coming)
+    × Does None (disconnected peer r ∷ []) new.coming old new
+Acts d r peer begins_own old new = BeginsOwn (begins d) old new
+Acts d r peer (passes_own course in_use) old new = (unit : Value)
+    × PassesOwn unit (λ c. after_finding d (finding_of d course in_use c unit) unit c) old new
+Acts d r peer begins_elsewhere old new = (old.begun ≡ false) × Sees (begins d) old new
+Acts d r peer begins_other old new = Sees (begins (other d)) old new
 Acts d r peer (passes_other course in_use unit) old new = HasFieldsInRange unit × (destination_of unit ≡ Some r)
     × (reach_of (Some Two) (finding_of (other d) course in_use old.judge unit) ≢ reach.Everything)
-    × (new ≡ record old {
-      judge = after_finding (other d)
-          (finding_of (other d) course in_use old.judge unit) unit old.judge;
-      coming = old.coming ++ unit ∷ [];
-    })
+    × PassesOther unit (λ c. after_finding (other d) (finding_of (other d) course in_use c unit) unit c) old new
 
 -- one after the other
 abbrev pub ActsAlong : Direction → (r peer : ℕ) → Line → List Act → Line → Type 0
-ActsAlong d r peer old [] new = new ≡ old
-ActsAlong d r peer old (act ∷ acts) new = (mid : Line) × Acts d r peer act old mid × ActsAlong d r peer mid acts new
+ActsAlong d r peer old acts new = Along (Acts d r peer) old acts new
 
 -- ---- an opened connection
 
@@ -123,7 +111,7 @@ pub record IsOpened (d : Direction) (r peer : ℕ) (line : Line) : Type 0 where
   pub size : ℕ
   pub window : ℕ
   pub credit : ℕ
-  pub link : line.link ≡ Some (two_standing (fresh_two size window credit).ends (fresh_two size window credit).flow)
+  pub link : line.end ≡ Some (two_standing (fresh_two size window credit).ends (fresh_two size window credit).flow)
   pub put : line.put ≡ []
   pub begun : line.begun ≡ false
   pub coming : line.coming ≡ []
@@ -152,13 +140,13 @@ IsFair d line = line.begun ≡ true → line.judge.is_judged ≡ true → IsRigh
 
 -- the line of a connection whose CC has just passed
 abbrev pub opened_line : Standing → Connection → Line
-opened_line link judge = record { link = Some link; put = []; begun = false; judge = judge; coming = [] }
+opened_line link judge = record { end = Some link; put = []; begun = false; judge = judge; coming = [] }
 
 -- ---- before the CC has passed
 
 -- the line of a connection of which this end has put the CC, and nothing else
 abbrev pub answering_line : Standing → (cc : Value) → Connection → Line
-answering_line link cc judge = record { link = Some link; put = cc ∷ []; begun = false; judge = judge; coming = [] }
+answering_line link cc judge = record { end = Some link; put = cc ∷ []; begun = false; judge = judge; coming = [] }
 
 -- no unit passes whole
 abbrev pub PassesNone : Act → Type 0

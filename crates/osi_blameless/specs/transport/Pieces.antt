@@ -1,22 +1,11 @@
 -- What a whole end does with a piece of its stream, however the stream is cut.
-use Rattle.std.specs.Prelude.{◌≡◌, ℕ, List, [], ◌∷◌, ◌++◌, take, None, Result, Ok, Err}
+use Rattle.std.specs.Prelude.{◌≡◌, ℕ, List, ◌++◌, take, None}
 use Rattle.osi_tpkt.specs.Stream.{ArePackets}
-use Rattle.osi_tpdu.specs.Packet.{units_of}
 use Rattle.osi_tpdu.specs.Value.{Value}
-use Rattle.osi_tpdu.specs.declared.faults.TpduFault.{TpduFault}
 use Rattle.osi_carrier.specs.Packets.{Carrying}
 use Rattle.osi_rules.specs.declared.directions.Direction.{Direction}
+use Rattle.osi_blameless.specs.Packets.{units_in}
 use Rattle.osi_blameless.specs.transport.Wholes.{Becomes, Whole}
-
--- the units of a packet; none if it can't be read
-abbrev pub units_by : Result (List Value) TpduFault → List Value
-units_by (Ok units) = units
-units_by (Err fault) = []
-
--- the units of packets, in order
-abbrev pub units_in : List (List ℕ) → List Value
-units_in [] = []
-units_in (packet ∷ packets) = units_by (units_of packet) ++ units_in packets
 
 -- The octets that the carrier held and some of the piece are these packets and a rest. If the units of the packets are the next
 -- to come, what the carrier does with the piece is events of its whole end. As long as it has not ended, it used so much of the

@@ -1,6 +1,6 @@
--- A whole end of a byte connection, and a judge that is fed what passes anywhere between it and the other side: the carrier of
--- the end, what the rules of transport know, and the units in flight. `Lines` has the same of one connection.
-use Rattle.std.specs.Prelude.{◌≡◌, ◌≢◌, ◌≤◌, Bool, true, false, List, [], ◌∷◌, ◌++◌, length, None}
+-- A whole end of a byte connection and a judge (`EndAndJudge`): the carrier of the end, what the rules of transport know, and the units
+-- in flight. `Lines` has the same of one connection.
+use Rattle.std.specs.Prelude.{◌≡◌, ◌≤◌, Bool, false, List, [], ◌∷◌, ◌++◌, length, None}
 use Rattle.std.specs.List.{AllByRecursion}
 use Rattle.osi_tpdu.specs.Value.{Value, HasFieldsInRange}
 use Rattle.osi_class.specs.Limits.{longest_tsdu}
@@ -12,18 +12,11 @@ use Rattle.osi_carrier.specs.State.{State, packets}
 use Rattle.osi_rules.specs.declared.directions.Direction.{Direction}
 use Rattle.osi_rules.specs.Sides.{other}
 use Rattle.osi_rules.specs.Traffic.{State as Traffic, fresh, packet_begins, refused, takes}
+use Rattle.osi_blameless.specs.EndAndJudge.{Along, BeginsOwn, Does, EndAndJudge, PassesOther, PassesOwn, Sees}
 
-pub record Whole : Type 0 where
-  -- the carrier of the end
-  pub end : State
-  -- the units that it has put and that have not passed, the oldest first; each goes in a packet of its own
-  pub put : List Value
-  -- the first of them has begun to pass
-  pub begun : Bool
-  -- what the judge knows
-  pub judge : Traffic
-  -- the units of the other side that have passed and that the end has not taken, the oldest first
-  pub coming : List Value
+-- the end is its carrier, and the judge knows what the rules of transport know
+abbrev pub Whole : Type 0
+Whole = EndAndJudge State Traffic Value
 
 pub data Event : Type 0 where
   -- the end takes the next unit that has come; its user makes a call
@@ -48,21 +41,17 @@ MayCall (breaks reason) s = Unit {0}
 -- the effect of each, at an end that sends in this direction
 abbrev pub Happens : Direction → Event → Whole → Whole → Type 0
 Happens d arrives old new = (unit : Value) × (old.coming ≡ unit ∷ new.coming)
-    × (new ≡ record old { end = react unit old.end; put = old.put ++ put_for unit old.end; coming = new.coming })
-Happens d (calls call) old new = MayCall call old.end
-    × (new ≡ record old { end = user_does call old.end; put = old.put ++ put_by call old.end })
-Happens d begins_own old new = (old.put ≢ []) × (old.begun ≡ false) × (new ≡ record old { begun = true; judge = packet_begins d old.judge })
-Happens d passes_own old new = (unit : Value) × (old.put ≡ unit ∷ new.put) × (old.begun ≡ true)
-    × (new ≡ record old { put = new.put; begun = false; judge = (takes d unit old.judge).state })
-Happens d begins_other old new = new ≡ record old { judge = packet_begins (other d) old.judge }
-Happens d (passes_other unit) old new = HasFieldsInRange unit
-    × (new ≡ record old { judge = (takes (other d) unit old.judge).state; coming = old.coming ++ unit ∷ [] })
-Happens d passes_rubbish old new = new ≡ record old { judge = refused (other d) old.judge }
+    × Does (react unit old.end) (put_for unit old.end) new.coming old new
+Happens d (calls call) old new = MayCall call old.end × Does (user_does call old.end) (put_by call old.end) old.coming old new
+Happens d begins_own old new = BeginsOwn (packet_begins d) old new
+Happens d passes_own old new = (unit : Value) × PassesOwn unit (λ s. (takes d unit s).state) old new
+Happens d begins_other old new = Sees (packet_begins (other d)) old new
+Happens d (passes_other unit) old new = HasFieldsInRange unit × PassesOther unit (λ s. (takes (other d) unit s).state) old new
+Happens d passes_rubbish old new = Sees (refused (other d)) old new
 
 -- one after the other
 abbrev pub HappenAlong : Direction → Whole → List Event → Whole → Type 0
-HappenAlong d old [] new = new ≡ old
-HappenAlong d old (event ∷ events) new = (mid : Whole) × Happens d event old mid × HappenAlong d mid events new
+HappenAlong d old events new = Along (Happens d) old events new
 
 -- nothing has happened yet
 abbrev pub begin : (is_caller : Bool) → Local → Whole

@@ -11,8 +11,9 @@
 //! - **What was right stays right** if more of the other side has passed: [`what_was_right_stays_right`]. `IsLater`
 //!   (`specs/transport/Later`) says what "more" is: later numbers, an AK that acknowledges DTs that were sent, an edge that has not moved
 //!   down.
-//! - **A `Line`** (`specs/transport/Lines`) is one open connection: the link of the end, the units that it has put and that have
-//!   not passed, what the judge knows, and the units that have passed and that the end has not taken. An `Act` is what may happen to it.
+//! - **An end and a judge** are one model here (`specs/EndAndJudge`): the end, the units that it has put and that have not passed, what
+//!   the judge knows, and the units that have passed and that the end has not taken. A line and a whole end are values of it.
+//! - **A `Line`** (`specs/transport/Lines`) is one open connection: the end is its link. An `Act` is what may happen to it.
 //!   Each unit of the end that passes is right, whatever the other side sends, as long as the connection is judged:
 //!   [`an_open_end_is_fair`].
 //! - **How a line begins**: the CC of a called end is right, and after a CC of class 2 the connection is open as a line begins, at
@@ -33,7 +34,7 @@
 //! - **Answers without an open connection**, a DR that refuses a CR and a DC for a DR that closed nothing, are not blamed either,
 //!   and each DR closed nothing that doesn't just close an open connection: [`what_belongs_to_no_open_connection`].
 //!
-//! - **A whole end** (`specs/transport/Wholes`) is a carrier, what the judge knows, and the units between them; an `Event` is what may
+//! - **A whole end** (`specs/transport/Wholes`): the end is its carrier, and an `Event` is what may
 //!   happen to it. The units that its carrier puts are what it writes: [`what_a_carrier_puts`]. In any run of a
 //!   calling end no CR is blamed, as long as it is judged: [`no_request_is_blamed`]. If it offers class 2 alone, a DR
 //!   that it takes for a reference which is gone closed nothing at the judge, so the DC with which it answers is not blamed:
@@ -319,7 +320,7 @@ pub fn what_a_carrier_puts()
     ensures calls { (call : UserCall) (s : State) → (user_does call s).outgoing ≡ s.outgoing ++ packets (put_by call s) }
 {}
 
-/// No CR of a calling end is blamed. Take any run of a whole end from its beginning (`specs/Wholes`): any calls of its user,
+/// No CR of a calling end is blamed. Take any run of a whole end from its beginning (`specs/transport/Wholes`): any calls of its user,
 /// whatever units the other side sends, memory that runs out at any time, and a capture taken anywhere between the two ends. Then
 /// each of its CRs is right as it passes, or there are more connections than the rules look at, as long as this side is judged.
 pub fn no_request_is_blamed()

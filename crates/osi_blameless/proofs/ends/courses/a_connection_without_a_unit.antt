@@ -13,11 +13,11 @@ use Rattle.osi_blameless.proofs.ends.Vocabulary.{Rows, value_at, closing, Connec
 use Rattle.osi_blameless.proofs.ends.Vocabulary.{connects, has_given, hears, opens_line as opens, carrier_by, to_session, End, Line}
 use Rattle.osi_blameless.proofs.ends.Vocabulary.{answers_by}
 use Rattle.osi_blameless.proofs.ends.Vocabulary.{sent_unless, Request as Connect, GivesTo, Marked, put_sent, put_together}
-use Rattle.osi_blameless.proofs.ends.courses.how_long_a_connection_is_open.{Life, Rests, Stage, life_open, life_rests, stage_at, stage_by}
-use Rattle.osi_blameless.proofs.ends.courses.how_long_a_connection_is_open.{stage_there}
-use Rattle.osi_blameless.proofs.ends.courses.how_long_a_connection_is_open.Stage.{amid, past}
-use Rattle.osi_blameless.proofs.ends.courses.the_connections_of_each_class.{linked_at}
-use Rattle.osi_blameless.proofs.ends.courses.units_of_each_connection.{all_of_both, marked, none_marked, other_marked, unequal}
+use Rattle.osi_blameless.proofs.ends.links.how_long_a_connection_is_open.{Life, Rests, Stage, life_open, life_rests, stage_at, stage_by}
+use Rattle.osi_blameless.proofs.ends.links.how_long_a_connection_is_open.{stage_there}
+use Rattle.osi_blameless.proofs.ends.links.how_long_a_connection_is_open.Stage.{amid, past}
+use Rattle.osi_blameless.proofs.ends.links.the_connections_of_each_class.{linked_at}
+use Rattle.osi_blameless.proofs.ends.links.units_of_each_connection.{all_of_both, marked, none_marked, other_marked, unequal}
 use Rattle.osi_blameless.proofs.ends.courses.what_a_session_puts.{answer_puts, event_puts, move_puts, opening_puts, put_unless}
 use Rattle.osi_blameless.proofs.ends.courses.what_a_session_puts.{session_puts, unlinked_unless}
 

@@ -13,7 +13,7 @@ use Rattle.osi_blameless.proofs.ends.courses.steps_of_a_course.{HoldEach}
 use Rattle.osi_blameless.proofs.ends.courses.what_a_packet_does_to_it.{Between, takes_steps}
 use Rattle.osi_blameless.proofs.ends.courses.what_a_run_does_to_it.{fresh_between, turn_between}
 use Rattle.osi_blameless.proofs.ends.courses.what_sessions_hear_of_it.{CourseAll, Known}
-use Rattle.osi_blameless.proofs.ends.courses.what_is_put_is_written.{makes_written}
+use Rattle.osi_blameless.proofs.ends.links.what_is_put_is_written.{makes_written}
 
 -- ---- what is held
 

@@ -14,8 +14,8 @@ use Rattle.osi_blameless.proofs.ends.Vocabulary.{Holding}
 use Rattle.osi_blameless.proofs.ends.Vocabulary.{waits, lasting_of, Act, Acts, carried_by, Takes, Turn, used_by, serving, using}
 use Rattle.osi_blameless.proofs.ends.Vocabulary.{empty_partial}
 use Rattle.osi_blameless.proofs.ends.Vocabulary.{Held, IsPartial, stops}
-use Rattle.osi_blameless.proofs.ends.ends.an_end_that_is_over_does_nothing.{never_lasts, over_takes}
-use Rattle.osi_blameless.proofs.ends.ends.what_class_0_does_not_take_ends_the_end.{IsLast}
+use Rattle.osi_blameless.proofs.ends.at_any_time.an_end_that_is_over_does_nothing.{never_lasts, over_takes}
+use Rattle.osi_blameless.proofs.ends.at_any_time.what_class_0_does_not_take_ends_the_end.{IsLast}
 use Rattle.osi_blameless.proofs.ends.reading.two_readings_of_a_stream_agree.{GoesBeyond, first, packets_on, packets_then, second}
 use Rattle.osi_blameless.proofs.ends.reading.two_readings_of_a_stream_agree.{two_readings}
 

@@ -4,16 +4,16 @@ use Rattle.osi_blameless.proofs.ends.Vocabulary.{[], Bool, inl, IsSome, List, ma
 use Rattle.osi_blameless.proofs.ends.Vocabulary.{append-nil, Value, unit_of, Move, State as Carrier, End, all_did, Deeds, no_deeds, Makes}
 use Rattle.osi_blameless.proofs.ends.Vocabulary.{has_given, then_did, units_given, units_taken, all_units, Marked, units_at, arith}
 use Rattle.osi_blameless.specs.ends.Doing as doing
-use Rattle.osi_blameless.proofs.ends.courses.what_is_put_is_written.{makes_after, makes_before}
-use Rattle.osi_blameless.proofs.ends.courses.how_long_a_connection_is_open.{Life, Rests, Stage, life_rests, life_then, life_then_rests}
-use Rattle.osi_blameless.proofs.ends.courses.how_long_a_connection_is_open.{life_to_past, stage_at, stage_over}
-use Rattle.osi_blameless.proofs.ends.courses.how_long_a_connection_is_open.Stage.{early, past}
-use Rattle.osi_blameless.proofs.ends.courses.the_first_cc_opens_a_connection.{FirstOf, StaysGiven, first_rests, first_then}
-use Rattle.osi_blameless.proofs.ends.courses.the_first_cc_opens_a_connection.{first_then_rests}
-use Rattle.osi_blameless.proofs.ends.courses.units_of_each_connection.{AreAccounted, all_units_more, marked, marked_all, none_marked}
-use Rattle.osi_blameless.proofs.ends.courses.units_of_each_connection.{nowhere}
-use Rattle.osi_blameless.proofs.ends.courses.units_of_each_connection.{units_more, all_of_both}
-use Rattle.osi_blameless.proofs.ends.courses.what_calls_of_a_link_say.{taken_more, then_joined, then_none}
+use Rattle.osi_blameless.proofs.ends.links.what_is_put_is_written.{makes_after, makes_before}
+use Rattle.osi_blameless.proofs.ends.links.how_long_a_connection_is_open.{Life, Rests, Stage, life_rests, life_then, life_then_rests}
+use Rattle.osi_blameless.proofs.ends.links.how_long_a_connection_is_open.{life_to_past, stage_at, stage_over}
+use Rattle.osi_blameless.proofs.ends.links.how_long_a_connection_is_open.Stage.{early, past}
+use Rattle.osi_blameless.proofs.ends.links.the_first_cc_opens_a_connection.{FirstOf, StaysGiven, first_rests, first_then}
+use Rattle.osi_blameless.proofs.ends.links.the_first_cc_opens_a_connection.{first_then_rests}
+use Rattle.osi_blameless.proofs.ends.links.units_of_each_connection.{AreAccounted, all_units_more, marked, marked_all, none_marked}
+use Rattle.osi_blameless.proofs.ends.links.units_of_each_connection.{nowhere}
+use Rattle.osi_blameless.proofs.ends.links.units_of_each_connection.{units_more, all_of_both}
+use Rattle.osi_blameless.proofs.ends.links.what_calls_of_a_link_say.{taken_more, then_joined, then_none}
 
 -- ---- one connection
 

@@ -23,20 +23,20 @@ use Rattle.osi_blameless.proofs.ends.Vocabulary.{never, over, put_closing}
 use Rattle.osi_stack.specs.Calls.{breaks}
 use Rattle.osi_blameless.specs.ends.Doing as doing
 use Rattle.osi_blameless.specs.ends.Talking as history
-use Rattle.osi_blameless.proofs.ends.ends.what_a_session_sends_fits.{still_begun, granted_proper}
-use Rattle.osi_blameless.proofs.ends.ends.an_end_that_is_over_does_nothing.{never_lasts}
+use Rattle.osi_blameless.proofs.ends.at_any_time.what_a_session_sends_fits.{still_begun, granted_proper}
+use Rattle.osi_blameless.proofs.ends.at_any_time.an_end_that_is_over_does_nothing.{never_lasts}
 use Rattle.osi_blameless.proofs.ends.courses.a_connection_without_a_unit.{connect_rests, given_up_rests, session_life}
 use Rattle.osi_blameless.proofs.ends.courses.steps_of_a_course.{HasNone, HoldEach, StepAt, Steps, step_each, step_idle}
-use Rattle.osi_blameless.proofs.ends.courses.the_first_cc_opens_a_connection.{StaysGiven, first_of, given_more, session_given}
-use Rattle.osi_blameless.proofs.ends.courses.units_of_each_connection.{AreAccounted, marked, none_marked, nowhere, unequal}
+use Rattle.osi_blameless.proofs.ends.links.the_first_cc_opens_a_connection.{StaysGiven, first_of, given_more, session_given}
+use Rattle.osi_blameless.proofs.ends.links.units_of_each_connection.{AreAccounted, marked, none_marked, nowhere, unequal}
 use Rattle.osi_blameless.proofs.ends.courses.what_a_session_puts.{Puts, closing_accounted, closing_puts, session_accounted}
 use Rattle.osi_blameless.proofs.ends.courses.what_a_session_puts.{session_others, session_puts, session_made}
 use Rattle.osi_blameless.proofs.ends.courses.what_sessions_hear_of_it.{CourseAll, course_given}
-use Rattle.osi_blameless.proofs.ends.courses.what_a_link_takes_and_is_handed.{closed_leaves, closed_shut, link_shut}
-use Rattle.osi_blameless.proofs.ends.courses.what_a_unit_does_to_a_connection.{given_next, next_ungiven}
-use Rattle.osi_blameless.proofs.ends.courses.what_another_connection_leaves.{Beside, course_beside, course_over, gone_same, session_beside}
-use Rattle.osi_blameless.proofs.ends.courses.what_another_connection_leaves.{used_none}
-use Rattle.osi_blameless.proofs.ends.courses.how_long_a_connection_is_open.{Life, life_rests, rests_over, stage_at}
+use Rattle.osi_blameless.proofs.ends.links.what_a_link_takes_and_is_handed.{closed_leaves, closed_shut, link_shut}
+use Rattle.osi_blameless.proofs.ends.links.what_a_unit_does_to_a_connection.{given_next, next_ungiven}
+use Rattle.osi_blameless.proofs.ends.links.what_another_connection_leaves.{Beside, course_beside, course_over, gone_same, session_beside}
+use Rattle.osi_blameless.proofs.ends.links.what_another_connection_leaves.{used_none}
+use Rattle.osi_blameless.proofs.ends.links.how_long_a_connection_is_open.{Life, life_rests, rests_over, stage_at}
 use Rattle.osi_blameless.proofs.ends.courses.what_its_own_session_does.{CanSpeak, session_speaks}
 use Rattle.osi_blameless.proofs.ends.reading.a_cr_and_a_cc_can_be_written.{cr_by}
 

@@ -16,27 +16,27 @@ use Rattle.osi_blameless.proofs.ends.Vocabulary.{Goes as GoesThrough, StopsBehin
 use Rattle.osi_blameless.proofs.ends.Vocabulary.{hears_times}
 use Rattle.osi_blameless.proofs.ends.Vocabulary.{RunsOut, Starves, starves, with_carrier, with_events, End, Holding, IsAttended, waits}
 use Rattle.osi_blameless.proofs.ends.Vocabulary.{Deeds}
-use Rattle.osi_blameless.proofs.ends.Vocabulary.{units_in, units_read, is_gone, flat_map-append, if◌then◌else◌, Happening, Makes, all_units}
+use Rattle.osi_blameless.proofs.ends.Vocabulary.{units_in, units_by, is_gone, flat_map-append, if◌then◌else◌, Happening, Makes, all_units}
 use Rattle.osi_blameless.proofs.ends.Vocabulary.{orderly_asks}
 use Rattle.osi_carrier.specs.Packets as carriers
 use Rattle.osi_carrier.specs.State as states
 use Rattle.osi_blameless.specs.ends.Doing as doing
-use Rattle.osi_blameless.proofs.ends.ends.an_end_that_is_over_does_nothing.{never_lasts}
+use Rattle.osi_blameless.proofs.ends.at_any_time.an_end_that_is_over_does_nothing.{never_lasts}
 use Rattle.osi_blameless.proofs.ends.reading.how_much_of_a_piece_is_used.{all_octets, more_used, stopped_within}
 use Rattle.osi_blameless.proofs.ends.courses.steps_of_a_course.{HoldEach, StepsBy, same_rest, step_after, step_as, step_more, step_none}
 use Rattle.osi_blameless.proofs.ends.courses.steps_of_a_course.{step_then}
-use Rattle.osi_blameless.proofs.ends.courses.the_connections_of_each_class.{IsSound, class_kept, sound_unit}
-use Rattle.osi_blameless.proofs.ends.courses.what_another_connection_leaves.{course_over}
+use Rattle.osi_blameless.proofs.ends.links.the_connections_of_each_class.{IsSound, class_kept, sound_unit}
+use Rattle.osi_blameless.proofs.ends.links.what_another_connection_leaves.{course_over}
 use Rattle.osi_blameless.proofs.ends.courses.what_sessions_hear_of_it.{CourseAll, Known, attended, times_heard}
 use Rattle.osi_blameless.proofs.ends.courses.what_units_do_to_a_course.{CalmAll, NowAll, calm_over, leads_step, units_step}
 use Rattle.osi_blameless.proofs.ends.courses.what_units_do_to_a_course.Calm.{is_still}
-use Rattle.osi_blameless.proofs.ends.courses.what_a_unit_does_to_a_connection.{NoneOf}
+use Rattle.osi_blameless.proofs.ends.links.what_a_unit_does_to_a_connection.{NoneOf}
 use Rattle.osi_blameless.proofs.ends.courses.what_waits_to_be_heard.{waits_over}
 use Rattle.osi_blameless.proofs.ends.courses.what_waits_to_be_heard.Waits.{away}
 use Rattle.osi_blameless.proofs.ends.reading.two_readings_of_a_stream_agree.{packets_on, packets_then}
-use Rattle.osi_blameless.proofs.ends.courses.what_a_unit_keeps_a_turn_keeps.{IsKept, makes_kept}
-use Rattle.osi_blameless.proofs.ends.courses.how_long_a_connection_is_open.Stage.{early, past}
-use Rattle.osi_blameless.proofs.ends.courses.how_long_a_connection_is_open.{rests_over, stage_at, stage_over}
+use Rattle.osi_blameless.proofs.ends.links.what_a_unit_keeps_a_turn_keeps.{IsKept, makes_kept}
+use Rattle.osi_blameless.proofs.ends.links.how_long_a_connection_is_open.Stage.{early, past}
+use Rattle.osi_blameless.proofs.ends.links.how_long_a_connection_is_open.{rests_over, stage_at, stage_over}
 
 -- ---- what holds of each carrier
 
@@ -99,7 +99,7 @@ module _ (known : Known) (is_caller : Bool) where
 
   acted : (u : List ℕ) (found : Result (List Value) TpduFault) (moves : ℕ → Deeds) (e : End) → IsOctets u → units_of u ≡ found →
       IsSound e.carrier → HoldEach (CalmAll is_caller) moves e →
-      StepsBy is_caller (units_read found) (NowAll is_caller) moves e.carrier (with_carrier (carriers.acts_by found e.carrier) e)
+      StepsBy is_caller (units_by found) (NowAll is_caller) moves e.carrier (with_carrier (carriers.acts_by found e.carrier) e)
   acted u (Ok units) moves e octets is h calm = units_step is_caller units u (units_found u units octets is) moves e h calm
   acted u (Err fault) moves e octets is h calm =
       step_none is_caller (NowAll is_caller) moves e.carrier (with_carrier (carriers.acts_by (Err fault) e.carrier) e)
@@ -107,29 +107,33 @@ module _ (known : Known) (is_caller : Bool) where
       (λ r. away (calm_over is_caller r (moves r) e (with_carrier (carriers.acts_by (Err fault) e.carrier) e) (calm r) refl))
 
   carried_out : (u : List ℕ) (moves : ℕ → Deeds) (e : End) → IsOctets u → IsSound e.carrier → HoldEach (CalmAll is_caller) moves e →
-      StepsBy is_caller (units_read (units_of u)) (NowAll is_caller) moves e.carrier
+      StepsBy is_caller (units_by (units_of u)) (NowAll is_caller) moves e.carrier
       (with_carrier (carriers.after_packet e.carrier u) e)
   unfolding carriers.after_packet
   carried_out u moves e octets h calm = acted u (units_of u) moves e octets refl h calm
 
   packet_steps : (u : List ℕ) (moves : ℕ → Deeds) (e : End) → IsOctets u → Between e → e.carrier.ended ≡ None → Courses moves e →
-      CourseSteps (units_read (units_of u)) moves e (after_packet e u)
+      CourseSteps (units_by (units_of u)) moves e (after_packet e u)
   packet_steps u moves e octets b lasts course =
       let mid = with_carrier (carriers.after_packet e.carrier u) e in
-      step_after is_caller (units_read (units_of u)) (NowAll is_caller) (CourseAll is_caller) moves e.carrier mid (after_packet e u)
+      step_after is_caller (units_by (units_of u)) (NowAll is_caller) (CourseAll is_caller) moves e.carrier mid (after_packet e u)
       (carried_out u moves e octets b.sound (calm_of moves e (b.attended lasts) course))
       (grind (arith, attended, packet_is e u))
 
   pub takes_steps : (packets : List (List ℕ)) (moves : ℕ → Deeds) (old new : End) → AllByRecursion IsOctets packets → Between old →
       Courses moves old → TakesPackets old packets new → CourseSteps (units_in packets) moves old new
   takes_steps [] moves old new octets b course takes =
-      grind (arith, step_none is_caller (CourseAll is_caller) moves old.carrier old (doing.rests old.carrier) (same_rest old.carrier) course)
+      grind (
+        arith,
+        step_none is_caller (CourseAll is_caller) moves old.carrier old (doing.rests old.carrier)
+            (same_rest old.carrier) course,
+      )
   takes_steps (u ∷ packets) moves old new octets b course takes =
       let mid = after_packet old u in
       let lasts = lasting_of old.carrier.ended (waits old.lines) takes.0 in
       let first = packet_steps u moves old octets.0 b lasts course in
-      let now = then_between (u ∷ []) (units_read (units_of u)) (all_units first.put) old mid first.makes (takes.0, refl) b in
-      step_then is_caller (units_read (units_of u)) (units_in packets) (CourseAll is_caller) (CourseAll is_caller) moves old.carrier mid new
+      let now = then_between (u ∷ []) (units_by (units_of u)) (all_units first.put) old mid first.makes (takes.0, refl) b in
+      step_then is_caller (units_by (units_of u)) (units_in packets) (CourseAll is_caller) (CourseAll is_caller) moves old.carrier mid new
       first (λ after then_course. takes_steps packets after mid new octets.1 now then_course takes.1)
 
   -- ---- memory runs out
@@ -161,10 +165,10 @@ module _ (known : Known) (is_caller : Bool) where
       (λ r after then_now. is_gone (search (arith, waits_over, starved_over))))
 
   starved_steps : (u : List ℕ) (moves : ℕ → Deeds) (e new : End) → IsOctets u → Between e → e.carrier.ended ≡ None →
-      Courses moves e → Starves e u new → CourseSteps (units_read (units_of u)) moves e new
+      Courses moves e → Starves e u new → CourseSteps (units_by (units_of u)) moves e new
   starved_steps u moves e new octets b lasts course (inl (c, (units, is, out), there)) =
       let mid = with_carrier c e in
-      subst (λ (l : List Value). CourseSteps l moves e new) (sym (ap units_read is))
+      subst (λ (l : List Value). CourseSteps l moves e new) (sym (ap units_by is))
       (subst (CourseSteps units moves e) (sym there)
       (step_after is_caller units (NowAll is_caller) (CourseAll is_caller) moves e.carrier mid (attends mid)
       (unit_starved u units moves e c (units_found u units octets is) b.sound (calm_of moves e (b.attended lasts) course) out)
@@ -172,12 +176,12 @@ module _ (known : Known) (is_caller : Bool) where
   starved_steps u moves e new octets b lasts course (inr (c, acts, out)) =
       let mid = with_carrier c e in
       let calm = calm_of moves e (b.attended lasts) course in
-      let now : StepsBy is_caller (units_read (units_of u)) (NowAll is_caller) moves e.carrier mid = elim (acts_cases e.carrier c u acts) [
+      let now : StepsBy is_caller (units_by (units_of u)) (NowAll is_caller) moves e.carrier mid = elim (acts_cases e.carrier c u acts) [
         | inl is ↦ grind (arith, carried_out)
-        | inr short ↦ subst (λ (l : List Value). StepsBy is_caller l (NowAll is_caller) moves e.carrier mid) (sym (ap units_read short.1))
+        | inr short ↦ subst (λ (l : List Value). StepsBy is_caller l (NowAll is_caller) moves e.carrier mid) (sym (ap units_by short.1))
             (unit_starved u short.0 moves e c (units_found u short.0 octets short.1) b.sound calm short.2)
       ] in
-      step_after is_caller (units_read (units_of u)) (NowAll is_caller) (CourseAll is_caller) moves e.carrier mid new now
+      step_after is_caller (units_by (units_of u)) (NowAll is_caller) (CourseAll is_caller) moves e.carrier mid new now
       (λ after w. event_starved after mid new w out)
 
   -- ---- a piece
@@ -239,9 +243,10 @@ module _ (known : Known) (is_caller : Bool) where
         all_used moves (f.units ++ packet ∷ []) piece ([] ++ drop f.within piece) n old new f.all (one_more f packet one)
         (none_ended old piece n new f)
         (subst (λ (l : List Value). CourseSteps l moves old.end new.end) (grind (arith, append-nil, flat_map-append))
-        (step_then is_caller (units_in f.units) (units_read (units_of packet)) (CourseAll is_caller) (CourseAll is_caller) moves
+        (step_then is_caller (units_in f.units) (units_by (units_of packet)) (CourseAll is_caller) (CourseAll is_caller) moves
         old.end.carrier f.before new.end first
-        (λ after then_course. starved_steps packet after f.before new.end (all_octets (packet ∷ []) f.rest [] one).0 now (lasting_of f.before.carrier.ended (waits f.before.lines) f.quiet)
+        (λ after then_course. starved_steps packet after f.before new.end (all_octets (packet ∷ []) f.rest [] one).0 now
+        (lasting_of f.before.carrier.ended (waits f.before.lines) f.quiet)
         then_course starved)))
 
     goes_steps : GoesThrough old piece n new → FeedSteps moves (take n piece) old new

@@ -14,19 +14,19 @@ use Rattle.osi_blameless.proofs.ends.Vocabulary.{carried_by}
 use Rattle.osi_blameless.proofs.ends.Vocabulary.{Run, Takes, Turn, used_by, serving, using, arith, nat_tests}
 use Rattle.osi_blameless.specs.ends.Doing as doing
 use Rattle.osi_blameless.proofs.ends.courses.steps_of_a_course.{AllRest, HoldEach, Steps}
-use Rattle.osi_blameless.proofs.ends.courses.the_first_cc_opens_a_connection.{FirstOf, first_rests}
-use Rattle.osi_blameless.proofs.ends.courses.the_connections_of_each_class.{IsSound, sound_same}
-use Rattle.osi_blameless.proofs.ends.courses.the_connections_of_each_class.ByClass.{none as no_connection}
+use Rattle.osi_blameless.proofs.ends.links.the_first_cc_opens_a_connection.{FirstOf, first_rests}
+use Rattle.osi_blameless.proofs.ends.links.the_connections_of_each_class.{IsSound, sound_same}
+use Rattle.osi_blameless.proofs.ends.links.the_connections_of_each_class.ByClass.{none as no_connection}
 use Rattle.osi_blameless.proofs.ends.courses.what_a_call_does_to_it.{user_steps}
 use Rattle.osi_blameless.proofs.ends.courses.what_a_packet_does_to_it.{Between, FeedSteps, feeds_steps, sound_kept}
-use Rattle.osi_blameless.proofs.ends.courses.what_another_connection_leaves.{Beside, course_beside, none_before, none_behind}
-use Rattle.osi_blameless.proofs.ends.courses.how_long_a_connection_is_open.{Life, life_rests, life_then, lives, stage_at}
-use Rattle.osi_blameless.proofs.ends.courses.units_of_each_connection.{by_links, units_more}
-use Rattle.osi_blameless.proofs.ends.courses.what_calls_of_a_link_say.{taken_more, then_none}
-use Rattle.osi_blameless.proofs.ends.courses.what_is_put_in_a_turn_can_be_written.{turn_written}
-use Rattle.osi_blameless.proofs.ends.courses.what_is_put_is_written.{makes_written}
+use Rattle.osi_blameless.proofs.ends.links.what_another_connection_leaves.{Beside, course_beside, none_before, none_behind}
+use Rattle.osi_blameless.proofs.ends.links.how_long_a_connection_is_open.{Life, life_rests, life_then, lives, stage_at}
+use Rattle.osi_blameless.proofs.ends.links.units_of_each_connection.{by_links, units_more}
+use Rattle.osi_blameless.proofs.ends.links.what_calls_of_a_link_say.{taken_more, then_none}
+use Rattle.osi_blameless.proofs.ends.links.what_is_put_in_a_turn_can_be_written.{turn_written}
+use Rattle.osi_blameless.proofs.ends.links.what_is_put_is_written.{makes_written}
 use Rattle.osi_blameless.proofs.ends.courses.what_sessions_hear_of_it.{CourseAll, Known}
-use Rattle.osi_blameless.proofs.ends.courses.what_a_unit_keeps_a_turn_keeps.{makes_kept}
+use Rattle.osi_blameless.proofs.ends.links.what_a_unit_keeps_a_turn_keeps.{makes_kept}
 
 -- ---- between two turns
 
@@ -148,7 +148,8 @@ module _ (known : Known) (is_caller : Bool) (moves : ℕ → Deeds) where
 
   -- nothing was used or put
   quiet_turn : (turn : Turn) (old new : Holding) → turn.used ≡ [] → turn.put ≡ [] → new.held.octets ≡ old.held.octets →
-      new.end.carrier ≡ record old.end.carrier { outgoing = new.end.carrier.outgoing } → Courses moves new.end → AllRest old.end.carrier new.end.carrier → TurnOf is_caller moves turn old new
+      new.end.carrier ≡ record old.end.carrier { outgoing = new.end.carrier.outgoing } → Courses moves new.end →
+      AllRest old.end.carrier new.end.carrier → TurnOf is_caller moves turn old new
   quiet_turn turn old new none nothing same carrier course rest = record {
     on = record {
       more = λ r. no_deeds;

@@ -16,9 +16,9 @@ use Rattle.osi_carrier.specs.Happenings as told
 use Rattle.osi_carrier.specs.Orderly.{told_of}
 use Rattle.osi_blameless.specs.ends.Doing as doing
 use Rattle.osi_blameless.proofs.ends.courses.steps_of_a_course.{HasNone}
-use Rattle.osi_blameless.proofs.ends.courses.units_of_each_connection.{AreAccounted, ArePlain, elsewhere, given_accounted, marked}
-use Rattle.osi_blameless.proofs.ends.courses.units_of_each_connection.{marked_all}
-use Rattle.osi_blameless.proofs.ends.courses.units_of_each_connection.{nowhere, plain_accounted, all_of_both}
+use Rattle.osi_blameless.proofs.ends.links.units_of_each_connection.{AreAccounted, ArePlain, elsewhere, given_accounted, marked}
+use Rattle.osi_blameless.proofs.ends.links.units_of_each_connection.{marked_all}
+use Rattle.osi_blameless.proofs.ends.links.units_of_each_connection.{nowhere, plain_accounted, all_of_both}
 
 -- ---- the carrier
 

@@ -13,12 +13,12 @@ use Rattle.osi_blameless.proofs.ends.Vocabulary.{IsNew}
 use Rattle.osi_blameless.proofs.ends.Vocabulary.{IsShut, said_in, units_given, is_gone, is_open, closed, units_at, History, said_after}
 use Rattle.osi_blameless.proofs.ends.Vocabulary.{over}
 use Rattle.osi_blameless.proofs.ends.Vocabulary.{put_closing, put_together}
-use Rattle.osi_blameless.proofs.ends.ends.what_a_session_sends_fits.{HasLine, IsProper, kept_then, line_there, moved_by}
+use Rattle.osi_blameless.proofs.ends.at_any_time.what_a_session_sends_fits.{HasLine, IsProper, kept_then, line_there, moved_by}
 use Rattle.osi_blameless.proofs.ends.courses.steps_of_a_course.{HasNone, StepAt, done_by, step_idle}
-use Rattle.osi_blameless.proofs.ends.courses.units_of_each_connection.{marked, marked_own, nowhere}
+use Rattle.osi_blameless.proofs.ends.links.units_of_each_connection.{marked, marked_own, nowhere}
 use Rattle.osi_blameless.proofs.ends.courses.what_a_session_puts.{answer_puts, session_puts}
-use Rattle.osi_blameless.proofs.ends.courses.what_a_link_takes_and_is_handed.{Sends, closed_shut, sends_all}
-use Rattle.osi_blameless.proofs.ends.courses.what_calls_of_a_link_say.{along_more, out_more, put_more, said_more}
+use Rattle.osi_blameless.proofs.ends.links.what_a_link_takes_and_is_handed.{Sends, closed_shut, sends_all}
+use Rattle.osi_blameless.proofs.ends.links.what_calls_of_a_link_say.{along_more, out_more, put_more, said_more}
 
 -- The connection is open, and this would be said by its session with an input.
 pub record CanSpeak (is_caller : Bool) (r : ℕ) (moves : Deeds) (session : Listener) (input : Input) (e : End) : Type 0 where

@@ -21,27 +21,27 @@ use Rattle.osi_carrier.specs.Happenings as told
 use Rattle.osi_carrier.specs.Orderly.{told_of}
 use Rattle.osi_blameless.specs.ends.Doing as doing
 use Rattle.osi_blameless.specs.ends.Talking as history
-use Rattle.osi_blameless.proofs.ends.ends.what_a_session_sends_fits.{still_begun, AllProper}
-use Rattle.osi_blameless.proofs.ends.ends.an_end_that_is_over_does_nothing.{never_lasts}
+use Rattle.osi_blameless.proofs.ends.at_any_time.what_a_session_sends_fits.{still_begun, AllProper}
+use Rattle.osi_blameless.proofs.ends.at_any_time.an_end_that_is_over_does_nothing.{never_lasts}
 use Rattle.osi_blameless.proofs.ends.courses.a_connection_without_a_unit.{event_life}
 use Rattle.osi_blameless.proofs.ends.courses.steps_of_a_course.{HasNone, HoldEach, StepAt, States, Steps, same_rest, step_each, step_idle}
 use Rattle.osi_blameless.proofs.ends.courses.steps_of_a_course.{step_none, step_on, step_since, step_then, step_as}
-use Rattle.osi_blameless.proofs.ends.courses.the_first_cc_opens_a_connection.{event_given, first_of}
-use Rattle.osi_blameless.proofs.ends.courses.units_of_each_connection.{unequal}
-use Rattle.osi_blameless.proofs.ends.courses.what_a_link_takes_and_is_handed.{link_shut}
+use Rattle.osi_blameless.proofs.ends.links.the_first_cc_opens_a_connection.{event_given, first_of}
+use Rattle.osi_blameless.proofs.ends.links.units_of_each_connection.{unequal}
+use Rattle.osi_blameless.proofs.ends.links.what_a_link_takes_and_is_handed.{link_shut}
 use Rattle.osi_blameless.proofs.ends.courses.what_a_session_puts.{IsGivenIfOpen, event_accounted, event_others, event_puts, event_unlinked}
 use Rattle.osi_blameless.proofs.ends.courses.what_a_session_puts.{event_made, opening_puts, session_puts}
-use Rattle.osi_blameless.proofs.ends.courses.what_a_unit_does_to_a_connection.{NoneOf}
-use Rattle.osi_blameless.proofs.ends.courses.what_another_connection_leaves.{Beside, gone_beside, gone_over, gone_same, joins_beside}
-use Rattle.osi_blameless.proofs.ends.courses.what_another_connection_leaves.{session_beside, shut_session, course_over}
-use Rattle.osi_blameless.proofs.ends.courses.what_calls_of_a_link_say.{fresh_of, none_said, out_more, said_more}
+use Rattle.osi_blameless.proofs.ends.links.what_a_unit_does_to_a_connection.{NoneOf}
+use Rattle.osi_blameless.proofs.ends.links.what_another_connection_leaves.{Beside, gone_beside, gone_over, gone_same, joins_beside}
+use Rattle.osi_blameless.proofs.ends.links.what_another_connection_leaves.{session_beside, shut_session, course_over}
+use Rattle.osi_blameless.proofs.ends.links.what_calls_of_a_link_say.{fresh_of, none_said, out_more, said_more}
 use Rattle.osi_blameless.proofs.ends.courses.what_its_own_session_does.{CanSpeak, session_speaks}
 use Rattle.osi_blameless.proofs.ends.courses.what_units_do_to_a_course.{NowAll, request_new, unsaid}
 use Rattle.osi_blameless.proofs.ends.courses.what_waits_to_be_heard.{HasCome, JustOpened, Waits, waits_as, waits_beside, waits_over}
 use Rattle.osi_blameless.proofs.ends.courses.what_waits_to_be_heard.{waits_none}
 use Rattle.osi_blameless.proofs.ends.courses.what_waits_to_be_heard.Waits.{answered, away, called, came as has_come, still}
-use Rattle.osi_blameless.proofs.ends.ends.the_cn_of_a_request_fits.{CanBegin}
-use Rattle.osi_blameless.proofs.ends.courses.how_long_a_connection_is_open.{stage_at}
+use Rattle.osi_blameless.proofs.ends.at_any_time.the_cn_of_a_request_fits.{CanBegin}
+use Rattle.osi_blameless.proofs.ends.links.how_long_a_connection_is_open.{stage_at}
 
 -- ---- an event of another connection
 

@@ -18,21 +18,21 @@ use Rattle.osi_blameless.proofs.ends.Vocabulary.{units_taken, awaited, is_gone, 
 use Rattle.osi_blameless.proofs.ends.Vocabulary.{outcome, put_for, Outcome, Makes, outcome_over}
 use Rattle.osi_blameless.specs.ends.Doing as doing
 use Rattle.osi_blameless.specs.ends.Talking as history
-use Rattle.osi_blameless.proofs.ends.ends.an_end_that_is_over_does_nothing.{never_lasts}
-use Rattle.osi_blameless.proofs.ends.courses.how_long_a_connection_is_open.{Life, stage_at}
+use Rattle.osi_blameless.proofs.ends.at_any_time.an_end_that_is_over_does_nothing.{never_lasts}
+use Rattle.osi_blameless.proofs.ends.links.how_long_a_connection_is_open.{Life, stage_at}
 use Rattle.osi_blameless.proofs.ends.courses.steps_of_a_course.{HoldEach, StepAt, States, StepsBy, done_by, same_rest, step_as, step_each}
 use Rattle.osi_blameless.proofs.ends.courses.steps_of_a_course.{step_idle, step_none, step_then}
-use Rattle.osi_blameless.proofs.ends.courses.the_connections_of_each_class.{IsSound, sound_unit}
-use Rattle.osi_blameless.proofs.ends.courses.the_first_cc_opens_a_connection.{FirstOf, first_of, unit_not_cc}
-use Rattle.osi_blameless.proofs.ends.courses.units_of_each_connection.{elsewhere, given_accounted, marked, marked_all, marked_own, nowhere}
-use Rattle.osi_blameless.proofs.ends.courses.units_of_each_connection.{plain_accounted, unequal}
-use Rattle.osi_blameless.proofs.ends.courses.what_a_link_takes_and_is_handed.{HasFew, takes_in}
-use Rattle.osi_blameless.proofs.ends.courses.what_a_unit_does_to_a_connection.{Acts, Does, NoneOf, acts_elsewhere, none_more, unit_does}
-use Rattle.osi_blameless.proofs.ends.courses.what_a_unit_does_to_a_connection.Acts.{answers_it, joins, leaves_it, rests}
-use Rattle.osi_blameless.proofs.ends.courses.what_a_unit_does_to_a_connection.Acts.{over as carrier_over}
-use Rattle.osi_blameless.proofs.ends.courses.what_a_unit_does_to_a_connection.Does.{passes, takes}
-use Rattle.osi_blameless.proofs.ends.courses.what_another_connection_leaves.{Beside, course_beside, course_over, gone_beside, gone_over}
-use Rattle.osi_blameless.proofs.ends.courses.what_calls_of_a_link_say.{along_more, none_said, out_more, put_more, said_more}
+use Rattle.osi_blameless.proofs.ends.links.the_connections_of_each_class.{IsSound, sound_unit}
+use Rattle.osi_blameless.proofs.ends.links.the_first_cc_opens_a_connection.{FirstOf, first_of, unit_not_cc}
+use Rattle.osi_blameless.proofs.ends.links.units_of_each_connection.{elsewhere, given_accounted, marked, marked_all, marked_own, nowhere}
+use Rattle.osi_blameless.proofs.ends.links.units_of_each_connection.{plain_accounted, unequal}
+use Rattle.osi_blameless.proofs.ends.links.what_a_link_takes_and_is_handed.{HasFew, takes_in}
+use Rattle.osi_blameless.proofs.ends.links.what_a_unit_does_to_a_connection.{Acts, Does, NoneOf, acts_elsewhere, none_more, unit_does}
+use Rattle.osi_blameless.proofs.ends.links.what_a_unit_does_to_a_connection.Acts.{answers_it, joins, leaves_it, rests}
+use Rattle.osi_blameless.proofs.ends.links.what_a_unit_does_to_a_connection.Acts.{over as carrier_over}
+use Rattle.osi_blameless.proofs.ends.links.what_a_unit_does_to_a_connection.Does.{passes, takes}
+use Rattle.osi_blameless.proofs.ends.links.what_another_connection_leaves.{Beside, course_beside, course_over, gone_beside, gone_over}
+use Rattle.osi_blameless.proofs.ends.links.what_calls_of_a_link_say.{along_more, none_said, out_more, put_more, said_more}
 use Rattle.osi_blameless.proofs.ends.courses.what_waits_to_be_heard.{Due, JustOpened, Waits, due_last}
 use Rattle.osi_blameless.proofs.ends.courses.what_waits_to_be_heard.Waits.{answered, away, came, still}
 use Rattle.osi_blameless.proofs.ends.courses.which_connection_a_unit_is_for.{elsewhere_deaf, passed_life, taken_life}
@@ -382,7 +382,8 @@ module _ (is_caller : Bool) where
         let same = react_over v e.carrier (ap is_some ended) in
         step_each is_caller (v ∷ []) (AfterAll v) moves e.carrier changed [] (marked 0 (v ∷ []))
         (subst (λ (l : List Value). Makes e.carrier (v ∷ []) l changed.carrier)
-        (ap (λ (x : Outcome). x.put) (outcome_over v e.carrier (ap is_some ended))) (doing.takes v e.carrier fits)) tt (marked_all 0 (v ∷ []))
+        (ap (λ (x : Outcome). x.put) (outcome_over v e.carrier (ap is_some ended))) (doing.takes v e.carrier fits)) tt
+        (marked_all 0 (v ∷ []))
         (λ r some. over_life r some (ap is_some ended) (ap (λ (c : Carrier). is_some c.ended) same ∙ ap is_some ended))
         (λ r some. unit_first r 0 [] (grind (arith, over_life)))
         (λ r. passed is_caller r (moves r) v e h []
@@ -403,7 +404,8 @@ module _ (is_caller : Bool) where
   units_step [] u us moves e h calm = absurd us
   units_step (v ∷ []) u us moves e h calm =
       step_as is_caller (v ∷ []) (AfterAll is_caller v) (NowAll is_caller) moves e.carrier (with_carrier (react v e.carrier) e)
-      (with_carrier (react v e.carrier) e) (unit_steps is_caller moves v (units_fit (v ∷ []) u us).0 e h calm) (doing.rests (react v e.carrier))
+      (with_carrier (react v e.carrier) e) (unit_steps is_caller moves v (units_fit (v ∷ []) u us).0 e h calm)
+      (doing.rests (react v e.carrier))
       (same_rest (react v e.carrier)) (λ r after t. t.0)
   units_step (v ∷ w ∷ vs) u us moves e h calm =
       let mid = with_carrier (react v e.carrier) e in

@@ -10,9 +10,9 @@ use Rattle.osi_blameless.proofs.ends.Vocabulary.{End, Request as Connect, Course
 use Rattle.osi_blameless.proofs.ends.Vocabulary.{never}
 use Rattle.osi_blameless.proofs.ends.Vocabulary.{is_gone, arith, over}
 use Rattle.osi_carrier.specs.Orderly.{told_of}
-use Rattle.osi_blameless.proofs.ends.courses.what_a_unit_does_to_a_connection.{NoneOf}
-use Rattle.osi_blameless.proofs.ends.courses.what_another_connection_leaves.{Beside, course_beside, course_over, gone_beside, gone_over}
-use Rattle.osi_blameless.proofs.ends.courses.what_another_connection_leaves.{some_there}
+use Rattle.osi_blameless.proofs.ends.links.what_a_unit_does_to_a_connection.{NoneOf}
+use Rattle.osi_blameless.proofs.ends.links.what_another_connection_leaves.{Beside, course_beside, course_over, gone_beside, gone_over}
+use Rattle.osi_blameless.proofs.ends.links.what_another_connection_leaves.{some_there}
 
 -- ---- one event that is due
 

@@ -12,7 +12,7 @@ use Rattle.osi_blameless.proofs.ends.Vocabulary.{units_given, is_gone, is_open, 
 use Rattle.osi_blameless.proofs.ends.Vocabulary.{arith, over}
 use Rattle.osi_blameless.proofs.ends.Vocabulary.{told_of, opens}
 use Rattle.osi_side.specs.Running as running
-use Rattle.osi_blameless.proofs.ends.courses.what_calls_of_a_link_say.{fresh_of, none_said, out_more, said_more}
+use Rattle.osi_blameless.proofs.ends.links.what_calls_of_a_link_say.{fresh_of, none_said, out_more, said_more}
 use Rattle.osi_blameless.proofs.ends.courses.what_units_do_to_a_course.{no_calls}
 use Rattle.osi_blameless.proofs.ends.sessions.the_session_of_a_request_is_a_caller.{opens_so}
 use Rattle.osi_blameless.proofs.ends.sessions.a_history_is_a_run.{history_runs}

@@ -11,17 +11,17 @@ use Rattle.osi_blameless.proofs.ends.Vocabulary.{connection_of, pumped, written_
 use Rattle.osi_blameless.proofs.ends.Vocabulary.{Connection}
 use Rattle.osi_blameless.proofs.ends.Vocabulary.{linked, State as Carrier, EndReason, has_given, AreApart, GivesTo, is_for, Opens, IsShut}
 use Rattle.osi_blameless.proofs.ends.Vocabulary.{is_of_link, Marked, react}
-use Rattle.osi_blameless.proofs.ends.ends.an_end_that_is_over_does_nothing.{never_lasts}
-use Rattle.osi_blameless.proofs.ends.courses.the_connections_of_each_class.{ByClass, IsSound, one_here}
-use Rattle.osi_blameless.proofs.ends.courses.the_connections_of_each_class.ByClass.{asks, none, two, zero}
-use Rattle.osi_blameless.proofs.ends.courses.units_of_each_connection.{marked, none_mark, none_marked, other_marked, unequal}
+use Rattle.osi_blameless.proofs.ends.at_any_time.an_end_that_is_over_does_nothing.{never_lasts}
+use Rattle.osi_blameless.proofs.ends.links.the_connections_of_each_class.{ByClass, IsSound, one_here}
+use Rattle.osi_blameless.proofs.ends.links.the_connections_of_each_class.ByClass.{asks, none, two, zero}
+use Rattle.osi_blameless.proofs.ends.links.units_of_each_connection.{marked, none_mark, none_marked, other_marked, unequal}
 use Rattle.osi_blameless.proofs.ends.courses.a_connection_without_a_unit.{given_to}
-use Rattle.osi_blameless.proofs.ends.courses.what_a_unit_does_to_a_connection.{Acts, IsDeaf, acts_elsewhere}
-use Rattle.osi_blameless.proofs.ends.courses.what_a_unit_does_to_a_connection.Acts.{answers_it, joins, leaves_it, over, rests}
-use Rattle.osi_blameless.proofs.ends.courses.how_long_a_connection_is_open.{Life, Stage, is_dr, life_as, life_open, life_opens}
-use Rattle.osi_blameless.proofs.ends.courses.how_long_a_connection_is_open.{life_to_past}
-use Rattle.osi_blameless.proofs.ends.courses.how_long_a_connection_is_open.{stage_at, stage_is, stage_over, stage_there}
-use Rattle.osi_blameless.proofs.ends.courses.how_long_a_connection_is_open.Stage.{amid, early, past}
+use Rattle.osi_blameless.proofs.ends.links.what_a_unit_does_to_a_connection.{Acts, IsDeaf, acts_elsewhere}
+use Rattle.osi_blameless.proofs.ends.links.what_a_unit_does_to_a_connection.Acts.{answers_it, joins, leaves_it, over, rests}
+use Rattle.osi_blameless.proofs.ends.links.how_long_a_connection_is_open.{Life, Stage, is_dr, life_as, life_open, life_opens}
+use Rattle.osi_blameless.proofs.ends.links.how_long_a_connection_is_open.{life_to_past}
+use Rattle.osi_blameless.proofs.ends.links.how_long_a_connection_is_open.{stage_at, stage_is, stage_over, stage_there}
+use Rattle.osi_blameless.proofs.ends.links.how_long_a_connection_is_open.Stage.{amid, early, past}
 
 -- ---- a unit of another connection is not for this one
 

@@ -6,7 +6,7 @@ use Rattle.osi_blameless.proofs.ends.Vocabulary.{subst, take, true, ℕ, ◌++�
 use Rattle.osi_blameless.proofs.ends.Vocabulary.{octets_right, IsOctets, IsPacket, ArePackets, packets_more, EndReason, uses_within}
 use Rattle.osi_blameless.proofs.ends.Vocabulary.{StopsBehind}
 use Rattle.osi_blameless.proofs.ends.Vocabulary.{uses_all, Holding}
-use Rattle.osi_blameless.proofs.ends.ends.an_end_that_is_over_does_nothing.{never_lasts}
+use Rattle.osi_blameless.proofs.ends.at_any_time.an_end_that_is_over_does_nothing.{never_lasts}
 
 -- ---- the octets of packets
 

@@ -9,25 +9,16 @@ use Rattle.osi_blameless.proofs.ends.Vocabulary.{called_octets}
 use Rattle.osi_blameless.proofs.ends.Vocabulary.{calling_octets, calls_with, is_long, is_long_address, opening_of, terms_error}
 use Rattle.osi_blameless.proofs.ends.Vocabulary.{Request as Connect}
 use Rattle.osi_blameless.proofs.ends.Vocabulary.{arith, opens}
+use Rattle.std.specs.Borrow.{Bor}
 
 -- a selector of these octets
 record Named (octets : Option (List ℕ)) : Type 0 where
   selector : Option Selector
   is : selector_octets selector ≡ octets
 
-calling_named : (c : Connect) → is_long_address (calling_octets c) ≡ false → Named (calling_octets c)
-calling_named c = (elim (c.calling_selector) as (λ o. is_long_address (option_map (λ s. s.now) o) ≡ false →
-    Named (option_map (λ s. s.now) o)) [
-      | None ↦ λ h. record { selector = None; is = refl }
-      | Some s ↦ λ h. record { selector = Some (record { octets = s; short = ltb-false 16 (length s.now) h }); is = refl }
-    ])
-
-called_named : (c : Connect) → is_long_address (called_octets c) ≡ false → Named (called_octets c)
-called_named c = (elim (c.called_selector) as (λ o. is_long_address (option_map (λ s. s.now) o) ≡ false →
-    Named (option_map (λ s. s.now) o)) [
-      | None ↦ λ h. record { selector = None; is = refl }
-      | Some s ↦ λ h. record { selector = Some (record { octets = s; short = ltb-false 16 (length s.now) h }); is = refl }
-    ])
+address_named : (o : Option (Bor (List ℕ))) → is_long_address (option_map (λ s. s.now) o) ≡ false → Named (option_map (λ s. s.now) o)
+address_named None h = record { selector = None; is = refl }
+address_named (Some s) h = record { selector = Some (record { octets = s; short = ltb-false 16 (length s.now) h }); is = refl }
 
 -- what the terms say
 record Terms (profile long : Bool) : Type 0 where
@@ -63,8 +54,8 @@ pub opens_so : (c : Connect) → terms_error c ≡ None → OpensSo (calls_with 
 opens_so c h =
     let terms = terms_by (is_profile (unit_bits c.requirements)) (is_long c) _ _ h in
     let rest = or_right (is_long_address (calling_octets c)) _ terms.is_short in
-    let calling = calling_named c (or_left (is_long_address (calling_octets c)) _ terms.is_short) in
-    let called = called_named c (or_left (is_long_address (called_octets c)) _ rest) in
+    let calling = address_named c.calling_selector (or_left (is_long_address (calling_octets c)) _ terms.is_short) in
+    let called = address_named c.called_selector (or_left (is_long_address (called_octets c)) _ rest) in
     let few = not_so (nat_le (length c.user_data.now) most_user_data) (or_right (is_long_address (called_octets c)) _ rest) in
     let o : Opening = record (opening_of c) { calling_selector = calling.selector; called_selector = called.selector } in
     record {

@@ -1,24 +1,22 @@
 -- A DT of class 0 passes: it is for the one connection that is not over, it is right if it is not too long, and only what its sender
 -- has sent of a TSDU changes. For the laws on whole ends.
-use Rattle.osi_blameless.proofs.transport.Vocabulary.{ap, arith, Bool, false, IfSome, length, List, Option, refl, set, Some, true, ℕ, ◌+◌}
+use Rattle.osi_blameless.proofs.transport.Vocabulary.{ap, arith, Bool, false, IfSome, length, List, Option, set, Some, true, ℕ, ◌+◌}
 use Rattle.osi_blameless.proofs.transport.Vocabulary.{◌∙◌, ◌≡◌, ◌≤◌}
-use Rattle.osi_blameless.proofs.transport.Vocabulary.{eq-eqb, le-leb, position_or_len, position, slice_get, ◌==◌, data0, Value}
+use Rattle.osi_blameless.proofs.transport.Vocabulary.{le-leb, position_or_len, position, slice_get, data0, Value}
 use Rattle.osi_blameless.proofs.transport.Vocabulary.{longest_tsdu, Zero}
 use Rattle.osi_blameless.proofs.transport.Vocabulary.{data0_tests, first_failed, fits_size, is_live, is_over, own, begun_after, class_for}
 use Rattle.osi_blameless.proofs.transport.Vocabulary.{found}
 use Rattle.osi_blameless.proofs.transport.Vocabulary.{is_stopped, one_told, Outcome, route_zero, sent_on, Traffic, takes, Connection}
 use Rattle.osi_blameless.proofs.transport.Vocabulary.{Course, Direction}
 use Rattle.osi_blameless.proofs.transport.Vocabulary.{Kept, Half, Only}
-use Rattle.osi_blameless.proofs.transport.small_facts_that_many_lemmas_use.{differ, judged_so}
+use Rattle.osi_blameless.proofs.transport.small_facts_that_many_lemmas_use.{judged_so}
 use Rattle.osi_blameless.proofs.transport.names.a_right_unit_is_not_blamed.{first_there, is_first}
 use Rattle.osi_blameless.proofs.transport.lines.what_a_link_does.{begun_by}
 use Rattle.osi_blameless.proofs.transport.names.what_holds_of_one_item.{first_true}
 use Rattle.osi_blameless.proofs.transport.lines.what_is_right_passes_each_test.{is_right}
+pub use Rattle.osi_blameless.proofs.transport.small_facts_that_many_lemmas_use.{unlike}
 
 -- ---- its connection
-
-pub unlike : (q p : ℕ) → (q == p) ≡ false → q ≡ p → ⊥
-unlike q p h e = differ (q == p) (ap (λ (x : ℕ). x == p) e ∙ eq-eqb p p refl) h
 
 -- the only one that is not over for its sender
 module _ (d : Direction) (cs : List Connection) (p : ℕ) (c : Connection) (at : slice_get cs p ≡ Some c) (live : is_live d c ≡ true)

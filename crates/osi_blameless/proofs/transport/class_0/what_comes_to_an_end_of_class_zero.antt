@@ -14,7 +14,7 @@ use Rattle.osi_blameless.proofs.transport.Vocabulary.{unit as passing, Value, Wh
 use Rattle.osi_rules.specs.declared.findings.Rule.TheVariants as rule
 use Rattle.osi_blameless.proofs.transport.small_facts_that_many_lemmas_use.{and_first, and_second, differ, item_is, set_other}
 use Rattle.osi_blameless.proofs.transport.requests.left_selects_no_class.{left_class}
-use Rattle.osi_blameless.proofs.transport.called.what_comes_to_a_called_end.{open_over}
+use Rattle.osi_blameless.proofs.transport.by_place.what_comes_to_an_end.{open_over}
 use Rattle.osi_blameless.proofs.transport.names.what_keeps_names_apart.{AreApart}
 use Rattle.osi_blameless.proofs.transport.requests.what_lasts_at_the_judge.{lasts_passing}
 use Rattle.osi_blameless.proofs.transport.connections.what_stays_of_each_connection.{right_then}
@@ -22,7 +22,7 @@ use Rattle.osi_blameless.proofs.transport.connections.which_unit_of_the_other_si
 use Rattle.osi_blameless.proofs.transport.connections.which_unit_of_the_other_side_passes.{came_so, for_one}
 use Rattle.osi_blameless.proofs.transport.connections.which_unit_of_the_other_side_passes.{lost}
 use Rattle.osi_blameless.proofs.transport.requests.while_no_class_is_selected.{after_change}
-use Rattle.osi_blameless.proofs.transport.class_0.a_called_end_selects_class_zero.{Selecting}
+use Rattle.osi_blameless.proofs.transport.class_0.an_end_selects_class_zero.{Selecting}
 use Rattle.osi_blameless.proofs.transport.class_0.an_end_goes_on_in_class_zero.{After, IsEarly, IsZeroed, at_name, comes_by, comes_so}
 use Rattle.osi_blameless.proofs.transport.class_0.an_end_goes_on_in_class_zero.{to_none}
 use Rattle.osi_rules.specs.Traffic.{route_before}

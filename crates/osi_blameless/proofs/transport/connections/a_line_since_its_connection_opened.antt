@@ -20,9 +20,10 @@ use Rattle.osi_blameless.proofs.transport.names.names_stay_apart_though_one_is_l
 use Rattle.osi_blameless.proofs.transport.connections.what_a_line_keeps_though_it_is_lost.{Keeps, line_keeps}
 use Rattle.osi_blameless.proofs.transport.lines.what_holds_of_a_line.{Holds}
 use Rattle.osi_blameless.proofs.transport.names.what_holds_of_one_item.{first_true}
-use Rattle.osi_blameless.proofs.transport.lines.what_is_put_before_the_cc_passes.{acts_join}
 use Rattle.osi_blameless.proofs.transport.connections.which_units_are_for_a_connection.{AllOurs, closes_with_none, open_with_link}
 use Rattle.osi_blameless.proofs.transport.requests.while_no_class_is_selected.{set_same}
+use Rattle.osi_blameless.proofs.transport.what_each_thing_keeps_all_of_them_keep.{along_join}
+use Rattle.osi_blameless.proofs.transport.Vocabulary.{Acts}
 
 pub record Tracks (d : Direction) (r peer : ℕ) (line : Line) : Type 0 where
   pub first : Line
@@ -36,7 +37,7 @@ tracks_on d r peer line after more t h = record {
   first = t.first;
   acts = t.acts ++ more;
   opened = t.opened;
-  along = acts_join d r peer t.acts more t.first line after t.along h;
+  along = along_join (Acts d r peer) t.acts more t.first line after t.along h;
 }
 
 -- be its connection judged or not
@@ -55,12 +56,12 @@ tracks_hold Right r peer line t judged = right_holds r peer t.first line t.acts 
 
 -- as long as the end has its link, it has not closed the connection
 pub link_open : (d : Direction) (r peer : ℕ) (line : Line) → Tracks d r peer line → line.judge.is_judged ≡ true → (l : Standing) →
-    line.link ≡ Some l → is_open (own d line.judge).phase ≡ true
+    line.end ≡ Some l → is_open (own d line.judge).phase ≡ true
 link_open Left r peer line t judged l is = open_with_link r peer line (tracks_hold Left r peer line t judged) l is
 link_open Right r peer line t judged l is = open_with_link r peer (turned_line line) (tracks_hold Right r peer line t judged) l is
 
 -- if the end has closed the connection, and the judge has not seen that, the unit that closes it is to pass
-pub close_waits : (d : Direction) (r peer : ℕ) (line : Line) → Tracks d r peer line → line.judge.is_judged ≡ true → line.link ≡ None →
+pub close_waits : (d : Direction) (r peer : ℕ) (line : Line) → Tracks d r peer line → line.judge.is_judged ≡ true → line.end ≡ None →
     is_open (own d line.judge).phase ≡ true → line.put ≢ []
 close_waits Left r peer line t judged gone up none =
     closes_with_none r peer line (tracks_hold Left r peer line t judged) gone up none
@@ -97,7 +98,7 @@ pub record RightPassed (d : Direction) (s : Traffic) (r peer : ℕ) (line : Line
   pub judged : (sent_on d u c).is_judged ≡ true
   -- the end puts nothing after it has closed the connection, and has no link then
   pub none_left : is_open (own d (sent_on d u c)).phase ≡ false → still ≡ []
-  pub linked : (l : Standing) → line.link ≡ Some l → is_open (own d (sent_on d u c)).phase ≡ true
+  pub linked : (l : Standing) → line.end ≡ Some l → is_open (own d (sent_on d u c)).phase ≡ true
 
 -- of one that has lost its judgement
 pub record LostPassed (d : Direction) (s : Traffic) (r peer : ℕ) (line : Line) (u : Value) (still : List Value) (p : ℕ) (c : Connection) :
@@ -159,7 +160,7 @@ module _ (d : Direction) (s : Traffic) (named : AreNamedApart (other d) s.connec
           subst (λ (x : Connection). Tracks d r peer (record line { put = still; begun = false; judge = x }))
           (ap (λ (x : Connection). after_finding d (finding x) u x) judge ∙ ap (λ (x : Finding). after_finding d x u c) is)
           (tracks_on d r peer line after (passes_own s.course (uses_source d s.connections u) ∷ []) t
-          (after, (u, put, begun, refl), refl))
+          (after, (u, (put, begun, refl)), refl))
 
     -- of a connection that is judged it is right
     module _ (judged : c.is_judged ≡ true) where

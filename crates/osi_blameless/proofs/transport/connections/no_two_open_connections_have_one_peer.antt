@@ -5,7 +5,7 @@ use Rattle.osi_blameless.proofs.transport.Vocabulary.{slice_get, ◌||◌}
 use Rattle.osi_blameless.proofs.transport.Vocabulary.{is_closing, is_open, is_over, is_silent, uses, Traffic, Connection, Left, Right}
 use Rattle.osi_blameless.proofs.transport.Vocabulary.{Phase}
 use Rattle.osi_blameless.proofs.transport.small_facts_that_many_lemmas_use.{and_first, and_second, name_so}
-use Rattle.osi_blameless.proofs.transport.connections.each_connection_has_its_line.{is_tracked}
+use Rattle.osi_blameless.proofs.transport.connections.what_stays_of_each_connection.{is_tracked}
 use Rattle.osi_blameless.proofs.transport.names.what_keeps_names_apart.{Sound}
 use Rattle.osi_blameless.proofs.transport.names.names_stay_apart_though_one_is_lost.{AreNamedApart, each_sound}
 use Rattle.osi_blameless.proofs.transport.connections.what_the_other_side_closes.{IsSane}

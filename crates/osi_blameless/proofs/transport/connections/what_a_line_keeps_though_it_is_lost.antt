@@ -18,10 +18,11 @@ use Rattle.osi_blameless.proofs.transport.small_facts_that_many_lemmas_use.{half
 use Rattle.osi_blameless.proofs.transport.connections.what_stays_of_each_connection.{left_judged, left_own, left_then, right_judged}
 use Rattle.osi_blameless.proofs.transport.connections.what_stays_of_each_connection.{right_own, right_then}
 use Rattle.osi_blameless.proofs.transport.connections.which_units_are_for_a_connection.{AllOurs}
+use Rattle.osi_blameless.proofs.transport.what_each_thing_keeps_all_of_them_keep.{along_keeps}
 
 -- what the judge knows of the other side, and what the end knew of it as its packet began
 pub record Keeps (d : Direction) (r peer : ℕ) (line : Line) : Type 0 where
-  pub flow : (l : Standing) → line.link ≡ Some l → (f : Flow) × (l.flow ≡ Some f)
+  pub flow : (l : Standing) → line.end ≡ Some l → (f : Flow) × (l.flow ≡ Some f)
   pub ours : AllOurs r peer line.put
   pub there : is_silent (theirs d line.judge).phase ≡ false
   pub reference : (theirs d line.judge).reference ≡ peer
@@ -101,7 +102,7 @@ module _ (d : Direction) (r peer : ℕ) (old new : Line) (h : Keeps d r peer old
   -- the end does something
   does : (units : List Value) (link : Option Standing) (coming : List Value) → AllOurs r peer units →
       ((l : Standing) → link ≡ Some l → (f : Flow) × (l.flow ≡ Some f)) →
-      new ≡ record old { link = link; put = old.put ++ units; coming = coming } → Keeps d r peer new
+      new ≡ record old { end = link; put = old.put ++ units; coming = coming } → Keeps d r peer new
   does units link coming ours flow is = grind (arith, ours_join, some_join)
 
   act_keeps : (act : Act) → Acts d r peer act old new → Keeps d r peer new
@@ -119,7 +120,7 @@ module _ (d : Direction) (r peer : ℕ) (old new : Line) (h : Keeps d r peer old
   act_keeps begins_own (some, idle, new_is) = grind (arith, begun_own)
   act_keeps begins_elsewhere (idle, new_is) = grind (arith, begun_own)
   act_keeps begins_other new_is = grind (arith, begun_other)
-  act_keeps (passes_own course in_use) (unit, put, begun, new_is) = grind (arith, own_after)
+  act_keeps (passes_own course in_use) (unit, (put, begun, new_is)) = grind (arith, own_after)
   act_keeps (passes_other course in_use unit) (ranges, dest, some, new_is) =
       let f = finding_of (other d) course in_use old.judge unit in
       let after = theirs_after d (is_applied f) unit (reach_of (Some Two) f) old.judge
@@ -128,7 +129,7 @@ module _ (d : Direction) (r peer : ℕ) (old new : Line) (h : Keeps d r peer old
 
 opened_keeps : (d : Direction) (r peer : ℕ) (line : Line) → IsOpened d r peer line → Keeps d r peer line
 opened_keeps d r peer line o = record {
-  flow = λ l e. (_, ap (λ (x : Standing). x.flow) (link_is _ l line.link o.link e));
+  flow = λ l e. (_, ap (λ (x : Standing). x.flow) (link_is _ l line.end o.link e));
   ours = subst (AllOurs r peer) (sym o.put) tt;
   there = ap (λ (x : Half). is_silent x.phase) o.came;
   reference = ap (λ (x : Half). x.reference) o.came;
@@ -136,12 +137,8 @@ opened_keeps d r peer line o = record {
   some = λ b. absurd (cc (sym b ∙ o.begun));
 }
 
-all_keep : (d : Direction) (r peer : ℕ) (acts : List Act) (old new : Line) → ActsAlong d r peer old acts new → Keeps d r peer old →
-    Keeps d r peer new
-all_keep d r peer [] old new e h = subst (Keeps d r peer) (sym e) h
-all_keep d r peer (act ∷ acts) old new (mid, one, more) h =
-    all_keep d r peer acts mid new more (act_keeps d r peer old mid h act one)
-
 pub line_keeps : (d : Direction) (r peer : ℕ) (begin line : Line) (acts : List Act) → IsOpened d r peer begin →
     ActsAlong d r peer begin acts line → Keeps d r peer line
-line_keeps d r peer begin line acts o along = all_keep d r peer acts begin line along (opened_keeps d r peer begin o)
+line_keeps d r peer begin line acts o along =
+    along_keeps (Acts d r peer) (Keeps d r peer) (λ act old new one h. act_keeps d r peer old new h act one) acts begin line along
+    (opened_keeps d r peer begin o)

@@ -17,7 +17,7 @@ use Rattle.osi_blameless.proofs.transport.Vocabulary.{◌⊎◌}
 use Rattle.osi_rules.specs.declared.findings.Rule.TheVariants as rule
 use Rattle.osi_blameless.proofs.transport.small_facts_that_many_lemmas_use.{and_first, and_second, differ, judged_same, open_or_closing}
 use Rattle.osi_blameless.proofs.transport.connections.no_two_open_connections_have_one_peer.{left_open, right_there, there_not_silent}
-use Rattle.osi_blameless.proofs.transport.connections.each_connection_has_its_line.{is_tracked}
+use Rattle.osi_blameless.proofs.transport.connections.what_stays_of_each_connection.{is_tracked}
 use Rattle.osi_blameless.proofs.transport.names.what_keeps_names_apart.{Sound}
 use Rattle.osi_blameless.proofs.transport.connections.what_stays_of_each_connection.{right_judged, right_own}
 use Rattle.osi_blameless.proofs.transport.requests.what_lasts_at_the_judge.{IsCalm, calm_noted}

@@ -1,11 +1,12 @@
 -- What stays of each connection at the judge of a calling end as units pass: its reference, and that no other has it.
 -- For the law on DRs.
 use Rattle.osi_blameless.proofs.transport.Vocabulary.{arith, asked_by, Asks, asks_by, asks_of, at_found, at_place, Bool, Broke, class_for}
+use Rattle.osi_blameless.proofs.transport.Vocabulary.{is_closing, is_open, ◌&&◌}
 use Rattle.osi_blameless.proofs.transport.Vocabulary.{confirm}
 use Rattle.osi_blameless.proofs.transport.Vocabulary.{Connect, Connection, connection_after, Direction, false, Finding, first_failed}
 use Rattle.osi_blameless.proofs.transport.Vocabulary.{found_on, half_after}
 use Rattle.osi_blameless.proofs.transport.Vocabulary.{if◌then◌else◌, is_applied, is_free, is_live, is_named, is_refused, is_silent}
-use Rattle.osi_blameless.proofs.transport.Vocabulary.{judged_on, Kept, Left}
+use Rattle.osi_blameless.proofs.transport.Vocabulary.{Kept, Left}
 use Rattle.osi_blameless.proofs.transport.Vocabulary.{length, List, Named, None, none_told, NotJudged, Only, Option, Outcome, Outside}
 use Rattle.osi_blameless.proofs.transport.Vocabulary.{placed, position}
 use Rattle.osi_blameless.proofs.transport.Vocabulary.{Reach, reach_of, refl, request, request_tests, Right, Route, route, routed, sent_on}
@@ -15,14 +16,13 @@ use Rattle.osi_blameless.proofs.transport.Vocabulary.{◌⊎◌}
 use Rattle.osi_blameless.proofs.transport.small_facts_that_many_lemmas_use.{sized_judged}
 use Rattle.osi_blameless.proofs.transport.connections.what_is_live_at_an_end.{IsLively, is_there}
 use Rattle.osi_blameless.proofs.transport.names.what_holds_of_one_item.{HoldsOfEach, after_add, after_set, each_add, each_set}
+pub use Rattle.osi_blameless.proofs.transport.small_facts_that_many_lemmas_use.{left_judged, right_judged}
+
+-- left has not closed it, and right has answered the CR by a CC
+abbrev pub is_tracked : Connection → Bool
+is_tracked c = is_open c.left.phase && (is_open c.right.phase || is_closing c.right.phase)
 
 -- ---- the halves of a connection after a unit
-
-pub left_judged : (r : Reach) (c : Connection) → (judged_on r c).left ≡ c.left
-left_judged r c = grind arith
-
-pub right_judged : (r : Reach) (c : Connection) → (judged_on r c).right ≡ c.right
-right_judged r c = grind arith
 
 -- of left, after a unit of left
 pub left_own : (v : Value) (r : Reach) (c : Connection) → (connection_after Left v true r c).left ≡ half_after v c.left

@@ -153,7 +153,7 @@ pub last_ours : (r peer : ℕ) (xs ys : List Value) → AllOurs r peer (xs ++ ys
 last_ours r peer [] ys h = h
 last_ours r peer (x ∷ xs) ys (one, more) = last_ours r peer xs ys more
 
-pub closes_with_none : (r peer : ℕ) (line : Line) → Holds r peer line → line.link ≡ None → is_open line.judge.left.phase ≡ true →
+pub closes_with_none : (r peer : ℕ) (line : Line) → Holds r peer line → line.end ≡ None → is_open line.judge.left.phase ≡ true →
     line.put ≡ [] → ⊥
 closes_with_none r peer line h none live e = grind arith
 
@@ -162,6 +162,6 @@ put_open : (r peer limit : ℕ) (x : Tally) (mine theirs : Half) (put : List Val
     PutsAt r peer limit x mine theirs put link → link ≡ Some l → is_open mine.phase ≡ true
 put_open r peer limit x mine theirs put link l h e = grind arith
 
-pub open_with_link : (r peer : ℕ) (line : Line) → Holds r peer line → (l : Standing) → line.link ≡ Some l →
+pub open_with_link : (r peer : ℕ) (line : Line) → Holds r peer line → (l : Standing) → line.end ≡ Some l →
     is_open line.judge.left.phase ≡ true
 open_with_link r peer line h l is = grind (arith, put_open)

@@ -25,15 +25,15 @@ abbrev AreMoves : List Move → List Act
 AreMoves calls = map (λ m. moves m) calls
 
 abbrev line_after : Line → Standing → List Value → List Value → Line
-line_after line link put later = record line { link = Some link; put = put; coming = later }
+line_after line link put later = record line { end = Some link; put = put; coming = later }
 
-same_line : (line : Line) (link : Standing) (later : List Value) → line.link ≡ Some link → line.coming ≡ later →
+same_line : (line : Line) (link : Standing) (later : List Value) → line.end ≡ Some link → line.coming ≡ later →
     line_after line link (line.put ++ []) later ≡ line
 same_line line link later is coming = grind (arith, append-nil)
 
 module _ (d : Direction) (r peer : ℕ) where
   moves_along : (calls : List Move) (old new : Standing) → MovesAlong old calls new → AllByRecursion HandsInShort calls →
-      (line : Line) (later : List Value) → line.link ≡ Some old → line.coming ≡ flat_map units_taken calls ++ later →
+      (line : Line) (later : List Value) → line.end ≡ Some old → line.coming ≡ flat_map units_taken calls ++ later →
       ActsAlong d r peer line (AreMoves calls) (line_after line new (line.put ++ flat_map (units_put peer) calls) later)
   moves_along [] old new e short line later is coming = grind (arith, same_line line old later is coming)
   moves_along (call ∷ calls) old new (mid, move, more) (one, others) line later is coming =
@@ -80,19 +80,26 @@ front_puts peer old mid front taken f = flat_map-append (units_put peer) front (
     ∙ ap (λ (l : List Value). l ++ flat_map (units_put peer) (map give_out (all_given mid))) (f.puts peer) ∙ given_put peer (all_given mid)
 
 module _ (r peer : ℕ) (s new : State) (link mid : Standing) (front : List Move) (units : List Value) (f : Front link mid front units) where
-  pumps_along : (d : Direction) (line : Line) (later : List Value) → line.link ≡ Some link → line.coming ≡ units ++ later →
+  pumps_along : (d : Direction) (line : Line) (later : List Value) → line.end ≡ Some link → line.coming ≡ units ++ later →
       ActsAlong d r peer line (AreMoves (calls_after front mid)) (line_after line (pumped mid) (line.put ++ written_by peer mid) later)
   pumps_along d line later is coming =
       let along = moves_join front (map give_out (all_given mid)) link mid (pumped mid) f.along (drained_moves mid) in
       let short = short_join front (map give_out (all_given mid)) f.short (given_short (all_given mid)) in
-      grind (arith, moves_along, front_takes link mid front units f, front_puts peer link mid front units f)
+      subst (λ (l : List Value). ActsAlong d r peer line (AreMoves (calls_after front mid))
+      (line_after line (pumped mid) (line.put ++ l) later))
+      (front_puts peer link mid front units f)
+      (moves_along d r peer (calls_after front mid) link (pumped mid) along short line later is
+      (coming ∙ ap (λ (l : List Value). l ++ later) (sym (front_takes link mid front units f))))
 
   follows_pump : value_at r s.live ≡ Some (linked peer link) → value_at r new.live ≡ Some (linked peer (pumped mid)) →
       new.outgoing ≡ s.outgoing ++ packets (written_by peer mid) → Follows r peer units (written_by peer mid) s new
   follows_pump here there outgoing = record {
     acts = AreMoves (calls_after front mid);
     outgoing = outgoing;
-    along = grind (arith, pumps_along);
+    along = λ d line later is coming.
+        subst (λ (o : Option Standing). ActsAlong d r peer line (AreMoves (calls_after front mid))
+        (record line { end = o; put = line.put ++ written_by peer mid; coming = later }))
+        (sym (ap link_now there)) (pumps_along d line later (is ∙ ap link_now here) coming);
   }
 
 -- ---- a TSDU

@@ -18,8 +18,10 @@ right_holds r peer begin line acts o along judged =
 
 pub waits_open : (d : Direction) (r peer : ℕ) (begin line : Line) (acts : List Act) → IsOpened d r peer begin →
     ActsAlong d r peer begin acts line → line.judge.is_judged ≡ true → line.put ≢ [] → is_open (own d line.judge).phase ≡ true
-waits_open d r peer begin line acts o along judged some = grind (arith, left_holds, right_holds)
+waits_open Left r peer begin line acts o along judged some = grind (arith, left_holds r peer begin line acts o along judged)
+waits_open Right r peer begin line acts o along judged some = grind (arith, right_holds r peer begin line acts o along judged)
 
 pub peer_keeps : (d : Direction) (r peer : ℕ) (begin line : Line) (acts : List Act) → IsOpened d r peer begin →
     ActsAlong d r peer begin acts line → line.judge.is_judged ≡ true → (theirs d line.judge).reference ≡ peer
-peer_keeps d r peer begin line acts o along judged = grind (arith, left_holds, right_holds)
+peer_keeps Left r peer begin line acts o along judged = grind (arith, left_holds r peer begin line acts o along judged)
+peer_keeps Right r peer begin line acts o along judged = grind (arith, right_holds r peer begin line acts o along judged)

@@ -7,7 +7,7 @@ use Rattle.osi_blameless.proofs.transport.Vocabulary.{closes_with as closes, Con
 use Rattle.osi_blameless.proofs.transport.Vocabulary.{finding_of, found}
 use Rattle.osi_blameless.proofs.transport.Vocabulary.{fresh_two, Half, ignores, inl, inr, is_open, IsFair, IsOpened, IsRightNow, Kept, Left}
 use Rattle.osi_blameless.proofs.transport.Vocabulary.{Line, List}
-use Rattle.osi_blameless.proofs.transport.Vocabulary.{moves, other, Right, sent_on, subst, sym, true, two_standing, Value, ℕ, ◌-◌, ◌∙◌, ◌∷◌}
+use Rattle.osi_blameless.proofs.transport.Vocabulary.{moves, other, Right, sent_on, sym, true, two_standing, Value, ℕ, ◌-◌, ◌∙◌, ◌∷◌}
 use Rattle.osi_blameless.proofs.transport.Vocabulary.{◌≡◌}
 use Rattle.osi_blameless.proofs.transport.Vocabulary.{◌⊎◌}
 use Rattle.osi_rules.specs.declared.findings.Rule.TheVariants as rule
@@ -19,6 +19,7 @@ use Rattle.osi_blameless.proofs.transport.lines.what_passes_of_an_end.{passes_ow
 use Rattle.osi_blameless.proofs.transport.small_facts_that_many_lemmas_use.{judged_same}
 use Rattle.osi_blameless.proofs.transport.lines.what_each_unit_of_the_other_side_does.{passes_other_holds}
 use Rattle.osi_blameless.proofs.transport.lines.what_begins_to_pass_is_right.{first_right}
+use Rattle.osi_blameless.proofs.transport.what_each_thing_keeps_all_of_them_keep.{along_keeps}
 
 -- ---- a connection that is judged was judged before
 
@@ -43,18 +44,17 @@ act_keeps r peer (ignores units) old new (none, coming, new_is) h judged = grind
 act_keeps r peer (answers unit) old new (link, is, dr, coming, new_is) h judged =
     answers_hold r peer unit old new (link, is, dr, coming, new_is) (h (sym (ap (λ (l : Line). l.judge.is_judged) new_is) ∙ judged))
 act_keeps r peer begins_own old new (some, idle, new_is) h judged = grind (arith, first_right)
-act_keeps r peer (passes_own course in_use) old new (unit, first, begun, new_is) h judged =
+act_keeps r peer (passes_own course in_use) old new (unit, (first, begun, new_is)) h judged =
     let still = sym (ap (λ (l : Line). l.judge.is_judged) new_is) ∙ judged in
     let was = was_judged Left (finding_of Left course in_use old.judge unit) unit old.judge still in
-    passes_own_holds r peer course in_use old new (unit, first, begun, new_is) was (h was)
+    passes_own_holds r peer course in_use old new (unit, (first, begun, new_is)) was (h was)
 act_keeps r peer begins_elsewhere old new (idle, new_is) h judged = grind arith
 act_keeps r peer begins_other old new new_is h judged = grind (arith, begins_other_holds)
 act_keeps r peer (passes_other course in_use unit) old new (range, named, some, new_is) h judged =
     grind (arith, was_judged, passes_other_holds)
 
 pub all_keep : (r peer : ℕ) (acts : List Act) (old new : Line) → ActsAlong Left r peer old acts new → Keeps r peer old → Keeps r peer new
-all_keep r peer [] old new e h = subst (λ (l : Line). Keeps r peer l) (sym e) h
-all_keep r peer (act ∷ acts) old new (mid, a, more) h = all_keep r peer acts mid new more (act_keeps r peer act old mid a h)
+all_keep r peer = along_keeps (Acts Left r peer) (Keeps r peer) (act_keeps r peer)
 
 -- ---- as it begins
 
@@ -127,7 +127,7 @@ found_other course in_use c v = grind arith
 own_turned : (r peer : ℕ) (course : Course) (in_use : Bool) (old new : Line) → Acts Right r peer (passes_own course in_use) old new →
     old.judge.is_judged ≡ true → Holds r peer (turned_line old) →
     Acts Left r peer (passes_own course in_use) (turned_line old) (turned_line new)
-own_turned r peer course in_use old new (unit, first, begun, new_is) was h =
+own_turned r peer course in_use old new (unit, (first, begun, new_is)) was h =
     let right = line_first (turned old.judge) old.put new.put unit first (h.under_way begun) in
     let turned_kept = is_kept course in_use (turned old.judge) unit was right in
     let kept : finding_of Right course in_use old.judge unit ≡ Kept =
@@ -136,9 +136,11 @@ own_turned r peer course in_use old new (unit, first, begun, new_is) was h =
     let judge_is = finding_turned Right (finding_of Right course in_use old.judge unit) unit old.judge
     ∙ ap (λ (f : Finding). after_finding Left f unit (turned old.judge)) (kept ∙ sym turned_kept) in (
       unit,
-      first,
-      begun,
-      ap turned_line new_is ∙ ap (λ (c : Connection). record (turned_line old) { put = new.put; begun = false; judge = c }) judge_is,
+      (
+        first,
+        begun,
+        ap turned_line new_is ∙ ap (λ (c : Connection). record (turned_line old) { put = new.put; begun = false; judge = c }) judge_is,
+      ),
     )
 
 other_keeps : (r peer : ℕ) (course : Course) (in_use : Bool) (unit : Value) (old new : Line) →
@@ -161,11 +163,11 @@ act_turned r peer (answers unit) old new (link, is, dr, coming, new_is) h judged
     act_keeps r peer (answers unit) (turned_line old) (turned_line new) (link, is, dr, coming, ap turned_line new_is) h judged
 act_turned r peer begins_own old new (some, idle, new_is) h judged =
     act_keeps r peer begins_own (turned_line old) (turned_line new) (some, idle, ap turned_line new_is) h judged
-act_turned r peer (passes_own course in_use) old new (unit, first, begun, new_is) h judged =
+act_turned r peer (passes_own course in_use) old new (unit, (first, begun, new_is)) h judged =
     let still = sym (ap (λ (l : Line). l.judge.is_judged) new_is) ∙ judged in
     let was = was_judged Right (finding_of Right course in_use old.judge unit) unit old.judge still in
     act_keeps r peer (passes_own course in_use) (turned_line old) (turned_line new)
-    (own_turned r peer course in_use old new (unit, first, begun, new_is) was (h was)) h judged
+    (own_turned r peer course in_use old new (unit, (first, begun, new_is)) was (h was)) h judged
 act_turned r peer begins_elsewhere old new (idle, new_is) h judged = grind (arith, act_keeps)
 act_turned r peer begins_other old new new_is h judged =
     act_keeps r peer begins_other (turned_line old) (turned_line new) (ap turned_line new_is) h judged
@@ -173,8 +175,7 @@ act_turned r peer (passes_other course in_use unit) old new a h judged = search 
 
 pub all_turned : (r peer : ℕ) (acts : List Act) (old new : Line) → ActsAlong Right r peer old acts new → Keeps r peer (turned_line old) →
     Keeps r peer (turned_line new)
-all_turned r peer [] old new e h = subst (λ (l : Line). Keeps r peer l) (sym (ap turned_line e)) h
-all_turned r peer (act ∷ acts) old new (mid, a, more) h = all_turned r peer acts mid new more (act_turned r peer act old mid a h)
+all_turned r peer = along_keeps (Acts Right r peer) (λ line. Keeps r peer (turned_line line)) (act_turned r peer)
 
 right_is_fair : (r peer : ℕ) (begin line : Line) (acts : List Act) → IsOpened Right r peer begin → ActsAlong Right r peer begin acts line →
     IsFair Right line
@@ -184,4 +185,5 @@ right_is_fair r peer begin line acts o along begun judged =
 
 pub open_is_fair : (d : Direction) (r peer : ℕ) (begin line : Line) (acts : List Act) → IsOpened d r peer begin →
     ActsAlong d r peer begin acts line → IsFair d line
-open_is_fair d r peer begin line acts o along = grind (arith, left_is_fair, right_is_fair)
+open_is_fair Left r peer begin line acts o along = left_is_fair r peer begin line acts o along
+open_is_fair Right r peer begin line acts o along = right_is_fair r peer begin line acts o along

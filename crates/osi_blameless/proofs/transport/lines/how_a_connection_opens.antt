@@ -51,19 +51,19 @@ at_size o = grind arith
 
 -- ---- the line
 
-pub called_opens : (local : Local) (c : Connect) (size : Option ℕ) (r : ℕ) (t : Connection) → IsConnect c →
+pub opens_by_the_cc_that_it_puts : (local : Local) (c : Connect) (size : Option ℕ) (r : ℕ) (t : Connection) → IsConnect c →
     selected_by c local ≡ accept Two size →
     t.left ≡ opened_half c.source c.credit → t.right ≡ silent_half → t.seen_by_left.next ≡ 0 →
     IsOpened Right r c.source
     (opened_line (opened_link Two size local c.credit) (sent_on Right (confirm c.source (acceptance Two size c local r)) t))
-called_opens local c size r t range e left right noted = search (arith, two_selected, at_size, at_least_five)
+opens_by_the_cc_that_it_puts local c size r t range e left right noted = search (arith, two_selected, at_size, at_least_five)
 
-pub calling_opens : (local : Local) (c : Connect) (r : ℕ) (t : Connection) → IsConnect c →
+pub opens_by_the_cc_that_comes : (local : Local) (c : Connect) (r : ℕ) (t : Connection) → IsConnect c →
     t.left ≡ opened_half r (window_units local.window) →
     t.right ≡ silent_half → t.seen_by_right.next ≡ 0 →
     IsOpened Left r c.source
     (opened_line (opened_link Two (agreed_size c.parameters.size local) local c.credit) (sent_on Right (confirm r c) t))
-calling_opens local c r t range left right noted = grind (arith, at_least_five, pow-le-pow_right)
+opens_by_the_cc_that_comes local c r t range left right noted = grind (arith, at_least_five, pow-le-pow_right)
 
 -- the CR of this end, as the judge knows it
 pub asked_so : (local : Local) (held : Option Class) (calling called : Option (List ℕ)) (r : ℕ) → local.class2 ≡ true →

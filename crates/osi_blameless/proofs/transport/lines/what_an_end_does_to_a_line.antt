@@ -179,8 +179,8 @@ takes_with limit x theirs coming link is e h = subst (λ (l : Option Standing). 
 
 pub moves_hold : (r peer : ℕ) (move : Move) (old new : Line) → Acts Left r peer (moves move) old new → Holds r peer old → Holds r peer new
 moves_hold r peer move old new (link, after, is, e, short, coming, new_is) h =
-    let puts = puts_with r peer h.limit h.tally old.judge.left old.judge.right old.put old.link link is h.puts in
-    let takes = takes_with h.limit h.tally old.judge.right old.coming old.link link is h.takes in
+    let puts = puts_with r peer h.limit h.tally old.judge.left old.judge.right old.put old.end link is h.puts in
+    let takes = takes_with h.limit h.tally old.judge.right old.coming old.end link is h.takes in
     let came = subst (λ (l : List Value). linked h.limit h.tally old.judge.right l link) coming takes in
     let m = call_moves r peer h.limit h.tally h.noted old.judge h.ordered h.judges move old.put new.coming link after came puts e short in
     subst (λ (l : Line). Holds r peer l) (sym new_is)

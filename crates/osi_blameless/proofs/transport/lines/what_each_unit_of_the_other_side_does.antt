@@ -172,7 +172,7 @@ passes_other_holds r peer course in_use unit old new (range, named, some, new_is
     let after : new ≡ record old { judge = after_finding Right f unit old.judge; coming = old.coming ++ unit ∷ [] } = new_is
     ∙ ap (λ (g : Finding). record old { judge = after_finding Right g unit old.judge; coming = old.coming ++ unit ∷ [] }) is in
     let still : (after_finding Right f unit old.judge).is_judged ≡ true = sym (ap (λ (l : Line). l.judge.is_judged) after) ∙ judged in
-    let w = unit_goes r peer h.limit h.tally h.noted old.judge old.put old.coming old.link h.ordered h.judges h.puts h.takes course in_use
+    let w = unit_goes r peer h.limit h.tally h.noted old.judge old.put old.coming old.end h.ordered h.judges h.puts h.takes course in_use
     unit
     range named stop still in
     subst (λ (l : Line). Holds r peer l) (sym after)

@@ -117,6 +117,6 @@ pub record Holds (r peer : ℕ) (line : Line) : Type 0 where
   pub noted : ℕ
   pub ordered : Ordered tally noted
   pub judges : as_judged r peer limit tally noted line.judge
-  pub puts : PutsAt r peer limit tally line.judge.left line.judge.right line.put line.link
-  pub takes : TakesAt limit tally line.judge.right line.coming line.link
+  pub puts : PutsAt r peer limit tally line.judge.left line.judge.right line.put line.end
+  pub takes : TakesAt limit tally line.judge.right line.coming line.end
   pub under_way : line.begun ≡ true → IsRightNow Left line.judge line.put

@@ -1,6 +1,6 @@
 -- What a called end puts before its CC has passed might as well have been put right after that.
 -- For the law of that name.
-use Rattle.osi_blameless.proofs.transport.Vocabulary.{arith, [], ap, Bool, false, List, refl, subst, ℕ, ◌++◌, ◌∙◌, ◌∷◌, ◌≡◌, AllByRecursion}
+use Rattle.osi_blameless.proofs.transport.Vocabulary.{arith, [], ap, Bool, false, List, refl, ℕ, ◌++◌, ◌∙◌, ◌∷◌, ◌≡◌, AllByRecursion}
 use Rattle.osi_blameless.proofs.transport.Vocabulary.{Value}
 use Rattle.osi_blameless.proofs.transport.Vocabulary.{Standing, Connection, Course, Direction, Act, Acts, ActsAlong, answering_line}
 use Rattle.osi_blameless.proofs.transport.Vocabulary.{answers}
@@ -9,16 +9,11 @@ use Rattle.osi_blameless.proofs.transport.Vocabulary.{PassesNone, units_put}
 use Rattle.osi_blameless.specs.transport.Lines.{begins_other, begins_own, passes_other, passes_own}
 use Rattle.osi_blameless.proofs.transport.small_facts_that_many_lemmas_use.{rest_is}
 use Rattle.osi_blameless.proofs.transport.Vocabulary.{disconnect, disconnected}
+use Rattle.osi_blameless.proofs.transport.what_each_thing_keeps_all_of_them_keep.{along_join}
 
 -- the line without its CC, as if this were the judge
 abbrev without_cc : Connection → List Value → Line → Line
 without_cc judge more line = record line { put = more; begun = false; judge = judge }
-
-pub acts_join : (d : Direction) (r peer : ℕ) (xs ys : List Act) (a b c : Line) → ActsAlong d r peer a xs b →
-    ActsAlong d r peer b ys c →
-    ActsAlong d r peer a (xs ++ ys) c
-acts_join d r peer [] ys a b c e h = subst (λ (l : Line). ActsAlong d r peer l ys c) e h
-acts_join d r peer (x ∷ xs) ys a b c (mid, act, more) h = (mid, act, acts_join d r peer xs ys mid b c more h)
 
 module _ (d : Direction) (r peer : ℕ) (cc_is : Value) (judge : Connection) where
   -- acts that do the same to the line without its CC
@@ -74,12 +69,14 @@ module _ (d : Direction) (r peer : ℕ) (cc_is : Value) (judge : Connection) whe
         now = b.now;
         acts = a.acts ++ b.acts;
         put = b.put;
-        along = grind (arith, acts_join);
+        along = along_join (Acts d r peer) a.acts b.acts (without_cc judge more old) (without_cc judge a.now mid)
+            (without_cc judge b.now new)
+            a.along b.along;
       }
 
 pub opened_later : (d : Direction) (r peer : ℕ) (link : Standing) (answer : Value) (judge : Connection) (acts : List Act) (course : Course)
     (in_use : Bool) (line after : Line) → AllByRecursion PassesNone acts → ActsAlong d r peer (answering_line link answer judge) acts line →
     Acts d r peer (passes_own course in_use) line after →
     (later : List Act) × ActsAlong d r peer (opened_line link after.judge) later after
-opened_later d r peer link answer judge acts course in_use line after none along (unit, first, begun, new_is) =
+opened_later d r peer link answer judge acts course in_use line after none along (unit, (first, begun, new_is)) =
     grind (arith, rest_is, all_same d r peer answer after.judge acts [] (answering_line link answer judge) line none along refl)

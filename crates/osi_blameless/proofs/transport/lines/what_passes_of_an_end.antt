@@ -102,10 +102,10 @@ theirs_same unit judge = grind arith
 pub passes_own_holds : (r peer : ℕ) (course : Course) (in_use : Bool) (old new : Line) →
     Acts Left r peer (passes_own course in_use) old new →
     old.judge.is_judged ≡ true → Holds r peer old → Holds r peer new
-passes_own_holds r peer course in_use old new (unit, first, begun, new_is) judged h =
+passes_own_holds r peer course in_use old new (unit, (first, begun, new_is)) judged h =
     let right = first_is old.judge old.put new.put unit first (h.under_way begun) in
-    let puts = subst (λ (l : List Value). PutsAt r peer h.limit h.tally old.judge.left old.judge.right l old.link) first h.puts in
-    let p = unit_passes r peer h.limit h.tally h.noted old.judge h.ordered h.judges old.link unit new.put puts in
+    let puts = subst (λ (l : List Value). PutsAt r peer h.limit h.tally old.judge.left old.judge.right l old.end) first h.puts in
+    let p = unit_passes r peer h.limit h.tally h.noted old.judge h.ordered h.judges old.end unit new.put puts in
     let after : new ≡ record old { put = new.put; begun = false; judge = sent_on Left unit old.judge } = new_is
     ∙ ap (λ (f : Finding). record old { put = new.put; begun = false; judge = after_finding Left f unit old.judge })
     (is_kept course in_use old.judge unit judged right) in
@@ -117,7 +117,7 @@ passes_own_holds r peer course in_use old new (unit, first, begun, new_is) judge
       ordered = p.ordered;
       judges = p.judges;
       puts = p.puts;
-      takes = subst (λ (half : Half). TakesAt h.limit (record h.tally { passed = p.passed; shown = p.shown }) half old.coming old.link)
+      takes = subst (λ (half : Half). TakesAt h.limit (record h.tally { passed = p.passed; shown = p.shown }) half old.coming old.end)
           (sym (theirs_same unit old.judge)) (grind arith);
       under_way = λ b. absurd (cc);
     })

@@ -53,14 +53,14 @@ refuses_so mine seen h = search (arith, or_first)
 
 -- ---- a unit that has its effect passed these tests
 
-one_test : (b : Bool) → is_applied (first_failed ((b, Broke rule.Closed) ∷ [])) ≡ true → b ≡ true
+pub one_test : (b : Bool) → is_applied (first_failed ((b, Broke rule.Closed) ∷ [])) ≡ true → b ≡ true
 one_test b h = grind arith
 
 pub error_test : (b erred : Bool) →
     is_applied (first_failed ((b || not erred, NotJudged) ∷ (b, Broke rule.WrongForm) ∷ [])) ≡ true → b ≡ true
 error_test b erred h = grind arith
 
-due_test : (due told strays : Bool) →
+pub due_test : (due told strays : Bool) →
     is_applied (first_failed ((due || not strays, NotJudged) ∷ (told, Broke rule.UnknownReference) ∷ (due, Broke rule.NothingToAnswer)
     ∷ [])) ≡ true →
     due ≡ true

@@ -38,7 +38,7 @@ is_first f xs p x at h = grind (arith, slice_get_within, fails_there, lt-ltb)
 abbrev pub IsNotBlamed : Finding → Type 0
 IsNotBlamed f = (f ≡ Kept) ⊎ (f ≡ NotJudged)
 
-same_item : {X : Type 0} (x y : X) → Some x ≡ Some y → x ≡ y
+pub same_item : {X : Type 0} (x y : X) → Some x ≡ Some y → x ≡ y
 same_item x y e = cc
 
 module _ (d : Direction) (v : Value) (s : State) (n p : ℕ) (c : Connection) (apart : HoldsOfOne (is_named d n) s.connections)

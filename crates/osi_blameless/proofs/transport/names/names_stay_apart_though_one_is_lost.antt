@@ -18,6 +18,8 @@ use Rattle.osi_blameless.proofs.transport.names.when_a_connection_has_a_name.{ea
 use Rattle.osi_blameless.proofs.transport.names.what_keeps_names_apart.{AreApart, Lessens, Sound}
 use Rattle.osi_blameless.proofs.transport.names.a_reference_names_one_connection.{applied_found, applied_judged, confirm_test, left_sent}
 use Rattle.osi_blameless.proofs.transport.names.a_reference_names_one_connection.{not_true, right_goes}
+use Rattle.osi_blameless.proofs.transport.small_facts_that_many_lemmas_use.{and_second as last_of}
+use Rattle.osi_blameless.proofs.transport.lines.an_open_end_is_fair.{sent_judged as judged_sent}
 
 -- ---- what holds
 
@@ -154,18 +156,12 @@ named_set d cs p c new named at sound used known = record {
 known_live : (a b k : Bool) → (a ≡ false) ⊎ (b ≡ false) → k ≡ true → (not (a && b) && k) ≡ true
 known_live a b k h e = grind arith
 
-last_of : (a b : Bool) → (a && b) ≡ true → b ≡ true
-last_of a b h = grind arith
-
 -- what has its effect ends no judging
 pub applied_ends_none : (k : Option Class) (f : Finding) → is_applied f ≡ true → reach_of k f ≡ reach.Nothing
 applied_ends_none k f h = grind arith
 
 seen_sent : (d : Direction) (v : Value) (c : Connection) → seen (other d) (sent_on d v c) ≡ seen (other d) c
 seen_sent d v c = grind arith
-
-judged_sent : (d : Direction) (v : Value) (c : Connection) → (sent_on d v c).is_judged ≡ c.is_judged
-judged_sent d v c = grind arith
 
 less_used : (d : Direction) (c new : Connection) → Lessens c new → (n : ℕ) → new.is_judged ≡ true → uses d n new ≡ true → uses d n c ≡ true
 less_used d c new l n j h = grind arith

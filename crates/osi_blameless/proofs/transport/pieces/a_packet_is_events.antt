@@ -6,10 +6,12 @@ use Rattle.osi_blameless.proofs.transport.Vocabulary.{◌∷◌, ◌≡◌, ◌�
 use Rattle.osi_blameless.proofs.transport.Vocabulary.{TpduFault, acts_by}
 use Rattle.osi_blameless.proofs.transport.Vocabulary.{RunsOut, react, reacts, breaks, user_does, UserCall, ends, packets, Tpdu, EndReason}
 use Rattle.osi_blameless.proofs.transport.Vocabulary.{Fault, NoMemory}
-use Rattle.osi_blameless.proofs.transport.Vocabulary.{Direction, units_by, put_by, put_for, arrives, Becomes, calls, Event, HappenAlong}
+use Rattle.osi_blameless.proofs.transport.Vocabulary.{Direction, units_by, put_by, put_for, arrives, Becomes, calls, HappenAlong}
 use Rattle.osi_blameless.proofs.transport.Vocabulary.{MayCall, Whole}
 use Rattle.osi_blameless.proofs.transport.Vocabulary.{State, call_written, unit_written}
 use Rattle.osi_carrier.specs.Packets.{Acts}
+use Rattle.osi_blameless.proofs.transport.what_each_thing_keeps_all_of_them_keep.{along_join}
+use Rattle.osi_blameless.proofs.transport.Vocabulary.{Happens}
 
 packets_join : (xs ys : List Value) → packets (xs ++ ys) ≡ packets xs ++ packets ys
 packets_join xs ys = flat_map-append (λ (unit : Value). packet_of (written unit)) xs ys
@@ -17,17 +19,16 @@ packets_join xs ys = flat_map-append (λ (unit : Value). packet_of (written unit
 module _ (d : Direction) where
   -- ---- what happens twice, one after the other
 
-  happen_join : (xs ys : List Event) (a b c : Whole) → HappenAlong d a xs b → HappenAlong d b ys c → HappenAlong d a (xs ++ ys) c
-  happen_join [] ys a b c e h = subst (λ (w : Whole). HappenAlong d w ys c) e h
-  happen_join (x ∷ xs) ys a b c (mid, first, more) h = (mid, first, happen_join xs ys mid b c more h)
-
   pub becomes_then : (w : Whole) (mid new : State) (a : Becomes d w mid) →
       Becomes d (record w { end = mid; put = w.put ++ a.put; coming = a.coming }) new → Becomes d w new
   becomes_then w mid new a b = record {
     events = a.events ++ b.events;
     put = a.put ++ b.put;
     coming = b.coming;
-    along = grind (arith, append_assoc, happen_join);
+    along = subst (λ (l : List Value). HappenAlong d w (a.events ++ b.events) (record w { end = new; put = l; coming = b.coming }))
+        (append_assoc w.put a.put b.put)
+        (along_join (Happens d) a.events b.events w (record w { end = mid; put = w.put ++ a.put; coming = a.coming })
+        (record w { end = new; put = (w.put ++ a.put) ++ b.put; coming = b.coming }) a.along b.along);
     outgoing = grind (arith, append_assoc, packets_join);
   }
 

@@ -11,10 +11,7 @@ use Rattle.osi_blameless.proofs.transport.pieces.what_is_in_front_of_a_whole_end
 use Rattle.osi_blameless.proofs.transport.pieces.what_is_in_front_of_a_whole_end.{same_front, takes_front}
 use Rattle.osi_blameless.proofs.transport.pieces.what_is_in_front_of_a_whole_end.{units_in_range}
 use Rattle.osi_blameless.proofs.transport.small_facts_that_many_lemmas_use.{none_of, or_left}
-
-pub units_join : (us vs : List (List ℕ)) → units_in (us ++ vs) ≡ units_in us ++ units_in vs
-units_join [] vs = refl
-units_join (u ∷ us) vs = grind (arith, append_assoc, units_join us vs)
+use Rattle.osi_blameless.proofs.transport.small_facts_that_many_lemmas_use.{units_join}
 
 packets_join : (us vs : List (List ℕ)) (s mid rest : List ℕ) → ArePackets us s mid → ArePackets vs mid rest → ArePackets (us ++ vs) s rest
 packets_join [] vs s mid rest e h = subst (λ (l : List ℕ). ArePackets vs l rest) (sym e) h

@@ -11,9 +11,10 @@ use Rattle.osi_blameless.proofs.transport.Vocabulary.{MadeAlong, MayMake}
 use Rattle.osi_blameless.proofs.transport.Vocabulary.{units_in, Becomes, MayCall, Whole, State}
 use Rattle.osi_blameless.proofs.transport.small_facts_that_many_lemmas_use.{differ}
 use Rattle.osi_blameless.proofs.transport.pieces.a_packet_is_events.{then_so}
-use Rattle.osi_blameless.proofs.transport.pieces.a_piece_is_events.{feeds_on, units_join}
+use Rattle.osi_blameless.proofs.transport.pieces.a_piece_is_events.{feeds_on}
 use Rattle.osi_blameless.proofs.transport.requests.how_a_calling_end_asks.{all_none, may_so, none_over}
 use Rattle.osi_blameless.proofs.transport.pieces.what_is_in_front_of_a_whole_end.{Comes, calls_front, same_front}
+use Rattle.osi_blameless.proofs.transport.small_facts_that_many_lemmas_use.{units_join}
 
 -- ---- after the end nothing changes
 

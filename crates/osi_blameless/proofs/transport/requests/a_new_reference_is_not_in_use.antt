@@ -17,7 +17,7 @@ use Rattle.osi_carrier.specs.Runs.{Act}
 use Rattle.osi_blameless.proofs.transport.names.what_holds_of_one_item.{HoldsOfEach, each_add, each_map, each_set}
 use Rattle.osi_blameless.proofs.transport.names.a_reference_names_one_connection.{no_item}
 use Rattle.osi_blameless.proofs.transport.requests.references_of_requests_rise.{asked_below}
-use Rattle.osi_blameless.proofs.transport.connections.what_stays_of_each_connection.{left_judged}
+use Rattle.osi_blameless.proofs.transport.small_facts_that_many_lemmas_use.{left_judged}
 
 -- ---- the reference of left stays
 

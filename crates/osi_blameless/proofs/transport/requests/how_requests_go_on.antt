@@ -18,7 +18,7 @@ use Rattle.osi_blameless.proofs.transport.small_facts_that_many_lemmas_use.{diff
 use Rattle.osi_blameless.proofs.transport.requests.a_new_reference_is_not_in_use.{Passed}
 use Rattle.osi_blameless.proofs.transport.requests.a_refused_request_waits_no_more.{all_from}
 use Rattle.osi_blameless.proofs.transport.requests.a_request_of_a_whole_end_is_new.{IsUnused, Newer, next_unused}
-use Rattle.osi_blameless.proofs.transport.class_0.a_calling_end_takes_a_cc_of_class_zero.{confirmed_so}
+use Rattle.osi_blameless.proofs.transport.class_0.an_end_takes_a_cc_of_class_zero.{confirmed_so}
 use Rattle.osi_blameless.proofs.transport.class_0.an_end_goes_on_in_class_zero.{IsZeroed, zeroed_begins, zeroed_calls, zeroed_comes}
 use Rattle.osi_blameless.proofs.transport.class_0.an_end_goes_on_in_class_zero.{zeroed_elsewhere, zeroed_passes, zeroed_refused}
 use Rattle.osi_blameless.proofs.transport.class_0.an_end_goes_on_in_class_zero.{zeroed_takes}
@@ -32,7 +32,7 @@ use Rattle.osi_blameless.proofs.transport.requests.while_no_class_is_selected.{W
 use Rattle.osi_blameless.proofs.transport.requests.while_no_class_is_selected.{calm_judge, confirmed_judge, confirms, done_begins}
 use Rattle.osi_blameless.proofs.transport.requests.while_no_class_is_selected.{done_takes, over_begins}
 use Rattle.osi_blameless.proofs.transport.requests.while_no_class_is_selected.{over_still, refuses, says_nothing, waits_begins, waits_takes}
-use Rattle.osi_blameless.proofs.transport.calling.a_dr_for_what_is_gone.{after_arriving, after_calling}
+use Rattle.osi_blameless.proofs.transport.by_line.a_dr_for_what_is_gone.{after_arriving, after_calling}
 
 abbrev AreDcs : List Value → Type 0
 AreDcs units = AllByRecursion IsDc units
@@ -370,7 +370,7 @@ pub still_staged : (local : Local) (event : Event) (w new : Whole) → Happens L
 still_staged local arrives w new (unit, coming, is) goes newer st = grind (arith, taking local w unit new.coming coming st)
 still_staged local (calls call) w new (may, is) goes newer st = subst (Stage local) (sym is) (calling local w call may st)
 still_staged local begins_own w new (some, not_begun, is) goes newer st = subst (Stage local) (sym is) (beginning local w some st)
-still_staged local passes_own w new (v, put, begun, is) goes newer st =
+still_staged local passes_own w new (v, (put, begun, is)) goes newer st =
     subst (Stage local) (sym is) (own local w v new.put put begun newer (subst (λ (x : Whole). GoesOn x.judge) is goes) st)
 still_staged local begins_other w new is goes newer st = subst (Stage local) (sym is) (begun_elsewhere local w st)
 still_staged local (passes_other v) w new (ranges, is) goes newer st =

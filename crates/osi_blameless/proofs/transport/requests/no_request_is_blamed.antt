@@ -13,6 +13,7 @@ use Rattle.osi_blameless.proofs.transport.requests.how_requests_go_on.{ended, re
 use Rattle.osi_blameless.proofs.transport.class_0.what_an_end_does_in_class_zero.{anyhow, zero_puts}
 use Rattle.osi_blameless.proofs.transport.requests.what_lasts_at_the_judge.{lasts_happening}
 use Rattle.osi_blameless.proofs.transport.requests.while_no_class_is_selected.{AllOver, GoesOn, calm_judge}
+use Rattle.osi_blameless.proofs.transport.what_each_thing_keeps_all_of_them_keep.{along_keeps}
 
 -- ---- a run
 
@@ -27,12 +28,11 @@ holds_next local event w new h a = record {
 }
 
 holds_all : (local : Local) (events : List Event) (w new : Whole) → HappenAlong Left w events new → Holds local w → Holds local new
-holds_all local [] w new e a = subst (Holds local) (sym e) a
-holds_all local (event ∷ events) w new (mid, first, more) a = holds_all local events mid new more (holds_next local event w mid first a)
+holds_all local = along_keeps (Happens Left) (Holds local) (holds_next local)
 
 pub holds_first : (local : Local) → Holds local (begin true local)
 holds_first local = record {
-  newer = record { last = 0; below = λ i c at. no_item i c at; rise = tt; up = tt; given = omega arith };
+  newer = record { last = 0; below = λ i c at. no_item i c at; above = record { rise = tt; up = tt; given = omega arith } };
   stage = λ goes.
       quiet (record { lasts = refl; caller = refl; class = refl; live = refl }, refl) refl refl [] no_disconnects refl
       (λ i c at. no_item i c at) tt;

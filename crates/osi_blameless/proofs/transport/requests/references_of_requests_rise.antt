@@ -8,11 +8,15 @@ use Rattle.osi_blameless.proofs.transport.Vocabulary.{ends, EndReason, all_writt
 use Rattle.osi_carrier.specs.Calls.{sent_on}
 unfoldable use Rattle.osi_carrier.specs.Packets.{after_packet}
 use Rattle.osi_carrier.specs.Runs.{Act}
+use Rattle.osi_blameless.proofs.transport.Vocabulary.{connection_of}
 
 -- ---- how many references were given
 
 pub rises_by : (r : ℕ) (old new : State) → How r old new → old.given ≤ new.given
 rises_by r old new h = grind arith
+
+pub unit_gives : (unit : Value) (s : State) → s.given ≤ (react unit s).given
+unit_gives unit s = rises_by (connection_of unit s) s (react unit s) (effect unit s).how
 
 units_rise : (units : List Value) (s : State) → s.given ≤ (reacts units s).given
 units_rise [] s = omega arith

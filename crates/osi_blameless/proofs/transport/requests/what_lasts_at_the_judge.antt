@@ -1,18 +1,18 @@
 -- What is known at the judge stays known as more passes: that class 2 holds; and what is judged was judged before.
 -- For the law on requests.
-use Rattle.osi_blameless.proofs.transport.Vocabulary.{arith, arrives, asks_of, begins_other, begins_own, Bool, calls, class_for, confirm}
+use Rattle.osi_blameless.proofs.transport.Vocabulary.{arith, asks_of, Bool, class_for, confirm}
 use Rattle.osi_blameless.proofs.transport.Vocabulary.{Connect}
 use Rattle.osi_blameless.proofs.transport.Vocabulary.{Connection, Course, course_after, course_after_none, course_begins, Direction}
 use Rattle.osi_blameless.proofs.transport.Vocabulary.{disconnect, Event}
 use Rattle.osi_blameless.proofs.transport.Vocabulary.{false, Finding, found_on, Happens, if◌then◌else◌, is_applied, none_told, noted}
-use Rattle.osi_blameless.proofs.transport.Vocabulary.{NotJudged, other}
-use Rattle.osi_blameless.proofs.transport.Vocabulary.{Outcome, packet, passes, passes_rubbish, Passing, Reach, reach_of, reached, request}
+use Rattle.osi_blameless.proofs.transport.Vocabulary.{NotJudged}
+use Rattle.osi_blameless.proofs.transport.Vocabulary.{Outcome, passes, Passing, Reach, reach_of, reached, request}
 use Rattle.osi_blameless.proofs.transport.Vocabulary.{Route, routed}
-use Rattle.osi_blameless.proofs.transport.Vocabulary.{rubbish, Some, subst, sym, Traffic as State, true, Two, unit, unnamed_told, Value}
+use Rattle.osi_blameless.proofs.transport.Vocabulary.{Some, Traffic as State, true, Two, unnamed_told, Value}
 use Rattle.osi_blameless.proofs.transport.Vocabulary.{Whole, ℕ, ◌≡◌}
-use Rattle.osi_blameless.specs.transport.Wholes.{passes_other, passes_own}
 use Rattle.osi_blameless.proofs.transport.small_facts_that_many_lemmas_use.{or_left}
 use Rattle.osi_blameless.proofs.transport.names.a_reference_names_one_connection.{applied_found}
+use Rattle.osi_blameless.proofs.transport.what_each_thing_keeps_all_of_them_keep.{judge_keeps}
 
 pub record Lasts (a b : Course) : Type 0 where
   pub firm : b.loose ≡ false → a.loose ≡ false
@@ -84,17 +84,11 @@ begun d c = grind (arith, lasts_same)
 pub lasts_passing : (p : Passing) (s : State) → Lasts s.course (passes p s).course
 lasts_passing p s = grind (arith, begun, if_judged, lasts_reached)
 
-abbrev LastsTo : State → Whole → Type 0
-LastsTo s w = Lasts s.course w.judge.course
-
 pub lasts_happening : (d : Direction) (event : Event) (w new : Whole) → Happens d event w new → Lasts w.judge.course new.judge.course
-lasts_happening d arrives w new (u, coming, is) = subst (LastsTo w.judge) (sym is) (lasts_same w.judge.course)
-lasts_happening d (calls call) w new (may, is) = subst (LastsTo w.judge) (sym is) (lasts_same w.judge.course)
-lasts_happening d begins_own w new (some, not_begun, is) = subst (LastsTo w.judge) (sym is) (lasts_passing (packet d) w.judge)
-lasts_happening d passes_own w new (v, put, begun, is) = subst (LastsTo w.judge) (sym is) (lasts_passing (unit d v) w.judge)
-lasts_happening d begins_other w new is = subst (LastsTo w.judge) (sym is) (lasts_passing (packet (other d)) w.judge)
-lasts_happening d (passes_other v) w new (ranges, is) = subst (LastsTo w.judge) (sym is) (lasts_passing (unit (other d) v) w.judge)
-lasts_happening d passes_rubbish w new is = subst (LastsTo w.judge) (sym is) (lasts_passing (rubbish (other d)) w.judge)
+lasts_happening d event w new h =
+    judge_keeps (λ s. Lasts w.judge.course s.course)
+    (λ p s so_far. lasts_then w.judge.course s.course (passes p s).course so_far (lasts_passing p s))
+    d event w new h (lasts_same w.judge.course)
 
 -- ---- both sides are judged
 

@@ -22,6 +22,7 @@ use Rattle.osi_blameless.proofs.transport.names.what_holds_of_one_item.{HoldsOfE
 use Rattle.osi_blameless.proofs.transport.names.a_right_unit_is_not_blamed.{first_there}
 use Rattle.osi_blameless.proofs.transport.requests.a_refused_request_waits_no_more.{refused_over}
 use Rattle.osi_blameless.proofs.transport.names.what_keeps_names_apart.{differ}
+pub use Rattle.osi_blameless.proofs.transport.small_facts_that_many_lemmas_use.{set_there}
 
 -- ---- where an item is
 
@@ -36,11 +37,6 @@ after_change (z ∷ xs) zero zero x y h = inl (refl, some_same x y h)
 after_change (z ∷ xs) zero (suc i) x y h = inr (grind arith, h)
 after_change (z ∷ xs) (suc p) zero x y h = inr (grind arith, h)
 after_change (z ∷ xs) (suc p) (suc i) x y h = shifted i p (after_change xs p i x y h)
-
-pub set_there : {X : Type 0} (xs : List X) (p : ℕ) (x y : X) → slice_get xs p ≡ Some y → slice_get (set xs p x) p ≡ Some x
-set_there [] p x y h = absurd (cc)
-set_there (z ∷ xs) zero x y h = refl
-set_there (z ∷ xs) (suc p) x y h = set_there xs p x y h
 
 pub set_same : {X : Type 0} (xs : List X) (p : ℕ) (x : X) → slice_get xs p ≡ Some x → set xs p x ≡ xs
 set_same [] p x h = absurd (cc)

@@ -1,11 +1,5 @@
-use Rattle.std.proofs.Common.{◌≡◌, List, subst, ℕ}
-use Rattle.osi_side.specs.Captures.{Capture}
-use Rattle.osi_side.specs.declared.directions.Direction.{Direction}
-use Rattle.osi_side.specs.declared.directions.Direction.TheVariants.{Left, Right}
-use Rattle.osi_judge.specs.States.{comes_to}
-use Rattle.osi_report.specs.Blaming.{BlameNowhere, IsBlameless}
-use Rattle.osi_report.specs.Disputes.{IsJudgement}
-use Rattle.osi_report.specs.Rows.{IsCaptureOf}
+use Rattle.osi_blameless.proofs.Vocabulary.{◌≡◌, List, subst, ℕ, Capture, Direction, Left, Right, comes_to, BlameNowhere, IsBlameless}
+use Rattle.osi_blameless.proofs.Vocabulary.{IsJudgement, IsCaptureOf}
 use Rattle.osi_blameless.proofs.laws.printed.nothing_printed_blames_an_end.Goals as goal
 
 abbrev Printed : Type 0

@@ -1,8 +1,8 @@
-use Rattle.osi_blameless.proofs.transport.calling.a_calling_end_is_fair.{calling_fair, calling_fair_in_class_0}
+use Rattle.osi_blameless.proofs.transport.by_line.an_end_is_fair.{end_is_fair, fair_in_class_0}
 use Rattle.osi_blameless.proofs.laws.transport.a_calling_end_is_fair.Goals as goal
 
 pub returns-clause-judged : goal.returns-clause-judged
-returns-clause-judged c = calling_fair
+returns-clause-judged c = end_is_fair
 
 pub returns-clause-in_class_0 : goal.returns-clause-in_class_0
-returns-clause-in_class_0 c = calling_fair_in_class_0
+returns-clause-in_class_0 c = fair_in_class_0

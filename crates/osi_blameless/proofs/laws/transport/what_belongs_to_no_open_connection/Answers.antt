@@ -1,5 +1,5 @@
 use Rattle.osi_blameless.proofs.transport.names.what_belongs_to_no_open_connection.{dc_spared, dr_strays, refusal_right, strays_last}
-use Rattle.osi_blameless.proofs.transport.calling.a_dc_follows_a_dr.{begins_knows, dr_noted}
+use Rattle.osi_blameless.proofs.transport.by_line.a_dc_follows_a_dr.{begins_knows, dr_noted}
 use Rattle.osi_blameless.proofs.transport.names.which_answers_may_be_blamed.{dr_closes}
 use Rattle.osi_blameless.proofs.laws.transport.what_belongs_to_no_open_connection.Goals as goal
 
