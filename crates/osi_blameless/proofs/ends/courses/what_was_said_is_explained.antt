@@ -75,19 +75,19 @@ shown_said is_caller took us told all same s (nothing none) = nothing (shows_non
 shown_said is_caller took us told all same s (something begin is_new sent) =
     something begin is_new (shown_sent begin took us told all same s sent)
 
--- ---- so it is explained
+-- ---- so it is explained: by a session that awaits a CN, or by one that its opening begins, whose terms the opening has to meet
 
 nothing_explained : (begin : Seen) (us : List (List ℕ)) (told : List Told) → told ≡ [] → IsExplained begin us told
 nothing_explained begin us told none = subst (IsExplained begin us) (sym none) (done 0 begin)
 
-pub called_explained : ((us : List (List ℕ)) (told : List Told) → IsSentFrom awaits us told → IsExplained seen_called us told) →
+pub explained_from_awaiting : ((us : List (List ℕ)) (told : List Told) → IsSentFrom awaits us told → IsExplained seen_called us told) →
     (us : List (List ℕ)) (told : List Told) → IsSaid false us told → IsExplained seen_called us told
-called_explained law us told h = grind (arith, nothing_explained)
+explained_from_awaiting law us told h = grind (arith, nothing_explained)
 
-pub caller_explained : ((o : Opening) (us : List (List ℕ)) (told : List Told) → refusal_of o ≡ None → IsSentFrom (opens o) us told →
+pub explained_from_opening : ((o : Opening) (us : List (List ℕ)) (told : List Told) → refusal_of o ≡ None → IsSentFrom (opens o) us told →
     IsExplained seen_calling us told) → (us : List (List ℕ)) (told : List Told) → IsSaid true us told → IsExplained seen_calling us told
-caller_explained law us told (nothing none) = nothing_explained seen_calling us told none
-caller_explained law us told (something begin (c, terms, is) sent) =
+explained_from_opening law us told (nothing none) = nothing_explained seen_calling us told none
+explained_from_opening law us told (something begin (c, terms, is) sent) =
     let o = opens_so c terms in
     law o.opening us told o.accepted (subst (λ (l : Listener). IsSentFrom l us told) (is ∙ sym o.begins) sent)
 
