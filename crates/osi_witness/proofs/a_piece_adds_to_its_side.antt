@@ -1,5 +1,5 @@
 -- A piece of a side adds TSDUs of this side alone, connection by connection: for the functions of `captures` that read it.
-use Rattle.std.proofs.Common.{◌≡◌, ◌∙◌, ◌<◌, ◌++◌, ◌∷◌, refl, ap, sym, subst, arith, ℕ, zero, suc, true, false, Bool, List, [], drop, length}
+use Rattle.std.proofs.Common.{◌≡◌, ◌∙◌, ◌<◌, ◌++◌, ◌∷◌, refl, ap, sym, arith, ℕ, zero, suc, true, false, Bool, List, [], length}
 use Rattle.std.proofs.Common.{get_or, set}
 use Rattle.std.proofs.lemmas.List.{append_assoc, append-nil}
 use Rattle.osi_script.specs.declared.sides.Side.{Side}

@@ -1,7 +1,7 @@
 use Rattle.std.proofs.Common.{ap, subst, sym}
 use Rattle.osi_witness.specs.Whole.{IsUntoldOn}
 use Rattle.osi_witness.specs.declared.conversations.Conversation.{Conversation}
-use Rattle.osi_witness.proofs.a_piece_adds_to_its_side.{says_as, says_more, says_same}
+use Rattle.osi_witness.proofs.a_piece_adds_to_its_side.{says_as, says_more}
 use Rattle.osi_witness.proofs.the_sessions_that_are_kept_are_linked.{on_oks}
 use Rattle.osi_witness.proofs.captures.mean_on.Goals as goal
 
