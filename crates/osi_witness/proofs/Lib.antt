@@ -7,3 +7,4 @@ pub mod a_session_that_goes_on_is_found
 pub mod the_sessions_that_are_kept_are_linked
 pub mod a_run_is_read_off_backwards
 pub mod a_run_is_told_of_each_side
+pub mod a_piece_adds_to_its_side

@@ -2,6 +2,7 @@ pub mod Backwards
 pub mod Captures
 pub mod Conversations
 pub mod Found
+pub mod Growing
 pub mod Halts
 pub mod Lines
 pub mod Linked

@@ -2,6 +2,8 @@
 
 ghost use Rattle.std.specs.Prelude.{◌≡◌, [], None, true, OnOk, option_copied};
 ghost use Rattle.osi_witness.specs.Captures.{accepted_in, first_stop_of, has_class_2, next_offset, packets_of, AreTraced, IsNothing};
+ghost use Rattle.osi_script.specs.declared.sides.Side.{Side};
+ghost use Rattle.osi_witness.specs.Growing.{AllSayMore, SaysMore};
 ghost use Rattle.osi_witness.specs.Whole.{AreUntold, HaveRuns, IsUntoldOn};
 
 use crate::conversations::{Conversation, Opening};
@@ -199,6 +201,8 @@ impl Capture {
         ensures spent { (packets_of self.old side).is_spent ≡ true → self.new ≡ self.old }
         ensures empty { octets.now ≡ [] → self.new ≡ self.old }
         ensures untold { OnOk result (AreUntold self.old.conversations.items → AreUntold self.new.conversations.items) }
+        ensures more { OnOk result (AreUntold self.old.conversations.items
+            → AllSayMore side self.old.conversations.items self.new.conversations.items) }
     {
         if self.reader(side).is_spent || octets.is_empty() {
             return Ok(());
@@ -274,7 +278,9 @@ impl Capture {
 
     /// Takes the whole packets from the octets that are held.
     fn cut(&mut self, side: Side, number: usize) -> Result<(), AllocError>
-        ensures { OnOk result (AreUntold self.old.conversations.items → AreUntold self.new.conversations.items) }
+        ensures untold { OnOk result (AreUntold self.old.conversations.items → AreUntold self.new.conversations.items) }
+        ensures more { OnOk result (AreUntold self.old.conversations.items
+            → AllSayMore side self.old.conversations.items self.new.conversations.items) }
     {
         let held = self.take_held(side);
         let left = self.take_packets(side, held.as_slice(), number)?;
@@ -295,7 +301,9 @@ impl Capture {
         octets: &[u8],
         number: usize,
     ) -> Result<usize, AllocError>
-        ensures { OnOk result (AreUntold self.old.conversations.items → AreUntold self.new.conversations.items) }
+        ensures untold { OnOk result (AreUntold self.old.conversations.items → AreUntold self.new.conversations.items) }
+        ensures more { OnOk result (AreUntold self.old.conversations.items
+            → AllSayMore side self.old.conversations.items self.new.conversations.items) }
     {
         let mut rest = octets;
         'packets: for _ in 0..octets.len() {
@@ -329,7 +337,9 @@ impl Capture {
 
     /// A packet with these transport units passes.
     fn take(&mut self, side: Side, packet: &[u8], number: usize) -> Result<(), AllocError>
-        ensures { OnOk result (AreUntold self.old.conversations.items → AreUntold self.new.conversations.items) }
+        ensures untold { OnOk result (AreUntold self.old.conversations.items → AreUntold self.new.conversations.items) }
+        ensures more { OnOk result (AreUntold self.old.conversations.items
+            → AllSayMore side self.old.conversations.items self.new.conversations.items) }
     {
         let place = self.reader(side).packet_until(number);
         let Ok(units) = read_units(packet) else {
@@ -345,7 +355,9 @@ impl Capture {
 
     /// A unit of a side passes.
     fn take_unit(&mut self, side: Side, unit: &Tpdu<'_>, place: Place) -> Result<(), AllocError>
-        ensures { OnOk result (AreUntold self.old.conversations.items → AreUntold self.new.conversations.items) }
+        ensures untold { OnOk result (AreUntold self.old.conversations.items → AreUntold self.new.conversations.items) }
+        ensures more { OnOk result (AreUntold self.old.conversations.items
+            → AllSayMore side self.old.conversations.items self.new.conversations.items) }
     {
         let told = self.traffic.take(direction_of(side), unit)?;
         if is_break(told.finding) {
@@ -374,7 +386,9 @@ impl Capture {
         told: &Told,
         place: Place,
     ) -> Result<(), AllocError>
-        ensures { OnOk result (AreUntold self.old.conversations.items → AreUntold self.new.conversations.items) }
+        ensures untold { OnOk result (AreUntold self.old.conversations.items → AreUntold self.new.conversations.items) }
+        ensures more { OnOk result (AreUntold self.old.conversations.items
+            → AllSayMore side self.old.conversations.items self.new.conversations.items) }
     {
         let Some(at) = told.place else {
             return Ok(());
@@ -400,7 +414,8 @@ impl Capture {
 
     /// A CR requests a connection, which gets this place.
     fn ask(&mut self, at: usize, unit: &Tpdu<'_>, place: Place) -> Result<(), AllocError>
-        ensures { OnOk result (AreUntold self.old.conversations.items → AreUntold self.new.conversations.items) }
+        ensures untold { OnOk result (AreUntold self.old.conversations.items → AreUntold self.new.conversations.items) }
+        ensures more { OnOk result ((side : Side) → AllSayMore side self.old.conversations.items self.new.conversations.items) }
     {
         let Tpdu::Cr(request) = unit else {
             return Ok(());
@@ -444,7 +459,8 @@ fn mean_on(
     meaning: Meaning,
     place: Place,
 ) -> Result<(), AllocError>
-    ensures { OnOk result (IsUntoldOn conversation.old → IsUntoldOn conversation.new) }
+    ensures untold { OnOk result (IsUntoldOn conversation.old → IsUntoldOn conversation.new) }
+    ensures more { OnOk result (IsUntoldOn conversation.old → SaysMore side conversation.old conversation.new) }
 {
     match (meaning, unit) {
         (Meaning::Opens, Tpdu::Cc(confirm)) => {

@@ -1,5 +1,9 @@
+use Rattle.osi_witness.specs.Growing.{AllSayMore}
 use Rattle.osi_witness.specs.Whole.{AreUntold}
 use Rattle.osi_witness.proofs.captures.Capture.take_packets.Given as goal
 
 abbrev pub invariant-packets : goal.invariant-packets
-invariant-packets l = AreUntold l.fn.self.conversations.items → AreUntold l.self.conversations.items
+invariant-packets l = record {
+  untold : AreUntold l.fn.self.conversations.items → AreUntold l.self.conversations.items;
+  more : AreUntold l.fn.self.conversations.items → AllSayMore l.side l.fn.self.conversations.items l.self.conversations.items;
+}
