@@ -14,7 +14,7 @@ LINK = re.compile(r"\[`([^`]+)`\]: (\S+)")
 LAW = re.compile(r"((?:^///.*\n)+)(?:^#\[.*\]\n)*^pub fn (\w+)\([^)]*\)\n((?:^    .*\n)*)\{", re.M)
 HEAD = """# Laws
 
-This page is for whoever needs the exact statement behind a sentence of [PROVED.md](PROVED.md). A contract says what one call does. A law says what follows from contracts, for example over any list of calls, or over a stream that arrives in any pieces. Each law is a public function that does nothing; `rt check` proves its clauses. `scripts/pages --write` takes the sentences below from the comments above the laws.
+Read this page if you need the exact statement behind a sentence of [PROVED.md](PROVED.md). A contract says what one call does. A law says what follows from contracts, for example over any list of calls, or over a stream that arrives in any pieces. Each law is a public function that does nothing; `rt check` proves its clauses. `scripts/pages --write` takes the sentences below from the comments above the laws.
 """
 
 

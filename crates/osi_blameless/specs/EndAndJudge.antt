@@ -1,5 +1,5 @@
--- One model: an end, what is under way between it and the other side, and a judge that is fed what passes anywhere between them. It is
--- looked at in three ways: one open connection (`transport/Lines`), the transport of a whole end (`transport/Wholes`), and a whole end
+-- An end, the units in flight between it and the other side, and a judge of what passes somewhere between them. There are three of
+-- these: one open connection (`transport/Lines`), the transport of a whole end (`transport/Wholes`), and a whole end
 -- with its octets (`Joint`). Each says what the end is and does, what the judge knows, and what comes: units, or packets of them.
 use Rattle.std.specs.Prelude.{◌≡◌, ◌≢◌, Bool, true, false, List, [], ◌∷◌, ◌++◌}
 use Rattle.osi_tpdu.specs.Value.{Value}
